@@ -51,6 +51,7 @@ impl<K, V> Table<K, V> {
         ensures held { result.held ≡ [] }
         ensures capacity { result.capacity ≡ 0 }
         ensures rechained { result.rechained ≡ 0 }
+        ensures made { result.made ≡ 0 }
     {
         Table {
             ring: Ring::new(alloc),
@@ -65,6 +66,7 @@ impl<K, V> Table<K, V> {
         ensures held { IfOk result (λ table. table.held ≡ []) }
         ensures capacity { IfOk result (λ table. table.capacity ≡ capacity) }
         ensures rechained { IfOk result (λ table. table.rechained ≡ 0) }
+        ensures made { IfOk result (λ table. table.made ≡ capacity) }
         ensures succeeds { capacity ≡ 0 → IsOk result }
     {
         let index = Index::with_buckets(alloc, capacity)?;
@@ -100,6 +102,8 @@ impl<K, V> Table<K, V> {
         ensures value { result ≡ self.now.capacity }
         ensures within { length self.now.held ≤ self.now.capacity }
         ensures limit { self.now.capacity ≤ 2 ^ 59 }
+        ensures made { self.now.capacity ≤ self.now.made }
+        ensures made_within { self.now.made ≤ buckets self.now.capacity }
     {
         self.ring.len() + self.ring.spares()
     }

@@ -2,7 +2,7 @@
 use Rattle.std.specs.Prelude.{◌≡◌, ℕ, ◌-◌, ◌<◌, ◌≤◌, ◌⊎◌, max, Bool, List, [], ◌∷◌, map, length, Option, Some}
 use Rattle.std.specs.Iterator.{Count, UpTo, Drains, YieldsThen}
 use Rattle.std.specs.Iterator.SizeHint.{IsWithinCount}
-use Rattle.linked_hash_map.specs.Counts.{rechained_each}
+use Rattle.linked_hash_map.specs.Counts.{rechained_each, made_each}
 use Rattle.linked_hash_map.specs.declared.map.TheConstants.{LIMIT}
 use Rattle.linked_hash_map.specs.Pairs.{put}
 use Rattle.linked_hash_map.specs.declared.map.Mode.{Mode}
@@ -60,8 +60,8 @@ module _ {T I K V : Type 0} (becomes : T → I → Type 0) (steps : I → Option
     (source : T) (remaining : I → Count) where
   -- it becomes one iterator: a new map got room for as many pairs as a lower bound that the hint of
   -- this iterator may return, and then all items of this iterator, one by one
-  pub record Collects (eq : K → K → Bool) (contents : List (K × V)) (capacity rechained : ℕ) : Type
-      0 where
+  pub record Collects (eq : K → K → Bool) (contents : List (K × V))
+      (capacity rechained nodes : ℕ) : Type 0 where
     pub iterator : I
     pub made : becomes source iterator
     pub lower : ℕ
@@ -72,6 +72,7 @@ module _ {T I K V : Type 0} (becomes : T → I → Type 0) (steps : I → Option
     pub pairs : contents ≡ insert_each eq Touch [] given
     pub capacity_is : capacity ≡ max lower (length contents)
     pub counted : rechained ≡ rechained_each 0 lower (capacity - lower)
+    pub nodes_are : nodes ≡ made_each lower lower (capacity - lower)
 
   -- it becomes an iterator whose hint may be a lower bound above `LIMIT`
   pub record HintsAboveLimit : Type 0 where

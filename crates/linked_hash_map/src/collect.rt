@@ -5,7 +5,7 @@ ghost use Rattle.std.specs.Map.Iter.{deref_pair};
 ghost use Rattle.linked_hash_map.specs.Pairs.{find};
 ghost use Rattle.linked_hash_map.specs.Changes.{KeepsSettings};
 ghost use Rattle.linked_hash_map.specs.Validity.{IsValid};
-ghost use Rattle.linked_hash_map.specs.Counts.{rechained_each};
+ghost use Rattle.linked_hash_map.specs.Counts.{rechained_each, made_each};
 ghost use Rattle.linked_hash_map.specs.Inserts.{GivesAtMost, InsertsAll, InsertsUntil, Collects, HintsAboveLimit, NeedsRoom};
 
 use crate::error::{Refused, ReserveError};
@@ -40,6 +40,8 @@ impl<K: Eq + Hash, V, S: BuildHasher> LinkedHashMap<K, V, S> {
         ensures rechained { self.new.rechained
             ≡ rechained_each self.old.rechained self.old.capacity
             (self.new.capacity - self.old.capacity) }
+        ensures made { self.new.made
+            ≡ made_each self.old.made self.old.capacity (self.new.capacity - self.old.capacity) }
         ensures settings { KeepsSettings self.old self.new }
         ensures valid { IsValid K.eq self.old }
         ensures stays_valid { IsValid K.eq self.new }
@@ -91,6 +93,8 @@ impl<K: Eq + Hash, V, S: BuildHasher> LinkedHashMap<K, V, S> {
         ensures rechained { self.new.rechained
             ≡ rechained_each self.old.rechained self.old.capacity
             (self.new.capacity - self.old.capacity) }
+        ensures made { self.new.made
+            ≡ made_each self.old.made self.old.capacity (self.new.capacity - self.old.capacity) }
         ensures settings { KeepsSettings self.old self.new }
         ensures valid { IsValid K.eq self.old }
         ensures stays_valid { IsValid K.eq self.new }
@@ -144,7 +148,7 @@ impl<K: Eq + Hash, V, S: BuildHasher> LinkedHashMap<K, V, S> {
             I.IntoIter.remaining items }
         ensures all { IfOk result (λ map.
             Collects I.into_iter_gives I.IntoIter.next_gives items I.IntoIter.remaining K.eq
-            map.pairs map.capacity map.rechained) }
+            map.pairs map.capacity map.rechained map.made) }
         ensures hasher { IfOk result (λ map. S.is_default map.hasher) }
         ensures mode { IfOk result (λ map. map.mode ≡ Mode.Touch) }
         ensures valid { IfOk result (IsValid K.eq) }

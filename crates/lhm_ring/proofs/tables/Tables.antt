@@ -1,12 +1,12 @@
 -- A table: what it shows of the nodes of its ring, which stand there without their links.
-use Rattle.std.proofs.Common.{◌≡◌, ℕ, ◌+◌, ◌^◌, ◌<◌, ◌≤◌, ◌≢◌, cond, List, [], ◌∷◌, ◌++◌, length}
+use Rattle.std.proofs.Common.{◌≡◌, ℕ, ◌+◌, ◌-◌, ◌^◌, ◌<◌, ◌≤◌, ◌≢◌, cond, List, [], ◌∷◌, ◌++◌, length}
 use Rattle.std.proofs.Common.{length-append, map, Option, None, refl, sym, ap, ◌∙◌, subst, inl, inr}
 use Rattle.std.proofs.Common.{arith}
 use Rattle.std.specs.Prelude.{Result, Ok, Err, OnOk, OnErr}
 use Rattle.std.proofs.lemmas.Bool.{eq-eqb, ne_eqb}
 use Rattle.std.proofs.lemmas.List.{length-map}
 use denote.RawPtr.{Ptr}
-use Rattle.lhm_ring.proofs.indexes.BucketCounts.{buckets-raised, buckets-below, buckets-at_least, rechained-within}
+use Rattle.lhm_ring.proofs.indexes.BucketCounts.{buckets-raised, buckets-below, buckets-at_least, rechained-within, made_raised-higher}
 use Rattle.lhm_ring.proofs.indexes.Entries.{AtHeld-entries, IsHeld-entries, entries-append}
 use Rattle.lhm_ring.proofs.indexes.Entries.{entries-change_at, first_at-entries, length-entries}
 use Rattle.lhm_ring.proofs.indexes.Entries.{length-same_entries, pointers-entries, triples-entries}
@@ -16,7 +16,8 @@ use Rattle.lhm_ring.specs.Nodes.{IsApart}
 use Rattle.lhm_ring.specs.Ring.{Held, State, state, IsHeld, AtHeld, ChangesOnly, linked_to, first_at, change_at, triples, revalued}
 use Rattle.lhm_ring.specs.RingAfterLoan.{with_value}
 use Rattle.lhm_ring.specs.Index.{Indexes, spot, spots, same, entries, HoldsOthers}
-use Rattle.lhm_ring.specs.Buckets.{BucketState, buckets, rechained_raised}
+use Rattle.lhm_ring.specs.Buckets.{BucketState, buckets, rechained_raised, made_raised}
+use Rattle.lhm_ring.specs.Links.{nodes_grown, least_more}
 use Rattle.lhm_ring.specs.TableAfterLoan.{with_value as write}
 use Rattle.lhm_ring.specs.Table.{IsTable, TableState, WritesOnly, table_of}
 
@@ -60,7 +61,7 @@ module _ {K V : Type 0} (s : State (K × V)) (r : ℕ) {m : TableState (K × V)}
   pub table_of-value : (p : Ptr) (w : V) → table_of (with_value s p w) r ≡ write m p w
   table_of-value p w =
       let count = sym (length-map (change_at p (revalued w) s.held) spot) ∙ ap length (spots-value p w s.held) ∙ length-map s.held spot in
-      (λ i. record { held = entries-change_at p w s.held i; capacity = count i + s.spares; rechained = r })
+      (λ i. record { held = entries-change_at p w s.held i; capacity = count i + s.spares; rechained = r; made = s.nodes })
       ∙ ap (λ (z : TableState (K × V)). write z p w) seen
 
   pub WritesOnly-table : (p : Ptr) → ChangesOnly s.held p → WritesOnly m.held p
@@ -172,6 +173,11 @@ module _ {K V : Type 0} {i : BucketState} {s : State (K × V)} {r : ℕ} (table 
 
     pub rechained_raised-stays : (len : ℕ) → rechained_raised r len (length s.held + s.spares) d ≡ r
     rechained_raised-stays len = ap (λ b. cond b r (r + len)) (eq-eqb (buckets (length s.held + s.spares)) (buckets d) buckets-same)
+
+    pub made_raised-stays : made_raised s.nodes (length s.held + s.spares) d
+        ≡ nodes_grown s.nodes d (least_more (d - (length s.held + s.spares)) s.nodes (length i.heads))
+    made_raised-stays = made_raised-higher s.nodes (length s.held + s.spares) d up
+        ∙ ap (λ most. nodes_grown s.nodes d (least_more (d - (length s.held + s.spares)) s.nodes most)) (sym (table.indexed.count ∙ buckets-same))
 
     pub IsTable-grown : {E : Type 0} {t : State (K × V)} (result : Result (Unit {0}) E)
         (more most : ℕ) → most ≡ length i.heads → OnOk result (t.held ≡ s.held)

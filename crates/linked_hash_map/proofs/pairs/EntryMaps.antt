@@ -2,10 +2,10 @@
 -- current one.
 use Rattle.std.proofs.Common.{◌≡◌, ℕ, ◌+◌, ◌≤◌, max, Bool, true, List, [], ◌∷◌, ◌++◌, length, None}
 use Rattle.std.proofs.Common.{is_some, sym, ap, ◌∙◌, arith, length-append}
-use Rattle.lhm_ring.proofs.indexes.BucketCounts.{rechained_raised-same}
+use Rattle.lhm_ring.proofs.indexes.BucketCounts.{rechained_raised-same, made_raised-same}
 use Rattle.linked_hash_map.specs.LinkedMap.{LinkedMap}
 use Rattle.linked_hash_map.specs.Changes.{pushed, set_or_pushed}
-use Rattle.linked_hash_map.specs.Counts.{rechained_raised}
+use Rattle.linked_hash_map.specs.Counts.{rechained_raised, made_raised}
 use Rattle.linked_hash_map.specs.Pairs.{find, set_value, set_or_push}
 use Rattle.linked_hash_map.specs.Validity.{IsValid}
 use Rattle.linked_hash_map.proofs.pairs.Calls.{set_or_push-present, set_or_push-absent, length-set_value}
@@ -35,6 +35,8 @@ module _ {K V S : Type 0} (eq : K → K → Bool) (m : LinkedMap K V S) (k : K) 
     rechained = (sym (rechained_raised-same m.rechained (length m.pairs) m.capacity)
         ∙ ap (rechained_raised m.rechained (length m.pairs) m.capacity)
         (capacity-present eq m.pairs k v m.capacity there within)) i;
+    made = (sym (made_raised-same m.made m.capacity)
+        ∙ ap (made_raised m.made m.capacity) (capacity-present eq m.pairs k v m.capacity there within)) i;
   }
 
   pub set_or_pushed-absent : find eq m.pairs k ≡ None → pushed m k v ≡ set_or_pushed eq m k v
@@ -42,6 +44,7 @@ module _ {K V S : Type 0} (eq : K → K → Bool) (m : LinkedMap K V S) (k : K) 
     pairs = sym (set_or_push-absent eq m.pairs k v none) i;
     capacity = max-absent eq m.pairs k v m.capacity none i;
     rechained = rechained_raised m.rechained (length m.pairs) m.capacity (max-absent eq m.pairs k v m.capacity none i);
+    made = made_raised m.made m.capacity (max-absent eq m.pairs k v m.capacity none i);
   }
 
 -- which pair an entry stands for is nothing to a map's validity

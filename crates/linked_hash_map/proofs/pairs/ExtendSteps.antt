@@ -7,7 +7,7 @@ use Rattle.std.specs.Cmp.{IsEquivalence}
 use Rattle.std.proofs.lemmas.List.{map-append, length-map}
 use Rattle.linked_hash_map.specs.Changes.{KeepsSettings}
 use Rattle.linked_hash_map.specs.LinkedMap.{LinkedMap}
-use Rattle.linked_hash_map.specs.Counts.{rechained_raised}
+use Rattle.linked_hash_map.specs.Counts.{rechained_raised, made_raised}
 use Rattle.linked_hash_map.specs.Inserts.{InsertsUntil}
 use Rattle.linked_hash_map.specs.Pairs.{find, put}
 use Rattle.linked_hash_map.specs.Validity.{IsValid}
@@ -45,13 +45,14 @@ module _ {I X K V S : Type 0} {eq : K → K → Bool} (laws : IsEquivalence eq) 
         → after.capacity ≡ max before.capacity (length after.pairs)
         → after.rechained
         ≡ rechained_raised before.rechained (length before.pairs) before.capacity after.capacity
+        → after.made ≡ made_raised before.made before.capacity after.capacity
         → KeepsSettings before after → IsValid eq after
         → IsExtended eq shows remaining old start later (came ++ item ∷ []) after
-    IsExtended-put {after} pairs capacity rechained settings valid = record {
+    IsExtended-put {after} pairs capacity rechained made settings valid = record {
       inserted = subst (λ items. HasInserted eq old items after)
           (sym (map-append shows came (item ∷ [])))
           (HasInserted-put laws (shows item).0 (shows item).1 distinct so_far.inserted
-          pairs capacity rechained settings);
+          pairs capacity rechained made settings);
       valid = valid;
       bound = AreWithinBound-next can remaining came item so_far.bound goes;
     }

@@ -42,4 +42,8 @@ returns-clause-keeps g c =
     let all = length-with_spares c.self.invariant taken.held taken.spares taken.nodes taken.lacks
     unlinked.others unlinked.spares unlinked.nodes in
     let before = length-capacity c.self.inside.ring c.self.inside.rechained c.self.view_is in
-    record { capacity = omega (arith, all, before); rechained = ap (λ s. s.rechained) c.self.view_is }
+    record {
+      capacity = omega (arith, all, before);
+      rechained = ap (λ s. s.rechained) c.self.view_is;
+      made = unlinked.nodes ∙ taken.nodes ∙ ap (λ s. s.made) c.self.view_is;
+    }

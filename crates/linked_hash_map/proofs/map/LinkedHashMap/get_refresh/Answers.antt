@@ -43,6 +43,7 @@ returns-in-Some g c =
               c.value_mut.ensures.alone w i;
           capacity = moved.keeps.capacity i;
           rechained = moved.keeps.rechained i;
+          made = moved.keeps.made i;
         },
       )),
       record {
