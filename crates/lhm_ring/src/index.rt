@@ -7,9 +7,8 @@ ghost use Rattle.lhm_ring.specs.Buckets.{buckets, HasNoChain};
 ghost use Rattle.lhm_ring.specs.Search.{HasKey, IsAbsent};
 ghost use Rattle.lhm_ring.specs.Index.{Indexes, spots, OfNodeAt, entries, HoldsOthers, IsOnChain, PutsFirst};
 
-use crate::buckets::{
-    Head, Word, clear_heads, clear_words, free_heads, free_words, new_heads, new_words,
-};
+pub use crate::buckets::buckets_for;
+use crate::buckets::{Head, Word};
 use crate::pointer::{Link, Position};
 use crate::ring::Ring;
 use crate::search::Found;
@@ -29,7 +28,7 @@ pub struct Index<K, V> {
     // set, no node has that hash.
     pub(crate) heads: Vec<Head>,
     pub(crate) words: Vec<Word>,
-    marker: PhantomData<*mut (K, V)>,
+    pub(crate) marker: PhantomData<*mut (K, V)>,
 }
 
 impl<K, V> Model for Index<K, V> {
@@ -59,30 +58,6 @@ impl<K, V> Index<K, V> {
             heads: Vec::new(alloc),
             words: Vec::new(alloc),
             marker: PhantomData,
-        }
-    }
-
-    /// Allocates empty buckets for a capacity, in O(n). For 0 it never fails.
-    pub fn with_buckets(alloc: Global, capacity: usize) -> Result<Index<K, V>, AllocError>
-        requires { capacity ≤ 2 ^ 59 }
-        ensures buckets { IfOk result (λ i. length i.heads ≡ buckets capacity) }
-        ensures words { IfOk result (λ i. length i.words ≡ length i.heads) }
-        ensures enough { IfOk result (λ i. capacity ≤ length i.heads) }
-        ensures empty { IfOk result HasNoChain }
-        ensures succeeds { capacity ≡ 0 → IsOk result }
-    {
-        let count = buckets_for(capacity);
-        let heads = new_heads(alloc, count)?;
-        match new_words(alloc, count) {
-            Ok(words) => Ok(Index {
-                heads,
-                words,
-                marker: PhantomData,
-            }),
-            Err(refused) => {
-                free_heads(heads);
-                Err(refused)
-            }
         }
     }
 
@@ -209,31 +184,6 @@ impl<K, V> Index<K, V> {
         }
         count
     }
-
-    /// Removes all chains, in O(n), or O(1) if no node is held.
-    pub fn clear(&mut self, ring: &Ring<K, V>)
-        requires { Indexes self.old (spots ring.now.held) }
-        ensures empty { HasNoChain self.new }
-        ensures words { length self.new.words ≡ length self.old.words }
-        ensures buckets { length self.new.heads ≡ length self.old.heads }
-    {
-        if ring.len() == 0 {
-            return;
-        }
-        clear_heads(&mut self.heads);
-        clear_words(&mut self.words);
-    }
-
-    /// Frees the buckets, in O(n).
-    pub fn free(self) {
-        let Index {
-            heads,
-            words,
-            marker: _,
-        } = self;
-        free_heads(heads);
-        free_words(words);
-    }
 }
 
 impl<K: Eq, V> Index<K, V> {
@@ -262,20 +212,5 @@ impl<K: Eq, V> Index<K, V> {
             Some(found) => Some(found.at),
             None => None,
         }
-    }
-}
-
-/// Returns the buckets of a capacity: 0 for 0, otherwise the least power of two not below it.
-pub fn buckets_for(capacity: usize) -> usize
-    requires { capacity ≤ 2 ^ 59 }
-    ensures value { result ≡ buckets capacity }
-    ensures enough { capacity ≤ result }
-    ensures none { capacity ≡ 0 → result ≡ 0 }
-    ensures least { 0 < capacity → IsNextPowerOfTwo capacity result }
-{
-    if capacity == 0 {
-        0
-    } else {
-        capacity.next_power_of_two()
     }
 }

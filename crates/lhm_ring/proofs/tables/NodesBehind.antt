@@ -1,14 +1,13 @@
 -- How many nodes lie behind one.
 use Rattle.std.proofs.Common.{◌≡◌, ℕ, ◌+◌, ◌<◌, List, [], ◌∷◌, ◌++◌, length, Option, Some, None}
-use Rattle.std.proofs.Common.{refl, sym, ap, ◌∙◌, subst, arith, true≢false, length-append}
+use Rattle.std.proofs.Common.{refl, sym, ap, ◌∙◌, arith, length-append}
 use Rattle.std.proofs.Common.{append_assoc}
 use Rattle.std.specs.Prelude.{IfSome}
 use denote.RawPtr.{Ptr}
 use Rattle.lhm_ring.specs.declared.pointer.Position.{Position}
-use Rattle.lhm_ring.proofs.lists.Apart.{IsFresh, same_ptr-reflexive, IsFresh-head, IsApart-tail}
 use Rattle.lhm_ring.proofs.rings.Ends.{Last, First-first_at, Last-last_at, none-first_at}
 use Rattle.lhm_ring.proofs.rings.HeldPointers.{pointers_of, AtHeld-alone}
-use Rattle.lhm_ring.specs.Nodes.{same_ptr, IsApart}
+use Rattle.lhm_ring.specs.Nodes.{IsApart}
 use Rattle.lhm_ring.specs.Pointer.{pointer_of, pointer_of_some}
 use Rattle.lhm_ring.specs.Ring.{Held, IsHeld, AtHeld, first_at, last_at}
 

@@ -1,6 +1,6 @@
 use Rattle.std.proofs.Common.{ap, sym, ◌∙◌, arith}
 use Rattle.lhm_ring.proofs.indexes.BucketCounts.{buckets-least_power, buckets-zero}
-use Rattle.lhm_ring.proofs.index.buckets_for.Goals as goal
+use Rattle.lhm_ring.proofs.buckets.buckets_for.Goals as goal
 use Rattle.lhm_ring.specs.Buckets.{buckets}
 
 pub returns-then-capacity-eq0-clause-value : goal.returns-then-capacity-eq0-clause-value
