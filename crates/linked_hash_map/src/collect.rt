@@ -124,9 +124,8 @@ impl<K: Eq + Hash, V, S: BuildHasher> LinkedHashMap<K, V, S> {
     /// does, hashing its key once. It first reserves the lower bound of `size_hint`, in O(bound),
     /// and the capacity is that or, if larger, the number of pairs; at 0 it does not allocate.
     ///
-    /// Returns `TooLarge` exactly if that bound is above [`LIMIT`](crate::LIMIT), with no item
-    /// taken, and `NoRoom` if an allocation fails or an insertion is refused; the items taken are
-    /// dropped.
+    /// Returns `TooLarge` only if that bound is above [`LIMIT`](crate::LIMIT), with no item taken,
+    /// and `NoRoom` if an allocation fails or an insertion is refused; the items taken are dropped.
     ///
     /// # Examples
     ///

@@ -1,7 +1,8 @@
 //! A cache of pages, over a table of sessions, which together have at most a limit of bytes.
-ghost use Rattle.std.specs.Prelude.{◌≡◌, ◌==◌, ◌≤◌, ◌<◌, ℕ, [], Some, IsSome, false, length, string_bytes, option_copied, IfOk, IfErr, OnOk, OnErr, IsOk};
+ghost use Rattle.std.specs.Prelude.{◌≡◌, ◌==◌, ◌≤◌, ◌<◌, ℕ, List, [], Some, IsSome, false, length, String, string_bytes, option_copied, IfOk, IfErr, OnOk, OnErr, IsOk};
 ghost use Rattle.std.specs.Borrow.{sem};
-ghost use Rattle.linked_hash_map.specs.SessionTables.{payload_of, without, with_last, total_weight, IsLongestEnd};
+ghost use Rattle.std.specs.Global.{Global};
+ghost use Rattle.linked_hash_map.specs.SessionTables.{Session, payload_of, without, with_last, total_weight, IsLongestEnd};
 
 use linked_hash_map::ReserveError;
 use linked_hash_map::sessions::{PutRefused, Sessions};
@@ -53,6 +54,11 @@ impl Pages {
             (IsLongestEnd self.old.table.limit
             (with_last self.old.table.sessions number (length (string_bytes text)) text)
             self.new.table.sessions) }
+        // No other pages are such an end.
+        ensures only { OnOk result ((pages : List (Session (String Global)))
+            → IsLongestEnd self.old.table.limit
+            (with_last self.old.table.sessions number (length (string_bytes text)) text) pages
+            → pages ≡ self.new.table.sessions) }
         ensures all { OnOk result
             (total_weight (with_last self.old.table.sessions number (length (string_bytes text))
             text)

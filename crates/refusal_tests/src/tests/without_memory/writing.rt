@@ -166,9 +166,9 @@ fn fill_again(rt: &(impl Abort + Print + AllocGlobal), made: Result<Map, Reserve
 
 /// Fills an empty map of capacity 3 and empties it, in two ways.
 fn fill_and_empty(rt: &impl Abort, map: &mut Map) {
-    insert_new(rt, map, &[(1, 0), (2, 0), (3, 0)]);
+    insert_new(rt, map, &[(1, 1), (2, 2), (3, 3)]);
     drop(map.drain());
-    insert_new(rt, map, &[(4, 0), (5, 0)]);
+    insert_new(rt, map, &[(4, 4), (5, 5)]);
     map.clear();
 }
 
