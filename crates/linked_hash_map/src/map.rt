@@ -10,6 +10,7 @@ mod cursor;
 mod get;
 mod insert;
 mod iter;
+mod order;
 mod remove;
 
 use self::cursor::Visit;
