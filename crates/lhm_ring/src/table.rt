@@ -196,6 +196,17 @@ impl<K, V> Table<K, V> {
         self.ring.move_to_back(at);
     }
 
+    /// Moves the pair at a position to the front. Positions stay.
+    pub fn move_to_front(&mut self, at: Position<K, V>)
+        requires { IsHeld self.old.held (pointer_of at) }
+        ensures first { AtHeld self.old.held (pointer_of at) (λ xs t ys.
+            self.new.held ≡ t ∷ (xs ++ ys)) }
+        ensures keeps { KeepsCounts self.old self.new }
+        ensures apart { IsApart (map (λ t. t.at) self.old.held) }
+    {
+        self.ring.move_to_front(at);
+    }
+
     /// Inserts a pair at the back and returns its position.
     pub fn push_back(&mut self, hash: u64, key: K, value: V) -> Position<K, V>
         requires { length self.old.held < self.old.capacity }

@@ -9,6 +9,7 @@ pub mod Equality
 pub mod Extended
 pub mod Keys
 pub mod Lookups
+pub mod Moves
 pub mod Replay
 pub mod Retained
 pub mod Rules

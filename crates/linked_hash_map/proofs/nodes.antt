@@ -11,8 +11,10 @@ pub mod HeldPairs
 pub mod Kept
 pub mod LookupCounts
 pub mod MovedNode
+pub mod MovedToFront
 pub mod Outside
 pub mod PushedPair
 pub mod PutPair
 pub mod Retained
+pub mod Rotated
 pub mod TakenNode

@@ -1,5 +1,6 @@
 pub mod Calls
 pub mod Clones
+pub mod Ends
 pub mod EntryMaps
 pub mod ExtendSteps
 pub mod Indexes

@@ -7,7 +7,7 @@ use Rattle.std.specs.declared.hash.Hasher as hasher
 use Rattle.std.specs.declared.hash.BuildHasher as builder
 use Rattle.linked_hash_map.specs.LinkedMap.{LinkedMap, without_entry}
 use Rattle.linked_hash_map.specs.Changes.{refreshed, drained}
-use Rattle.linked_hash_map.specs.Pairs.{set_value, set_values}
+use Rattle.linked_hash_map.specs.Pairs.{set_value, set_values, set_first, set_last}
 use Rattle.linked_hash_map.specs.Indexes.{set_value_at}
 use Rattle.linked_hash_map.specs.contracts.map.LinkedHashMap.{the_row}
 
@@ -43,6 +43,16 @@ module _ (K V S H : RattleType) (key : HashMembers K.Denot) (build : builder.Gho
     abbrev pub lends_value : K.Denot → Option (MutBor V.Denot) → Fml
     lends_value k r =
         LendsIf map_row V m r (λ v. record m.now { pairs = set_value key.eq m.now.pairs k v }) m.now
+
+    -- the value of the first pair, or of the last, is the last one written through the reference, and
+    -- with no reference the map is as it was
+    abbrev pub lends_first : Option (MutBor V.Denot) → Fml
+    lends_first r =
+        LendsIf map_row V m r (λ v. record m.now { pairs = set_first m.now.pairs v }) m.now
+
+    abbrev pub lends_last : Option (MutBor V.Denot) → Fml
+    lends_last r =
+        LendsIf map_row V m r (λ v. record m.now { pairs = set_last m.now.pairs v }) m.now
 
     -- the map is refreshed by k with the last value written through the reference, and with no
     -- reference it is as it was

@@ -34,9 +34,10 @@
 //! - Create: `new`, `with_capacity`, `with_hasher`, `from_iter`, `clone`.
 //! - Insert: `insert`, `extend`, `extend_refs`, or by an [`Entry`]; after `set_mode(Mode::Keep)` a
 //!   present key keeps its place.
-//! - Look up: `get`, `get_mut`, `contains_key`, `map[&key]`, `front`, `back`, or `get_refresh`,
-//!   which moves the pair to the back.
+//! - Look up: `get`, `get_mut`, `contains_key`, `map[&key]`, `front`, `back`, `front_mut`,
+//!   `back_mut`, or `get_refresh`, which moves the pair to the back.
 //! - Remove: `remove`, `pop_front`, `pop_back`, `retain`, `clear`, `drain`.
+//! - Reorder: `move_to_back`, `move_to_front`, `rotate_left`.
 //! - Iterate: `iter`, `iter_mut`, `keys`, `values`, `into_iter`; `entries` or `visit` to remove or
 //!   move pairs on the way.
 //! - Memory: `capacity`, `reserve`, `shrink_to_fit`.

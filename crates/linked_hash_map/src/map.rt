@@ -11,6 +11,7 @@ mod cursor;
 mod get;
 mod insert;
 mod iter;
+mod order;
 mod remove;
 
 use self::cursor::Visit;

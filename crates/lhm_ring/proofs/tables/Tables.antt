@@ -10,12 +10,13 @@ use Rattle.lhm_ring.proofs.indexes.BucketCounts.{buckets-raised, buckets-below, 
 use Rattle.lhm_ring.proofs.indexes.Entries.{AtHeld-entries, IsHeld-entries, entries-append}
 use Rattle.lhm_ring.proofs.indexes.Entries.{entries-change_at, first_at-entries, length-entries}
 use Rattle.lhm_ring.proofs.indexes.Entries.{length-same_entries, pointers-entries, triples-entries}
-use Rattle.lhm_ring.proofs.indexes.IndexMoves.{spots-value}
-use Rattle.lhm_ring.proofs.tables.IndexedRing.{IsIndexed-value, IsIndexed-to_back}
+use Rattle.lhm_ring.proofs.indexes.IndexMoves.{spots-value, PutsIn-last}
+use Rattle.lhm_ring.proofs.indexes.Spots.{PutsIn-spots}
+use Rattle.lhm_ring.proofs.tables.IndexedRing.{IsIndexed-value, IsIndexed-moved}
 use Rattle.lhm_ring.specs.Nodes.{IsApart}
 use Rattle.lhm_ring.specs.Ring.{Held, State, state, IsHeld, AtHeld, ChangesOnly, linked_to, first_at, change_at, triples, revalued}
 use Rattle.lhm_ring.specs.RingAfterLoan.{with_value}
-use Rattle.lhm_ring.specs.Index.{Indexes, spot, spots, same, entries, HoldsOthers}
+use Rattle.lhm_ring.specs.Index.{Indexes, PutsIn, spot, spots, same, entries, HoldsOthers}
 use Rattle.lhm_ring.specs.Buckets.{BucketState, buckets, rechained_raised, made_raised}
 use Rattle.lhm_ring.specs.Links.{nodes_grown, least_more}
 use Rattle.lhm_ring.specs.TableAfterLoan.{with_value as write}
@@ -112,7 +113,17 @@ module _ {K V : Type 0} {i : BucketState} {s : State (K × V)} {r : ℕ} (table 
         nodes_within = table.nodes_within;
       }
 
-  -- a pair was moved to the back
+  -- a pair was moved: to the back, or to the front
+  IsTable-moved : {t : State (K × V)} {p : Ptr} (h : IsHeld s.held p)
+      → PutsIn (spot h.node) (spots (h.before ++ h.after)) (spots t.held)
+      → length t.held ≡ length s.held → t.spares ≡ s.spares → t.nodes ≡ s.nodes → IsTable i t r
+  IsTable-moved {t} h puts long spares made = record {
+    indexed = IsIndexed-moved i s t table.indexed spares h puts long;
+    few = table.few;
+    limit = omega (arith, long, spares, table.limit);
+    nodes_within = omega (arith, made, table.nodes_within);
+  }
+
   pub length-moved : (t : State (K × V)) (p : Ptr) → IsHeld s.held p
       → AtHeld s.held p (λ xs x ys. t.held ≡ (xs ++ ys) ++ x ∷ []) → length t.held ≡ length s.held
   length-moved t p h last =
@@ -127,13 +138,28 @@ module _ {K V : Type 0} {i : BucketState} {s : State (K × V)} {r : ℕ} (table 
       → AtHeld s.held p (λ xs x ys. t.held ≡ (xs ++ ys) ++ x ∷ []) → t.spares ≡ s.spares
       → t.nodes ≡ s.nodes → IsTable i t r
   IsTable-to_back {t} p h last spares made =
-      let long = length-moved t p h last in
-      record {
-        indexed = IsIndexed-to_back i s t table.indexed spares p h last;
-        few = table.few;
-        limit = omega (arith, long, spares, table.limit);
-        nodes_within = omega (arith, made, table.nodes_within);
-      }
+      IsTable-moved h
+      (subst (λ (v : List (Held (K × V))). PutsIn (spot h.node) (spots (h.before ++ h.after)) (spots v))
+      (sym (last h.before h.node h.after h.is h.at_is)) (PutsIn-last (h.before ++ h.after) h.node))
+      (length-moved t p h last) spares made
+
+  pub length-moved_front : (t : State (K × V)) (p : Ptr) → IsHeld s.held p
+      → AtHeld s.held p (λ xs x ys. t.held ≡ x ∷ (xs ++ ys)) → length t.held ≡ length s.held
+  length-moved_front t p h first =
+      let a = ap length (first h.before h.node h.after h.is h.at_is) in
+      let b = ap length h.is in
+      let g = length-append h.before h.after in
+      let k = length-append h.before (h.node ∷ h.after) in
+      omega (arith, a, b, g, k)
+
+  pub IsTable-to_front : {t : State (K × V)} (p : Ptr) → IsHeld s.held p
+      → AtHeld s.held p (λ xs x ys. t.held ≡ x ∷ (xs ++ ys)) → t.spares ≡ s.spares
+      → t.nodes ≡ s.nodes → IsTable i t r
+  IsTable-to_front {t} p h first spares made =
+      IsTable-moved h
+      (subst (λ (v : List (Held (K × V))). PutsIn (spot h.node) (spots (h.before ++ h.after)) (spots v))
+      (sym (first h.before h.node h.after h.is h.at_is)) (PutsIn-spots [] h.node (h.before ++ h.after)))
+      (length-moved_front t p h first) spares made
 
   -- the node at p was removed from its chain, and then from the ring
   module _ {i' : BucketState} {t w : State (K × V)} {p : Ptr}

@@ -1,9 +1,9 @@
 //! Lookups, and indexing by a key that is present.
-ghost use Rattle.std.specs.Prelude.{◌≡◌, ◌≤◌, option_copied, option_map, is_some, IfNone, OnSome, Some, IsSome};
+ghost use Rattle.std.specs.Prelude.{◌≡◌, ◌≤◌, option_copied, option_map, is_some, IfNone, IfSome, OnSome, Some, IsSome};
 ghost use Rattle.std.specs.Map.Iter.{deref_pair};
 ghost use Rattle.std.specs.Borrow.{sem};
 ghost use Rattle.std.specs.Option.{option_copied_mut};
-ghost use Rattle.linked_hash_map.specs.Pairs.{find, value_at, to_back, set_value, first, last};
+ghost use Rattle.linked_hash_map.specs.Pairs.{find, value_at, to_back, set_value, first, last, set_first, set_last};
 ghost use Rattle.linked_hash_map.specs.Updates.{Updates};
 ghost use Rattle.linked_hash_map.specs.Validity.{IsValid};
 ghost use Rattle.linked_hash_map.specs.Hashers.{hash_by};
@@ -34,7 +34,7 @@ pub struct Probe {
 }
 
 impl<K: Eq + Hash, V, S: BuildHasher> LinkedHashMap<K, V, S> {
-    ghost use Rattle.linked_hash_map.specs.Lends.{lends_value, lends_refreshed};
+    ghost use Rattle.linked_hash_map.specs.Lends.{lends_value, lends_refreshed, lends_first, lends_last};
 
     /// Returns the value of a key, if present, in O(1). Hashes the key once.
     ///
@@ -223,6 +223,76 @@ impl<K: Eq + Hash, V, S: BuildHasher> LinkedHashMap<K, V, S> {
     {
         let at = self.table.last()?;
         Some((self.table.key(at), self.table.value(at)))
+    }
+
+    /// Returns a mutable reference to the value of the front pair, if any, in O(1). Hashes no key;
+    /// `front` shows that of the pair.
+    ///
+    /// # Examples
+    ///
+    /// ```rust
+    /// let mut map = LinkedHashMap::new(rt.alloc());
+    /// map.insert('x', 1)?;
+    /// map.insert('y', 2)?;
+    /// if let Some(value) = map.front_mut() {
+    ///     *value = 3;
+    /// }
+    /// assert_eq!(rt; map.front(), Some((&'x', &3)));
+    /// ```
+    pub fn front_mut(&mut self) -> Option<&mut V>
+        ensures* writes_back { sem 𝓛
+            (lends_first K.row V.row S.row S.Hasher.row K.Hash S.BuildHasher S.Hasher.Hasher
+            self.entry result) }
+        ensures value { option_copied_mut result
+            ≡ option_map (λ pair. pair.1) (first self.old.pairs) }
+        ensures valid { IsValid K.eq self.old }
+
+        // Laws of the map once a value is written, for the proofs of callers.
+        ensures stays_valid { (v : V) → IsValid K.eq (record self.old {
+          pairs = set_first self.old.pairs v;
+        }) }
+        ensures updates { (v : V) → IfSome (first self.old.pairs) (λ pair.
+            Updates K.eq self.old.pairs (set_first self.old.pairs v) pair.0 (Some v)) }
+    {
+        match self.table.first() {
+            Some(front) => Some(self.table.value_mut(front)),
+            None => None,
+        }
+    }
+
+    /// Returns a mutable reference to the value of the back pair, if any, in O(1). Hashes no key;
+    /// `back` shows that of the pair.
+    ///
+    /// # Examples
+    ///
+    /// ```rust
+    /// let mut map = LinkedHashMap::new(rt.alloc());
+    /// map.insert('x', 1)?;
+    /// map.insert('y', 2)?;
+    /// if let Some(value) = map.back_mut() {
+    ///     *value = 3;
+    /// }
+    /// assert_eq!(rt; map.back(), Some((&'y', &3)));
+    /// ```
+    pub fn back_mut(&mut self) -> Option<&mut V>
+        ensures* writes_back { sem 𝓛
+            (lends_last K.row V.row S.row S.Hasher.row K.Hash S.BuildHasher S.Hasher.Hasher
+            self.entry result) }
+        ensures value { option_copied_mut result
+            ≡ option_map (λ pair. pair.1) (last self.old.pairs) }
+        ensures valid { IsValid K.eq self.old }
+
+        // Laws of the map once a value is written, for the proofs of callers.
+        ensures stays_valid { (v : V) → IsValid K.eq (record self.old {
+          pairs = set_last self.old.pairs v;
+        }) }
+        ensures updates { (v : V) → IfSome (last self.old.pairs) (λ pair.
+            Updates K.eq self.old.pairs (set_last self.old.pairs v) pair.0 (Some v)) }
+    {
+        match self.table.last() {
+            Some(back) => Some(self.table.value_mut(back)),
+            None => None,
+        }
     }
 }
 

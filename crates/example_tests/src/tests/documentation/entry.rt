@@ -111,6 +111,32 @@ fn insert(rt: HostRuntime) -> Result<(), Fail> {
     Ok(())
 }
 
+/// The example of `OccupiedEntry::move_to_back`.
+#[test]
+fn move_to_back(rt: HostRuntime) -> Result<(), Fail> {
+    let mut map = LinkedHashMap::new(rt.alloc());
+    map.insert('x', 1)?;
+    map.insert('y', 2)?;
+    if let Entry::Occupied(mut entry) = map.entry('x') {
+        entry.move_to_back();
+    }
+    assert_eq!(rt; map.back(), Some((&'x', &1)));
+    Ok(())
+}
+
+/// The example of `OccupiedEntry::move_to_front`.
+#[test]
+fn move_to_front(rt: HostRuntime) -> Result<(), Fail> {
+    let mut map = LinkedHashMap::new(rt.alloc());
+    map.insert('x', 1)?;
+    map.insert('y', 2)?;
+    if let Entry::Occupied(mut entry) = map.entry('y') {
+        entry.move_to_front();
+    }
+    assert_eq!(rt; map.front(), Some((&'y', &2)));
+    Ok(())
+}
+
 /// The example of `VacantEntry` and of its `insert`. That of its `key` is its beginning.
 #[test]
 fn vacant_entry(rt: HostRuntime) -> Result<(), Fail> {

@@ -70,6 +70,32 @@ fn get_refresh(rt: HostRuntime) -> Result<(), Fail> {
     Ok(())
 }
 
+/// The example of `front_mut`.
+#[test]
+fn front_mut(rt: HostRuntime) -> Result<(), Fail> {
+    let mut map = LinkedHashMap::new(rt.alloc());
+    map.insert('x', 1)?;
+    map.insert('y', 2)?;
+    if let Some(value) = map.front_mut() {
+        *value = 3;
+    }
+    assert_eq!(rt; map.front(), Some((&'x', &3)));
+    Ok(())
+}
+
+/// The example of `back_mut`.
+#[test]
+fn back_mut(rt: HostRuntime) -> Result<(), Fail> {
+    let mut map = LinkedHashMap::new(rt.alloc());
+    map.insert('x', 1)?;
+    map.insert('y', 2)?;
+    if let Some(value) = map.back_mut() {
+        *value = 3;
+    }
+    assert_eq!(rt; map.back(), Some((&'y', &3)));
+    Ok(())
+}
+
 /// The example of `front`.
 #[test]
 fn front(rt: HostRuntime) -> Result<(), Fail> {

@@ -43,6 +43,8 @@ fn use_occupied(rt: &impl Abort, map: &mut CallMap, key: &Key) -> u64 {
             let number = entry.key().number;
             *entry.get_mut() = number;
             let old = entry.insert(1);
+            entry.move_to_front();
+            entry.move_to_back();
             *entry.into_mut() = old;
             old
         }

@@ -14,6 +14,8 @@ fn look_up(rt: &impl Abort, map: &mut CallMap, key: &Key, wanted: Calls) {
     check_calls!(rt; key.counts, map.contains_key(key), wanted);
     check_calls!(rt; key.counts, map.get_mut(key), wanted);
     check_calls!(rt; key.counts, map.get_refresh(key), wanted);
+    check_calls!(rt; key.counts, map.move_to_front(key), wanted);
+    check_calls!(rt; key.counts, map.move_to_back(key), wanted);
 }
 
 /// Looks an absent key up, inserts it, and removes it.

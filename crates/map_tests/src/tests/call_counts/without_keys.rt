@@ -65,7 +65,11 @@ fn change(rt: &impl Abort, map: &mut CallMap, counts: &Rc<Counts>) {
     check_calls!(rt; counts, map.shrink_to_fit(), NONE);
     check_calls!(rt; counts, map.iter_mut().next(), NONE);
     check_calls!(rt; counts, map.iter_mut().next_back(), NONE);
+    check_calls!(rt; counts, map.front_mut(), NONE);
+    check_calls!(rt; counts, map.back_mut(), NONE);
     check_calls!(rt; counts, visit_all(map), NONE);
+    check_calls!(rt; counts, map.rotate_left(map.len() / 3), NONE);
+    check_calls!(rt; counts, map.rotate_left(map.len()), NONE);
 }
 
 /// Returns what an iterator says of how many items are left.

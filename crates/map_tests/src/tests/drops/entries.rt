@@ -94,6 +94,8 @@ fn insert_and_remove<'a>(rt: &impl Abort, tally: &'a Tally, map: &mut CountedMap
     let old = entry.insert(tally.thing(1, VALUE));
     assert_dropped(rt, tally, KEY);
     drop(old);
+    entry.move_to_front();
+    entry.move_to_back();
     assert_dropped(rt, tally, KEY | 2);
     let value = entry.remove();
     assert_dropped(rt, tally, KEY | 2 | 1);

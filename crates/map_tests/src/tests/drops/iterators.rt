@@ -58,6 +58,10 @@ fn borrow_mutably<'a>(rt: &impl Abort, tally: &'a Tally, map: &mut CountedMap<'a
         (map.get_refresh(&key).is_some(), map.get_refresh(&absent).is_some()),
         (true, false)
     );
+    check_eq!(rt; (map.move_to_front(&key), map.move_to_front(&absent)), (true, false));
+    check_eq!(rt; (map.move_to_back(&key), map.move_to_back(&absent)), (true, false));
+    map.rotate_left(map.len());
+    check_eq!(rt; (map.front_mut().is_some(), map.back_mut().is_some()), (true, true));
     assert_dropped(rt, tally, KEY | 1024);
 }
 

@@ -23,6 +23,7 @@ fn write_all(rt: &(impl Abort + Print + AllocGlobal), made: Result<Map, ReserveE
         count_values(rt, &mut map);
         write_all_but_first(rt, &mut map);
         loop_over(&mut map);
+        reorder(rt, &mut map);
         insert_present(rt, &mut map);
         remove_pairs(rt, &mut map);
         put_in(rt, &mut map);
@@ -85,6 +86,25 @@ fn count_values(rt: &impl Abort, map: &mut Map) {
 fn loop_over(map: &mut Map) {
     for (_key, value) in map {
         *value = value.saturating_add(0);
+    }
+}
+
+/// Moves pairs of a map that `write_all_but_first` left, and rotates it to what it was.
+fn reorder(rt: &impl Abort, map: &mut Map) {
+    check_eq!(rt; (map.move_to_front(&3), map.move_to_front(&4)), (true, false));
+    assert_map(rt, map, &[(3, 22), (1, 11), (2, 22)], 3, 0);
+    rotate(map, 1);
+    check_eq!(rt; (map.move_to_back(&1), map.move_to_back(&4)), (true, false));
+    assert_map(rt, map, &[(2, 22), (3, 22), (1, 11)], 3, 0);
+    rotate(map, 2);
+    check_eq!(rt; (map.front_mut().copied(), map.back_mut().copied()), (Some(11), Some(22)));
+    assert_map(rt, map, &[(1, 11), (2, 22), (3, 22)], 3, 0);
+}
+
+/// Moves the first pairs of a map behind the others, if it has as many.
+fn rotate(map: &mut Map, count: usize) {
+    if count <= map.len() {
+        map.rotate_left(count);
     }
 }
 
