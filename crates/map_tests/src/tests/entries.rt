@@ -235,4 +235,7 @@ fn takes_entries_apart(rt: HostRuntime) {
     insert_by_entry(&rt, &mut map, 3, 30);
     remove_by_entry(&rt, &mut map, 2, 20);
     assert_pairs(&rt, &map, &[(1, 5), (3, 30)]);
+    check_eq!(rt; occupied(&rt, &mut map, 1).remove_entry(), (1, 5));
+    check_eq!(rt; vacant(&rt, &mut map, 4).into_key(), 4);
+    assert_pairs(&rt, &map, &[(3, 30)]);
 }

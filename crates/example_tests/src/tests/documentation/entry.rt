@@ -111,6 +111,29 @@ fn insert(rt: HostRuntime) -> Result<(), Fail> {
     Ok(())
 }
 
+/// The example of `OccupiedEntry::remove_entry`.
+#[test]
+fn remove_entry(rt: HostRuntime) -> Result<(), Fail> {
+    let mut map = LinkedHashMap::new(rt.alloc());
+    map.insert('x', 1)?;
+    if let Entry::Occupied(entry) = map.entry('x') {
+        assert_eq!(rt; entry.remove_entry(), ('x', 1));
+    }
+    assert!(rt; map.is_empty());
+    Ok(())
+}
+
+/// The example of `VacantEntry::into_key`.
+#[test]
+fn into_key(rt: HostRuntime) -> Result<(), Fail> {
+    let mut map: LinkedHashMap<char, u64> = LinkedHashMap::new(rt.alloc());
+    if let Entry::Vacant(entry) = map.entry('x') {
+        assert_eq!(rt; entry.into_key(), 'x');
+    }
+    assert!(rt; map.is_empty());
+    Ok(())
+}
+
 /// The example of `VacantEntry` and of its `insert`. That of its `key` is its beginning.
 #[test]
 fn vacant_entry(rt: HostRuntime) -> Result<(), Fail> {

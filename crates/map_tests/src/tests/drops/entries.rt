@@ -151,6 +151,27 @@ fn drops_nothing_that_a_vacant_entry_inserts(rt: HostRuntime) {
     assert_dropped(&rt, &tally, 63 | KEY | VALUE);
 }
 
+/// Takes the key of a vacant entry, and the pair of an occupied one. Both are handed out.
+fn take_out<'a>(rt: &impl Abort, tally: &'a Tally, map: &mut CountedMap<'a>) {
+    let key = vacant(rt, map, tally.thing(4, VALUE)).into_key();
+    assert_dropped(rt, tally, 0);
+    drop(key);
+    assert_dropped(rt, tally, VALUE);
+    let pair = occupied(rt, map, tally.thing(1, KEY)).remove_entry();
+    assert_dropped(rt, tally, KEY | VALUE);
+    drop(pair);
+    assert_dropped(rt, tally, KEY | VALUE | 1 | 2);
+}
+
+#[test]
+fn drops_nothing_that_entries_hand_out(rt: HostRuntime) {
+    let tally = Tally::new();
+    let mut map = counted_map_of(&rt, rt.alloc(), &tally, &PAIRS);
+    take_out(&rt, &tally, &mut map);
+    drop(map);
+    assert_dropped(&rt, &tally, 63 | KEY | VALUE);
+}
+
 /// Inserts a present key in `Keep`, which drops the key that is handed in, and hands the old value
 /// out.
 fn insert_in_place<'a>(rt: &impl Abort, tally: &'a Tally, map: &mut CountedMap<'a>) {
