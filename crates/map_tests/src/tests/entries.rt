@@ -92,6 +92,11 @@ fn check_increased_or_seven(
     check_eq!(rt; *given!(rt; entry.or_insert(7)), value);
 }
 
+/// Inserts half of a key unless it is present, and checks the value then.
+fn check_or_half(rt: &impl Abort, map: &mut LinkedHashMap<u64, u64>, key: u64, value: u64) {
+    check_eq!(rt; *given!(rt; map.entry(key).or_insert_with_key(|key| *key / 2)), value);
+}
+
 #[test]
 fn sets_through_an_entry(rt: HostRuntime) {
     let mut map = map_of(&rt, rt.alloc(), &[(1, 10), (2, 20)]);
@@ -115,6 +120,8 @@ fn makes_a_value_where_there_is_none(rt: HostRuntime) {
     assert_pairs(&rt, &map, &[(2, 7), (3, 0)]);
     assert_sizes(&rt, &map, 2, 2);
     check_or_seven(&rt, &mut map, 3, 0, false);
+    check_or_half(&rt, &mut map, 8, 4);
+    check_or_half(&rt, &mut map, 2, 7);
 }
 
 #[test]

@@ -63,6 +63,15 @@ fn or_insert_with(rt: HostRuntime) -> Result<(), Fail> {
     Ok(())
 }
 
+/// The example of `or_insert_with_key`.
+#[test]
+fn or_insert_with_key(rt: HostRuntime) -> Result<(), Fail> {
+    let mut map = LinkedHashMap::new(rt.alloc());
+    let lent = map.entry(7_u64).or_insert_with_key(|key| *key / 2)?;
+    assert_eq!(rt; *lent, 3);
+    Ok(())
+}
+
 /// The example of `or_default`.
 #[test]
 fn or_default(rt: HostRuntime) -> Result<(), Fail> {

@@ -23,6 +23,10 @@ fn or_insert_with(rt: &impl Abort, map: &mut CallMap, key: &Key, wanted: Calls) 
     check_calls!(rt; key.counts, map.entry(key.again(rt)).or_insert_with(|| 1).is_ok(), wanted);
 }
 
+fn or_insert_with_key(rt: &impl Abort, map: &mut CallMap, key: &Key, wanted: Calls) {
+    check_calls!(rt; key.counts, map.entry(key.again(rt)).or_insert_with_key(|_| 1).is_ok(), wanted);
+}
+
 fn or_default(rt: &impl Abort, map: &mut CallMap, key: &Key, wanted: Calls) {
     check_calls!(rt; key.counts, map.entry(key.again(rt)).or_default().is_ok(), wanted);
 }
@@ -90,6 +94,8 @@ fn enter_absent(rt: &impl Abort, map: &mut CallMap, key: &Key, wanted: Calls) {
     remove_by_entry(rt, map, key);
     or_insert_with(rt, map, key, wanted);
     remove_by_entry(rt, map, key);
+    or_insert_with_key(rt, map, key, wanted);
+    remove_by_entry(rt, map, key);
     or_default(rt, map, key, wanted);
     remove_by_entry(rt, map, key);
     check_calls!(rt; key.counts, insert_vacant(rt, map, key), wanted);
@@ -102,6 +108,7 @@ fn enter_present(rt: &impl Abort, map: &mut CallMap, key: &Key) {
     enter(rt, map, key, wanted);
     or_insert(rt, map, key, wanted);
     or_insert_with(rt, map, key, wanted);
+    or_insert_with_key(rt, map, key, wanted);
     or_default(rt, map, key, wanted);
     check_calls!(rt; key.counts, use_occupied(rt, map, key), wanted);
     remove_by_entry(rt, map, key);

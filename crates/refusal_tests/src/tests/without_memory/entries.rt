@@ -1,7 +1,9 @@
 //! Entries of either kind, and the cursor.
 
 use super::PAIRS;
-use crate::tests::support::calls::{check_remove, or_default, or_insert, or_insert_with};
+use crate::tests::support::calls::{
+    check_remove, or_default, or_insert, or_insert_with, or_insert_with_key,
+};
 use crate::tests::support::checks::{check, check_eq};
 use crate::tests::support::last_byte::BuildLastByte;
 use crate::tests::{Map, assert_map, full_of, say_given};
@@ -55,6 +57,7 @@ fn check_lent(rt: &impl Abort, lent: Result<&mut u64, Refused<u8, u64>>, value: 
 fn find_occupied(rt: &impl Abort, map: &mut Map) {
     check_eq!(rt; or_insert(map, 1, 0), Ok(13));
     check_eq!(rt; or_insert_with(map, 1, 0), Ok(13));
+    check_eq!(rt; or_insert_with_key(map, 1, 0), Ok(13));
     check_eq!(rt; or_default(map, 1), Ok(13));
     check_eq!(rt; *map.entry(1).and_modify(|value| *value = 15).key(), 1);
 }
@@ -105,6 +108,8 @@ fn use_vacant(rt: &impl Abort, map: &mut Map) {
     check_remove(rt, map, 5, Some(50));
     check_eq!(rt; or_default(map, 6), Ok(0));
     check_remove(rt, map, 6, Some(0));
+    check_eq!(rt; or_insert_with_key(map, 8, 80), Ok(80));
+    check_remove(rt, map, 8, Some(80));
 }
 
 /// Takes out the pair that `modify_vacant` inserted.
