@@ -190,7 +190,36 @@ impl<'a, K: Eq + Hash, V, S: BuildHasher> OccupiedEntry<'a, K, V, S> {
             (occupied_key self.entry) None }
         ensures fewer { length self.exit.0.now.pairs + 1 ≡ length (occupied_map self.entry).pairs }
     {
-        let (_key, value) = self.map.remove_current();
+        let (_key, value) = self.remove_entry();
         value
+    }
+
+    /// Removes the pair and returns the stored key and the value. The others keep their order.
+    ///
+    /// # Examples
+    ///
+    /// ```rust
+    /// let mut map = LinkedHashMap::new(rt.alloc());
+    /// map.insert('x', 1)?;
+    /// if let Entry::Occupied(entry) = map.entry('x') {
+    ///     assert_eq!(rt; entry.remove_entry(), ('x', 1));
+    /// }
+    /// assert!(rt; map.is_empty());
+    /// ```
+    pub fn remove_entry(self) -> (K, V)
+        ensures key { result.0 ≡ occupied_key self.entry }
+        ensures value { result.1 ≡ occupied_value self.entry }
+        ensures pairs { self.exit.0.now.pairs
+            ≡ without K.eq (occupied_map self.entry).pairs (occupied_key self.entry) }
+        ensures keeps { Keeps (occupied_map self.entry) self.exit.0.now }
+        ensures to_visit { to_visit self.exit.0.now ≡ to_visit (occupied_map self.entry) }
+        ensures valid { IsValid K.eq (occupied_map self.entry) }
+        ensures stays_valid { IsValid K.eq self.exit.0.now }
+        // Consequences of `pairs`, for the proofs of callers.
+        ensures updates { Updates K.eq (occupied_map self.entry).pairs self.exit.0.now.pairs
+            (occupied_key self.entry) None }
+        ensures fewer { length self.exit.0.now.pairs + 1 ≡ length (occupied_map self.entry).pairs }
+    {
+        self.map.remove_current()
     }
 }

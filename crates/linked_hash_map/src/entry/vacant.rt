@@ -30,6 +30,29 @@ impl<'a, K: Eq + Hash, V, S: BuildHasher> VacantEntry<'a, K, V, S> {
         &self.key
     }
 
+    /// Returns the key, in O(1). The map stays as it is.
+    ///
+    /// # Examples
+    ///
+    /// ```rust
+    /// let mut map: LinkedHashMap<char, u64> = LinkedHashMap::new(rt.alloc());
+    /// if let Entry::Vacant(entry) = map.entry('x') {
+    ///     assert_eq!(rt; entry.into_key(), 'x');
+    /// }
+    /// assert!(rt; map.is_empty());
+    /// ```
+    pub fn into_key(self) -> K
+        ensures key { result ≡ vacant_key self.entry }
+        ensures unchanged { self.exit.0.now ≡ vacant_map self.entry }
+    {
+        let VacantEntry {
+            map: _,
+            key,
+            hash: _,
+        } = self;
+        key
+    }
+
     /// Inserts the key and a value at the back, and returns a mutable reference to the value. It
     /// allocates, costs and is refused as [`insert`](crate::LinkedHashMap::insert) of a new key.
     ///

@@ -13,6 +13,17 @@ fn insert(rt: HostRuntime) -> Result<(), Fail> {
     Ok(())
 }
 
+/// The example of `insert_within_capacity`.
+#[test]
+fn insert_within_capacity(rt: HostRuntime) -> Result<(), Fail> {
+    let mut map = LinkedHashMap::with_capacity(rt.alloc(), 1)?;
+    if map.len() < map.capacity() {
+        assert_eq!(rt; map.insert_within_capacity('x', 1), None);
+    }
+    assert_eq!(rt; map.get(&'x'), Some(&1));
+    Ok(())
+}
+
 /// The example of `Refused`.
 #[test]
 fn refused(rt: HostRuntime) -> Result<(), Fail> {

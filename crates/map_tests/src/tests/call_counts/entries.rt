@@ -23,6 +23,10 @@ fn or_insert_with(rt: &impl Abort, map: &mut CallMap, key: &Key, wanted: Calls) 
     check_calls!(rt; key.counts, map.entry(key.again(rt)).or_insert_with(|| 1).is_ok(), wanted);
 }
 
+fn or_insert_with_key(rt: &impl Abort, map: &mut CallMap, key: &Key, wanted: Calls) {
+    check_calls!(rt; key.counts, map.entry(key.again(rt)).or_insert_with_key(|_| 1).is_ok(), wanted);
+}
+
 fn or_default(rt: &impl Abort, map: &mut CallMap, key: &Key, wanted: Calls) {
     check_calls!(rt; key.counts, map.entry(key.again(rt)).or_default().is_ok(), wanted);
 }
@@ -31,6 +35,14 @@ fn or_default(rt: &impl Abort, map: &mut CallMap, key: &Key, wanted: Calls) {
 fn insert_vacant(rt: &impl Abort, map: &mut CallMap, key: &Key) -> bool {
     match map.entry(key.again(rt)) {
         Entry::Vacant(entry) => entry.key().number == key.number && entry.insert(1).is_ok(),
+        Entry::Occupied(_entry) => false,
+    }
+}
+
+/// Takes a key out of its vacant entry.
+fn take_key(rt: &impl Abort, map: &mut CallMap, key: &Key) -> bool {
+    match map.entry(key.again(rt)) {
+        Entry::Vacant(entry) => entry.into_key().number == key.number,
         Entry::Occupied(_entry) => false,
     }
 }
@@ -62,6 +74,14 @@ fn remove_occupied(rt: &impl Abort, map: &mut CallMap, key: &Key) -> bool {
     }
 }
 
+/// Takes the pair of a key out by its occupied entry.
+fn take_pair(rt: &impl Abort, map: &mut CallMap, key: &Key) -> bool {
+    match map.entry(key.again(rt)) {
+        Entry::Vacant(_entry) => false,
+        Entry::Occupied(entry) => entry.remove_entry().0.number == key.number,
+    }
+}
+
 /// Removes the pair of a present key.
 fn remove_by_entry(rt: &impl Abort, map: &mut CallMap, key: &Key) {
     let wanted = lookup_of(rt, map, key);
@@ -71,9 +91,12 @@ fn remove_by_entry(rt: &impl Abort, map: &mut CallMap, key: &Key) {
 /// Inserts an absent key by each call, and removes it again.
 fn enter_absent(rt: &impl Abort, map: &mut CallMap, key: &Key, wanted: Calls) {
     enter(rt, map, key, wanted);
+    check_calls!(rt; key.counts, take_key(rt, map, key), wanted);
     or_insert(rt, map, key, wanted);
     remove_by_entry(rt, map, key);
     or_insert_with(rt, map, key, wanted);
+    remove_by_entry(rt, map, key);
+    or_insert_with_key(rt, map, key, wanted);
     remove_by_entry(rt, map, key);
     or_default(rt, map, key, wanted);
     remove_by_entry(rt, map, key);
@@ -87,9 +110,13 @@ fn enter_present(rt: &impl Abort, map: &mut CallMap, key: &Key) {
     enter(rt, map, key, wanted);
     or_insert(rt, map, key, wanted);
     or_insert_with(rt, map, key, wanted);
+    or_insert_with_key(rt, map, key, wanted);
     or_default(rt, map, key, wanted);
     check_calls!(rt; key.counts, use_occupied(rt, map, key), wanted);
     remove_by_entry(rt, map, key);
+    check!(rt; insert_vacant(rt, map, key));
+    let wanted = lookup_of(rt, map, key);
+    check_calls!(rt; key.counts, take_pair(rt, map, key), wanted);
     check!(rt; insert_vacant(rt, map, key));
 }
 

@@ -47,6 +47,36 @@ fn drops_a_closure_that_is_not_called(rt: HostRuntime) {
     assert_dropped(&rt, &tally, 511);
 }
 
+/// Inserts what a closure makes that is given the key and owns `owned` too.
+fn or_insert_with_key<'a>(
+    rt: &impl Abort,
+    map: &mut CountedMap<'a>,
+    key: Counted<'a>,
+    value: Counted<'a>,
+    owned: Counted<'a>,
+) {
+    let put = map.entry(key).or_insert_with_key(move |_key| {
+        drop(owned);
+        value
+    });
+    check!(rt; put.is_ok());
+}
+
+/// The closure is called for an absent key, and dropped with its value for a present one.
+#[test]
+fn drops_a_closure_that_is_given_the_key(rt: HostRuntime) {
+    let tally = Tally::new();
+    let mut map = counted_map_of(&rt, rt.alloc(), &tally, &PAIRS);
+    let (key, value) = (tally.thing(4, KEY), tally.thing(4, VALUE));
+    or_insert_with_key(&rt, &mut map, key, value, tally.thing(0, OWNED));
+    assert_dropped(&rt, &tally, OWNED);
+    let (key, value) = (tally.thing(1, 512), tally.thing(1, 1024));
+    or_insert_with_key(&rt, &mut map, key, value, tally.thing(0, 2048));
+    assert_dropped(&rt, &tally, OWNED | 512 | 1024 | 2048);
+    drop(map);
+    assert_dropped(&rt, &tally, 4095);
+}
+
 /// Writes a value by a closure, which owns the value, and drops the value that was there.
 fn and_modify<'m, 'a>(
     map: &'m mut CountedMap<'a>,

@@ -38,6 +38,32 @@ fn drops_a_pair_once_it_is_taken_out(rt: HostRuntime) {
     assert_dropped(&rt, &tally, 63);
 }
 
+/// Takes the first key out and the last, and the rest is dropped with the iterator. The values of
+/// the two are dropped at once.
+#[test]
+fn drops_the_values_of_keys_that_are_taken_out(rt: HostRuntime) {
+    let tally = Tally::new();
+    let mut keys = counted_map_of(&rt, rt.alloc(), &tally, &PAIRS).into_keys();
+    let taken = (keys.next(), keys.next_back());
+    assert_dropped(&rt, &tally, 2 | 32);
+    drop(taken);
+    assert_dropped(&rt, &tally, 1 | 2 | 16 | 32);
+    drop(keys);
+    assert_dropped(&rt, &tally, 63);
+}
+
+#[test]
+fn drops_the_keys_of_values_that_are_taken_out(rt: HostRuntime) {
+    let tally = Tally::new();
+    let mut values = counted_map_of(&rt, rt.alloc(), &tally, &PAIRS).into_values();
+    let taken = (values.next(), values.next_back());
+    assert_dropped(&rt, &tally, 1 | 16);
+    drop(taken);
+    assert_dropped(&rt, &tally, 1 | 2 | 16 | 32);
+    drop(values);
+    assert_dropped(&rt, &tally, 63);
+}
+
 /// Borrows a map in each way, by a key that is present and by one that is absent, which drops
 /// nothing.
 fn borrow_all<'a>(rt: &impl Abort, tally: &'a Tally, map: &CountedMap<'a>) {

@@ -3,7 +3,7 @@
 use super::PAIRS;
 use crate::tests::support::calls::{
     check_insert, check_lends_none, check_pop_back, check_pop_front, check_remove, check_reserve,
-    check_shrink,
+    check_shrink, insert_with_room,
 };
 use crate::tests::support::checks::check_eq;
 use crate::tests::{Map, assert_map, full_of, insert_new, say_given, with_room};
@@ -24,6 +24,7 @@ fn write_all(rt: &(impl Abort + Print + AllocGlobal), made: Result<Map, ReserveE
         write_all_but_first(rt, &mut map);
         loop_over(&mut map);
         reorder(rt, &mut map);
+        write_by_values(rt, &mut map);
         insert_present(rt, &mut map);
         remove_pairs(rt, &mut map);
         put_in(rt, &mut map);
@@ -108,6 +109,13 @@ fn rotate(map: &mut Map, count: usize) {
     }
 }
 
+/// Writes the values of a map that `write_all_but_first` left, as they are.
+fn write_by_values(rt: &impl Abort, map: &mut Map) {
+    let mut values = map.values_mut();
+    check_eq!(rt; (values.len(), values.size_hint()), (3, (3, Some(3))));
+    check_eq!(rt; (values.next(), values.next_back()), (Some(&mut 11), Some(&mut 22)));
+}
+
 /// Inserts the keys that a map has which `write_all_but_first` left, and leaves (2, 22), (3, 33)
 /// and (1, 12).
 fn insert_present(rt: &impl Abort, map: &mut Map) {
@@ -129,7 +137,8 @@ fn remove_pairs(rt: &impl Abort, map: &mut Map) {
     check_pop_front(rt, map, Some((2, 22)));
     check_pop_back(rt, map, Some((1, 12)));
     check_pop_back(rt, map, None);
-    insert_new(rt, map, &[(5, 0), (6, 0), (7, 0)]);
+    check_eq!(rt; insert_with_room(map, 5, 0), None);
+    insert_new(rt, map, &[(6, 0), (7, 0)]);
     map.retain(|key, _value| *key != 6);
     assert_map(rt, map, &[(5, 0), (7, 0)], 3, 0);
     map.clear();
