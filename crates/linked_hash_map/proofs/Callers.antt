@@ -9,8 +9,10 @@ pub mod Equality
 pub mod Extended
 pub mod Keys
 pub mod Lookups
+pub mod Merges
 pub mod Replay
 pub mod Retained
+pub mod Rounds
 pub mod Rules
 pub mod Texts
 pub mod Turns
@@ -19,3 +21,4 @@ pub mod Valid
 pub mod Visits
 pub mod WholeRuns
 pub mod Writes
+pub mod WritingVisits
