@@ -7,6 +7,8 @@ pub mod Counts
 pub mod Dense
 pub mod Equality
 pub mod Extended
+pub mod Insertions
+pub mod Iterators
 pub mod Keys
 pub mod Lookups
 pub mod Merges

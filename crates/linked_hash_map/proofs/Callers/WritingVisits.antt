@@ -1,6 +1,6 @@
 -- For callers: a visit that takes some of the pairs out and writes the values of the others, step
 -- by step.
-use Rattle.std.proofs.Common.{◌≡◌, ℕ, Bool, true, false, cond, List, [], ◌∷◌, ◌++◌, length, map, slice_get, option_map, Some, filter, refl, sym, ap}
+use Rattle.std.proofs.Common.{◌≡◌, ℕ, Bool, true, false, cond, List, [], ◌∷◌, ◌++◌, length, map, slice_get, option_map, Some, IfSome, filter, refl, sym, ap}
 use Rattle.std.proofs.Common.{subst, ◌∙◌, append_assoc, append-nil}
 use Rattle.std.specs.Cmp.{IsEquivalence}
 use Rattle.std.specs.List.{IsDistinct, remove}
@@ -92,6 +92,10 @@ module _ {K V : Type 0} {eq : K → K → Bool} (laws : IsEquivalence eq) {keeps
   -- the pair at hand was there at the start, with this value
   pub VisitMaps-start : (i : ℕ) × (slice_get start i ≡ Some (k, v))
   VisitMaps-start = (length before.passed, at_start laws before distinct has)
+
+  -- so what holds of each pair at the start holds of it
+  pub VisitMaps-holds : (P : K × V → Type 0) → ((i : ℕ) → IfSome (slice_get start i) P) → P (k, v)
+  VisitMaps-holds P each = let at = VisitMaps-start in subst (λ o. IfSome o P) at.1 (each at.0)
 
   pub VisitMaps-written : {pairs after : List (K × V)} → pairs ≡ now → {to_come_after : List K} {new : V}
       → keeps (k, v) ≡ true → new ≡ change (k, v) → after ≡ set_value eq pairs k new
