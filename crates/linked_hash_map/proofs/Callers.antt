@@ -7,11 +7,15 @@ pub mod Counts
 pub mod Dense
 pub mod Equality
 pub mod Extended
+pub mod Insertions
+pub mod Iterators
 pub mod Keys
 pub mod Lookups
+pub mod Merges
 pub mod Moves
 pub mod Replay
 pub mod Retained
+pub mod Rounds
 pub mod Rules
 pub mod Texts
 pub mod Turns
@@ -20,3 +24,4 @@ pub mod Valid
 pub mod Visits
 pub mod WholeRuns
 pub mod Writes
+pub mod WritingVisits

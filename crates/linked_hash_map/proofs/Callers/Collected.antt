@@ -161,7 +161,7 @@ module _ {K V : Type 0} {eq : K → K → Bool} (laws : IsEquivalence eq) where
       by_test false = append_assoc (keys_of pairs) (item.0 ∷ []) (filter (λ k. not (is_some (find eq pairs k))) (keys_of items))
 
 -- in Touch the old keys that do not come again stand before those that come, each as it is stored
-filter-filter : {K : Type 0} (one other both : K → Bool)
+pub filter-filter : {K : Type 0} (one other both : K → Bool)
     → ((k : K) → cond (other k) (one k) false ≡ both k) → (ks : List K)
     → filter one (filter other ks) ≡ filter both ks
 filter-filter one other both says [] = refl
@@ -174,7 +174,7 @@ filter-filter one other both says (k ∷ ks) = by_test (other k) (says k) (filte
     by_test true same rest = ap₂ (λ c xs. cond c (k ∷ xs) xs) same rest
     by_test false same rest = rest ∙ ap (λ c. cond c (k ∷ filter both ks) (filter both ks)) same
 
-filter-last : {K : Type 0} (test : K → Bool) (ks : List K) (k : K) → test k ≡ true → filter test (ks ++ k ∷ []) ≡ filter test ks ++ k ∷ []
+pub filter-last : {K : Type 0} (test : K → Bool) (ks : List K) (k : K) → test k ≡ true → filter test (ks ++ k ∷ []) ≡ filter test ks ++ k ∷ []
 filter-last test ks k passes = filter-append test ks (k ∷ []) ∙ ap (λ b. filter test ks ++ cond b (k ∷ []) []) passes
 
 module _ {K V : Type 0} {eq : K → K → Bool} (laws : IsEquivalence eq) where
@@ -188,7 +188,7 @@ module _ {K V : Type 0} {eq : K → K → Bool} (laws : IsEquivalence eq) where
       (stored-to_back pairs k v ks apart.1)
 
   -- a key does not come again if it is not the first item's and none of the others
-  not_again : (items : List (K × V)) (item : K × V) (j : K)
+  pub not_again : (items : List (K × V)) (item : K × V) (j : K)
       → cond (not (eq item.0 j)) (not (is_some (find eq items j))) false
       ≡ not (is_some (cond (eq j item.0) (Some item) (find eq items j)))
   not_again items item j = by_test (eq item.0 j) (laws.symm j item.0)

@@ -1,13 +1,14 @@
 -- For callers: a count for each item of a list, one item after another, and the keys in the order
 -- in which they first come.
-use Rattle.std.proofs.Common.{◌≡◌, ℕ, ◌+◌, ◌<◌, Bool, true, false, cond, List, [], ◌∷◌, ◌++◌, length, take, get_or, fold, Some, unwrap_or}
+use Rattle.std.proofs.Common.{◌≡◌, ℕ, ◌+◌, ◌<◌, Bool, true, false, cond, List, [], ◌∷◌, ◌++◌, length, take, get_or, fold, Option, Some, None, option_map, unwrap_or}
 use Rattle.std.proofs.Common.{refl, sym, ap, ◌∙◌, arith, length-take}
 use Rattle.std.specs.Prelude.{if◌then◌else◌}
 use Rattle.std.specs.List.{count_by, list_any}
 use Rattle.std.specs.Map.{keys_of}
 use Rattle.std.specs.Cmp.{IsEquivalence}
 use Rattle.std.proofs.lemmas.List.Sums.{count_by_more_yes, count_by_more_no, count_by-le-length, fold_more}
-use Rattle.linked_hash_map.specs.Pairs.{value_at, set_or_push, ActsAs}
+use Rattle.linked_hash_map.specs.Pairs.{find, value_at, set_or_push, ActsAs}
+use Rattle.linked_hash_map.specs.Updates.{Updates}
 use Rattle.linked_hash_map.proofs.Callers.Lookups.{value_at-same, value_at-set_or_push}
 use Rattle.linked_hash_map.proofs.Callers.Keys.{keys_of-set_or_push, is_some-find}
 
@@ -86,3 +87,84 @@ module _ {K : Type 0} {eq : K → K → Bool} (laws : IsEquivalence eq) (before 
       → keys_of after ≡ fold (λ seen item. if list_any (eq item) seen then seen else seen ++ item ∷ []) [] (take (i + 1) items)
   keys_of-counted n i within item_is acts written so_far =
       ap keys_of (own n i item_is acts written) ∙ keys_of-set_or_push_first_seen laws before items k n i within so_far
+
+-- each key has the count that it had at the start, and one more for each of the items that is the
+-- same; a key that had none has none
+pub record CountsKnown {K : Type 0} (eq : K → K → Bool) (start now : List (K × ℕ)) (items : List K) :
+    Type 0 where
+  pub counts : (q : K) → value_at eq now q
+      ≡ option_map (λ n. n + count_by (eq q) items) (value_at eq start q)
+
+pub CountsKnown-start : {K : Type 0} (eq : K → K → Bool) (pairs : List (K × ℕ))
+    → CountsKnown eq pairs pairs []
+CountsKnown-start {K} eq pairs = record { counts = λ q. none_more (find eq pairs q) }
+  where
+    none_more : (o : Option (K × ℕ)) → option_map (λ (p : K × ℕ). p.1) o
+        ≡ option_map (λ n. n + 0) (option_map (λ (p : K × ℕ). p.1) o)
+    none_more None = refl
+    none_more (Some p) = let same : p.1 ≡ p.1 + 0 = omega arith in ap (λ (n : ℕ). Some n) same
+
+-- a step of the loop, at the item k
+module _ {K : Type 0} {eq : K → K → Bool} (laws : IsEquivalence eq) {start now : List (K × ℕ)}
+    (items : List K) (i : ℕ) (w : CountsKnown eq start now (take i items))
+    (within : i < length items) {k : K} (item_is : k ≡ get_or items i k) where
+  same_item : (q : K) → eq q k ≡ eq q (get_or items i k)
+  same_item q = ap (eq q) item_is
+
+  pub CountsKnown-counted : {after : List (K × ℕ)} (n : ℕ) → value_at eq now k ≡ Some n
+      → Updates eq now after k (Some (n + 1)) → CountsKnown eq start after (take (i + 1) items)
+  CountsKnown-counted {after} n own written = record { counts = λ q. by_test q (eq k q) refl }
+    where
+      by_value : (c : ℕ) (o : Option ℕ) → Some n ≡ option_map (λ m. m + c) o
+          → Some (n + 1) ≡ option_map (λ m. m + (c + 1)) o
+      by_value c None is = absurd (let no : Some n ≡ None = is in cc)
+      by_value c (Some m) is = let same : n ≡ m + c = cc in let more : n + 1 ≡ m + (c + 1) = omega arith in ap (λ (i : ℕ). Some i) more
+
+      by_test : (q : K) (b : Bool) → eq k q ≡ b
+          → value_at eq after q
+          ≡ option_map (λ m. m + count_by (eq q) (take (i + 1) items)) (value_at eq start q)
+      by_test q true same =
+          sym (value_at-same laws after k q same) ∙ written.here
+          ∙ by_value (count_by (eq q) (take i items)) (value_at eq start q)
+          (sym own ∙ value_at-same laws now k q same ∙ w.counts q)
+          ∙ ap (λ c. option_map (λ m. m + c) (value_at eq start q))
+          (sym (count_by_more_yes (eq q) items i k within (sym (same_item q) ∙ laws.symm q k ∙ same)))
+      by_test q false apart =
+          written.others q apart ∙ w.counts q
+          ∙ ap (λ c. option_map (λ m. m + c) (value_at eq start q))
+          (sym (count_by_more_no (eq q) items i k within (sym (same_item q) ∙ laws.symm q k ∙ apart)))
+
+  pub CountsKnown-absent : value_at eq now k ≡ None → CountsKnown eq start now (take (i + 1) items)
+  CountsKnown-absent none = record { counts = λ q. by_test q (eq k q) refl }
+    where
+      by_value : (c d : ℕ) (o : Option ℕ) → None ≡ option_map (λ m. m + c) o
+          → None ≡ option_map (λ m. m + d) o
+      by_value c d None is = refl
+      by_value c d (Some m) is = absurd (let no : None ≡ Some (m + c) = is in cc)
+
+      by_test : (q : K) (b : Bool) → eq k q ≡ b
+          → value_at eq now q
+          ≡ option_map (λ m. m + count_by (eq q) (take (i + 1) items)) (value_at eq start q)
+      by_test q true same =
+          let missing = sym (value_at-same laws now k q same) ∙ none in
+          missing ∙ by_value (count_by (eq q) (take i items)) (count_by (eq q) (take (i + 1) items))
+          (value_at eq start q) (sym missing ∙ w.counts q)
+      by_test q false apart =
+          w.counts q
+          ∙ ap (λ c. option_map (λ m. m + c) (value_at eq start q))
+          (sym (count_by_more_no (eq q) items i k within (sym (same_item q) ∙ laws.symm q k ∙ apart)))
+
+  -- a count grows no further than the number of items
+  pub CountsKnown-fits : (limit n : ℕ)
+      → ((q : K) (m : ℕ) → value_at eq start q ≡ Some m → m + length items < limit)
+      → value_at eq now k ≡ Some n → n + 1 < limit
+  CountsKnown-fits limit n fits own = by_value (value_at eq start k) refl (sym own ∙ w.counts k)
+    where
+      by_value : (o : Option ℕ) → value_at eq start k ≡ o
+          → Some n ≡ option_map (λ m. m + count_by (eq k) (take i items)) o → n + 1 < limit
+      by_value None had is = absurd (let no : Some n ≡ None = is in cc)
+      by_value (Some m) had is =
+          let same : n ≡ m + count_by (eq k) (take i items) = cc in
+          let few = count_by-le-length (eq k) (take i items) in
+          let some = length-take i items in let room = fits k m had in
+          omega arith

@@ -1,6 +1,7 @@
 -- For callers: maps whose values are numbers from 0 on, in the order of the places.
-use Rattle.std.proofs.Common.{◌≡◌, ℕ, zero, suc, ◌+◌, ◌<◌, Bool, true, false, cond, List, [], ◌∷◌, ◌++◌, length, Option, Some, None, IfSome}
+use Rattle.std.proofs.Common.{◌≡◌, ℕ, zero, suc, ◌+◌, ◌<◌, ◌≤◌, Bool, true, false, cond, List, [], ◌∷◌, ◌++◌, length, Option, Some, None, IfSome}
 use Rattle.std.proofs.Common.{option_map, refl, subst, ap, ◌∙◌, arith, length-append}
+use Rattle.std.specs.Cmp.{IsEquivalence}
 use Rattle.std.specs.List.{range_with_len}
 use Rattle.std.specs.Map.{values_of}
 use Rattle.linked_hash_map.specs.Pairs.{find, value_at}
@@ -80,3 +81,51 @@ value_at_dense_each eq pairs k dense = (
   λ n found. subst (λ (p : Option ℕ). IfSome p (λ m. m < length pairs)) found
       (value_at_dense_below eq pairs k dense),
 )
+
+-- a number is no lower than the first
+at_least : {K : Type 0} (eq : K → K → Bool) (a : ℕ) (pairs : List (K × ℕ)) (k : K) (n : ℕ)
+    → values_of pairs ≡ range_with_len a (length pairs) → value_at eq pairs k ≡ Some n → a ≤ n
+at_least eq a [] k n dense found = absurd (let no : None ≡ Some n = found in cc)
+at_least {K = K} eq a (pair ∷ pairs) k n dense found =
+    let both : pair.1 ∷ values_of pairs ≡ a ∷ range_with_len (a + 1) (length pairs) = dense in
+    let own : pair.1 ≡ a = cc in let rest : values_of pairs ≡ range_with_len (a + 1) (length pairs) = cc in
+    by_test own (eq k pair.0) found (at_least eq (a + 1) pairs k n rest)
+  where
+    by_test : pair.1 ≡ a → (b : Bool)
+        → option_map (λ (p : K × ℕ). p.1) (cond b (Some pair) (find eq pairs k)) ≡ Some n
+        → (value_at eq pairs k ≡ Some n → a + 1 ≤ n) → a ≤ n
+    by_test own true found less = let same : pair.1 ≡ n = cc in omega arith
+    by_test own false found less = let later = less found in omega arith
+
+-- keys with one number are the same
+module _ {K : Type 0} {eq : K → K → Bool} (laws : IsEquivalence eq) where
+  one_key : (a : ℕ) (pairs : List (K × ℕ)) (j k : K) (n : ℕ)
+      → values_of pairs ≡ range_with_len a (length pairs) → value_at eq pairs j ≡ Some n
+      → value_at eq pairs k ≡ Some n → eq j k ≡ true
+  one_key a [] j k n dense found again = absurd (let no : None ≡ Some n = found in cc)
+  one_key a (pair ∷ pairs) j k n dense found again =
+      let both : pair.1 ∷ values_of pairs ≡ a ∷ range_with_len (a + 1) (length pairs) = dense in
+      let own : pair.1 ≡ a = cc in let rest : values_of pairs ≡ range_with_len (a + 1) (length pairs) = cc in
+      by_tests own rest (one_key (a + 1) pairs j k n rest) (eq j pair.0) (eq k pair.0) refl refl found again
+    where
+      by_tests : pair.1 ≡ a → values_of pairs ≡ range_with_len (a + 1) (length pairs)
+          → (value_at eq pairs j ≡ Some n → value_at eq pairs k ≡ Some n → eq j k ≡ true)
+          → (b c : Bool) → eq j pair.0 ≡ b → eq k pair.0 ≡ c
+          → option_map (λ (p : K × ℕ). p.1) (cond b (Some pair) (find eq pairs j)) ≡ Some n
+          → option_map (λ (p : K × ℕ). p.1) (cond c (Some pair) (find eq pairs k)) ≡ Some n
+          → eq j k ≡ true
+      by_tests own rest later true true is same found again = laws.congr j pair.0 k is ∙ laws.symm pair.0 k ∙ same
+      by_tests own rest later true false is apart found again =
+          let first : pair.1 ≡ n = cc in let above = at_least eq (a + 1) pairs k n rest again in
+          absurd (omega arith)
+      by_tests own rest later false true apart same found again =
+          let first : pair.1 ≡ n = cc in let above = at_least eq (a + 1) pairs j n rest found in
+          absurd (omega arith)
+      by_tests own rest later false false is same found again = later found again
+
+  -- the first part shows `grind` the call to match
+  pub eq-dense : (pairs : List (K × ℕ)) (j : K) → values_of pairs ≡ range_with_len 0 (length pairs)
+      → (value_at eq pairs j ≡ value_at eq pairs j)
+      × ((k : K) (n : ℕ) → value_at eq pairs j ≡ Some n → value_at eq pairs k ≡ Some n
+      → eq j k ≡ true)
+  eq-dense pairs j dense = (refl, λ k n. one_key 0 pairs j k n dense)

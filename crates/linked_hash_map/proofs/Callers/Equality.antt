@@ -1,5 +1,6 @@
 -- For callers: what `==` of two maps says of their lists, and clones.
-use Rattle.std.proofs.Common.{◌≡◌, Bool, true, false, ◌&&◌, refl, sym, ap, ap₂, subst, true≢false}
+use Rattle.std.proofs.Common.{◌≡◌, Bool, true, false, Result, Ok, Err, IfOk, ◌&&◌, refl, sym, ap, ap₂, subst, true≢false}
+use Rattle.std.specs.Prelude.{MatchResult}
 use Rattle.std.specs.Bool.{Decides}
 use Rattle.std.specs.Cmp.{IsEquivalence}
 use Rattle.std.specs.Cmp.Lexicographic.{pointwise}
@@ -38,3 +39,15 @@ pub pairs-clone : {K V S : Type 0} {eq : K → K → Bool} → IsEquivalence eq
 pairs-clone {eq = eq} laws {IsKeyClone} {IsValueClone} keys values {m} {n} cloned =
     entries_from_clone IsKeyClone IsValueClone keys values m.pairs n.pairs
     (cloned.in_order (λ k clone is. subst (λ j. eq k j ≡ true) (sym (keys k clone is)) (laws.refl k)))
+
+-- the same of what `clone` returns
+pub pairs-cloned : {K V S E : Type 0} {eq : K → K → Bool} → IsEquivalence eq
+    → {IsKeyClone : K → K → Type 0} {IsValueClone : V → V → Type 0}
+    → (IsHasherClone : S → S → Type 0)
+    → ((k clone : K) → IsKeyClone k clone → clone ≡ k)
+    → ((v clone : V) → IsValueClone v clone → clone ≡ v)
+    → (m : LinkedMap K V S) (cloned : Result (LinkedMap K V S) E) (failed : E → Type 0)
+    → MatchResult cloned (IsClone eq IsKeyClone IsValueClone IsHasherClone m) failed
+    → IfOk cloned (λ n. n.pairs ≡ m.pairs)
+pairs-cloned laws IsHasherClone keys values m (Ok n) failed cloned = pairs-clone laws keys values cloned
+pairs-cloned laws IsHasherClone keys values m (Err e) failed cloned = tt

@@ -2,7 +2,7 @@
 -- gives are known. Each lemma takes the clause of the call, and a chain proof, `YieldsList`, that
 -- what the source becomes gives the list.
 use Rattle.std.proofs.Common.{◌≡◌, ℕ, ◌+◌, ◌-◌, ◌≤◌, max, Bool, not, List, [], ◌++◌, length, map, take, filter, slice_get, Option, Some}
-use Rattle.std.proofs.Common.{None, is_some, Vec, vec_items, vec_len, refl, sym, ap, ◌∙◌, arith}
+use Rattle.std.proofs.Common.{None, is_some, unwrap_or, Vec, vec_items, vec_len, refl, sym, ap, ◌∙◌, arith}
 use Rattle.std.specs.List.{IsDistinct}
 use Rattle.std.specs.Map.{keys_of}
 use Rattle.std.specs.Option.{option_or}
@@ -20,6 +20,7 @@ use Rattle.linked_hash_map.specs.declared.map.Mode.TheVariants.{Touch, Keep}
 use Rattle.linked_hash_map.specs.Pairs.{key_or, find, value_at}
 use Rattle.linked_hash_map.specs.Inserts.{insert_each, GivesAtMost, InsertsAll, InsertsUntil, Collects}
 use Rattle.linked_hash_map.proofs.Callers.Keys.{distinct-nil}
+use Rattle.linked_hash_map.proofs.Callers.Merges.{insert_each-keep, insert_each-touch}
 use Rattle.linked_hash_map.proofs.Callers.Collected.{insert_each-distinct, length-insert_each_most, value_at-insert_each_distinct}
 use Rattle.linked_hash_map.proofs.Callers.Collected.{keys_of-insert_each_keep, keys_of-insert_each_touch}
 
@@ -133,6 +134,12 @@ pub record Merges {K V : Type 0} (eq : K → K → Bool) (mode : Mode) (old all 
   pub touch : mode ≡ Touch
       → keys_of new ≡ filter (λ k. not (is_some (find eq all k))) (keys_of old)
       ++ map (λ k. key_or k (find eq old k)) (keys_of all)
+  pub keep_pairs : mode ≡ Keep
+      → new ≡ map (λ pair. (pair.0, unwrap_or (value_at eq all pair.0) pair.1)) old
+      ++ filter (λ pair. not (is_some (find eq old pair.0))) all
+  pub touch_pairs : mode ≡ Touch
+      → new ≡ filter (λ pair. not (is_some (find eq all pair.0))) old
+      ++ map (λ pair. (key_or pair.0 (find eq old pair.0), pair.1)) all
 
 pub Merges-InsertsAll : {T K V : Type 0} {becomes : T → List (K × V) → Type 0} {source : T}
     {eq : K → K → Bool} → IsEquivalence eq
@@ -147,6 +154,8 @@ Merges-InsertsAll {eq = eq} laws {mode} {old} all inserts is =
       keep = λ keep. ap keys_of went ∙ ap (λ m. keys_of (insert_each eq m old all)) keep ∙ keys_of-insert_each_keep laws old all distinct;
       touch = λ touch. ap keys_of went ∙ ap (λ m. keys_of (insert_each eq m old all)) touch
           ∙ keys_of-insert_each_touch laws old all distinct;
+      keep_pairs = λ keep. went ∙ ap (λ m. insert_each eq m old all) keep ∙ insert_each-keep laws old all distinct;
+      touch_pairs = λ touch. went ∙ ap (λ m. insert_each eq m old all) touch ∙ insert_each-touch laws old all distinct;
     }
 
 -- what a vector becomes gives its items, and has as many left
@@ -181,7 +190,7 @@ pairs-InsertsUntil_vec {becomes = becomes} {source} vec inserts is =
     let until = pairs-InsertsUntil inserts (yields becomes vec source is) in
     (length inserts.given, until.0, until.1)
 
-pairs-Collects_vec : {T Z K V : Type 0} {becomes : T → _ → Type 0} {source : T} {eq : K → K → Bool}
+pub pairs-Collects_vec : {T Z K V : Type 0} {becomes : T → _ → Type 0} {source : T} {eq : K → K → Bool}
     {pairs : List (K × V)} {capacity rechained made : ℕ} (vec : Vec (K × V) Z)
     → Collects becomes (into_iter_steps {X = K × V} {Z = Z}) source
     (λ it. at_most (into_iter_len it)) eq pairs capacity rechained made

@@ -1,14 +1,14 @@
 -- For callers: which pairs and keys there are after each call, and how many.
-use Rattle.std.proofs.Common.{◌≡◌, ℕ, zero, suc, ◌+◌, ◌≤◌, Bool, true, false, cond, not, ◌||◌, IsTrue, List, [], ◌∷◌, ◌++◌, length, drop}
+use Rattle.std.proofs.Common.{◌≡◌, ℕ, zero, suc, ◌+◌, ◌-◌, ◌≤◌, Bool, true, false, cond, not, ◌||◌, IsTrue, List, [], ◌∷◌, ◌++◌, length, take, drop, option_map}
 use Rattle.std.proofs.Common.{filter, Option, Some, None, is_some, refl, sym, ap, ap₂, ◌∙◌, subst, true≢false, arith, length-append}
 use Rattle.std.specs.Option.{IsSome}
 use Rattle.std.specs.List.{IsDistinct, list_any}
 use Rattle.std.specs.Map.{lookup_entry, keys_of}
 use Rattle.std.specs.Cmp.{IsEquivalence}
-use Rattle.std.proofs.lemmas.List.{map-append}
+use Rattle.std.proofs.lemmas.List.{map-append, drop-map, take-map, length-map}
 use Rattle.linked_hash_map.specs.declared.map.Mode.{Mode}
 use Rattle.linked_hash_map.specs.declared.map.Mode.TheVariants.{Touch}
-use Rattle.linked_hash_map.specs.Pairs.{key_or, find, value_at, without, to_back, set_value, set_or_push, put}
+use Rattle.linked_hash_map.specs.Pairs.{first, without_first, without_last, key_or, find, value_at, without, to_back, set_value, set_or_push, put}
 use Rattle.linked_hash_map.proofs.log.LiveKeys.{none_is}
 use Rattle.linked_hash_map.proofs.Callers.Lookups.{eq-stored}
 use Rattle.linked_hash_map.proofs.pairs.Calls.{is_some-value_at}
@@ -19,7 +19,7 @@ pub use Rattle.linked_hash_map.proofs.pairs.Calls.{length-without, length-set_va
 -- keys that differ still do after an insertion
 pub use Rattle.linked_hash_map.proofs.pairs.Inserts.{distinct-to_back, distinct-put, length-put_most}
 
-is_some-lookup_entry : {K V : Type 0} (test : K → Bool) (pairs : List (K × V))
+pub is_some-lookup_entry : {K V : Type 0} (test : K → Bool) (pairs : List (K × V))
     → is_some (lookup_entry test pairs) ≡ list_any test (keys_of pairs)
 is_some-lookup_entry test [] = refl
 is_some-lookup_entry test (pair ∷ pairs) = by_test (test pair.0) (is_some-lookup_entry test pairs)
@@ -55,7 +55,7 @@ keys_of-filter kept (pair ∷ pairs) = by_test (kept pair.0) (keys_of-filter kep
     by_test false rest = rest
 
 module _ {K V : Type 0} (eq : K → K → Bool) where
-  keys_of-without : (pairs : List (K × V)) (k : K)
+  pub keys_of-without : (pairs : List (K × V)) (k : K)
       → keys_of (without eq pairs k) ≡ filter (λ j. not (eq k j)) (keys_of pairs)
   keys_of-without pairs k = keys_of-filter (λ j. not (eq k j)) pairs
 
@@ -137,7 +137,7 @@ pub distinct-nil : {K : Type 0} (eq : K → K → Bool) → IsDistinct eq []
 unfolding IsDistinct
 distinct-nil eq = tt
 
-distinct-set_value : {K V : Type 0} (eq : K → K → Bool) (pairs : List (K × V)) (k : K) (v : V)
+pub distinct-set_value : {K V : Type 0} (eq : K → K → Bool) (pairs : List (K × V)) (k : K) (v : V)
     → IsDistinct eq (keys_of pairs) → IsDistinct eq (keys_of (set_value eq pairs k v))
 distinct-set_value eq pairs k v distinct = subst (IsDistinct eq) (sym (keys_of-set_value eq pairs k v)) distinct
 
@@ -166,3 +166,22 @@ find_drop test (suc n) (pair ∷ pairs) none = find_drop test n pairs (by_test (
 pub find-drop : {K V : Type 0} (eq : K → K → Bool) (pairs : List (K × V)) (k : K) (n : ℕ)
     → find eq pairs k ≡ None → find eq (drop n pairs) k ≡ None
 find-drop eq pairs k n absent = find_drop (eq k) n pairs absent
+
+-- the keys of a list with one pair more, and of one without its first or last
+module _ {K V : Type 0} (pairs : List (K × V)) where
+  pub keys_of-append : (k : K) (v : V) → keys_of (pairs ++ (k, v) ∷ []) ≡ keys_of pairs ++ k ∷ []
+  keys_of-append k v = map-append (λ (pair : K × V). pair.0) pairs ((k, v) ∷ [])
+
+  pub keys_of-without_first : keys_of (without_first pairs) ≡ without_first (keys_of pairs)
+  keys_of-without_first = sym (drop-map (λ (pair : K × V). pair.0) 1 pairs)
+
+  pub keys_of-without_last : keys_of (without_last pairs) ≡ without_last (keys_of pairs)
+  keys_of-without_last = sym (take-map (λ (pair : K × V). pair.0) (length pairs - 1) pairs)
+      ∙ ap (λ (n : ℕ). take (n - 1) (keys_of pairs)) (sym (length-map pairs (λ (pair : K × V). pair.0)))
+
+  pub first-keys_of : first (keys_of pairs) ≡ option_map (λ pair. pair.0) (first pairs)
+  first-keys_of = by_list pairs
+    where
+      by_list : (ps : List (K × V)) → first (keys_of ps) ≡ option_map (λ pair. pair.0) (first ps)
+      by_list [] = refl
+      by_list (pair ∷ ps) = refl

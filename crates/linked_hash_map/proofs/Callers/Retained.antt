@@ -3,7 +3,9 @@
 use Rattle.std.proofs.Common.{◌≡◌, Bool, true, false, cond, List, [], ◌∷◌, map, filter, refl, ◌∙◌, subst}
 use Rattle.std.specs.Map.Calls.{RetainsPairs}
 use Rattle.std.proofs.lemmas.Map.Made as made
-use Rattle.linked_hash_map.proofs.nodes.Retained.{first-retained}
+-- the first pair, and a closure that may be called at each
+pub use Rattle.linked_hash_map.proofs.nodes.Retained.{RetainsFirst, first-retained}
+pub use Rattle.linked_hash_map.proofs.session_table.Retained.{callable-ready}
 
 -- a closure that stays as it was, and whose result and the value that it leaves depend on the pair
 -- alone

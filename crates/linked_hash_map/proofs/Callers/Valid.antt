@@ -15,10 +15,10 @@ use Rattle.linked_hash_map.specs.Validity.{IsValid}
 use Rattle.linked_hash_map.specs.declared.map.Mode.{Mode}
 use Rattle.linked_hash_map.specs.declared.map.Mode.TheVariants.{Keep}
 use Rattle.linked_hash_map.specs.Pairs.{find, set_or_push, put}
-use Rattle.linked_hash_map.specs.Changes.{set_or_pushed}
+use Rattle.linked_hash_map.specs.Changes.{set_or_pushed, drained}
 use Rattle.linked_hash_map.specs.Entry.{Occupied, Vacant, occupied_key, vacant_map, vacant_key, entry_map, entry_key, entry_value}
 use Rattle.linked_hash_map.specs.declared.entry.Entry.{Entry}
-use Rattle.linked_hash_map.proofs.Callers.Keys.{distinct-put, distinct-set_or_push, length-set_or_push_most}
+use Rattle.linked_hash_map.proofs.Callers.Keys.{distinct-nil, distinct-put, distinct-set_or_push, length-set_or_push_most}
 use Rattle.linked_hash_map.proofs.Callers.Updates.{max-length_put}
 use Rattle.linked_hash_map.proofs.pairs.OccupiedEntries.{is_some-occupied}
 
@@ -49,6 +49,12 @@ module _ {K V S : Type 0} {eq : K → K → Bool} (laws : IsEquivalence eq) {m n
       let counted : length n.pairs ≡ length (set_or_push eq m.pairs k v) = ap length changed in
       let limit = valid.limit in
       IsValid-set_or_push k v valid changed more (omega arith)
+
+-- after `drain`
+pub IsValid-drained : {K V S : Type 0} {eq : K → K → Bool} {m : LinkedMap K V S} → IsValid eq m
+    → IsValid eq (drained m)
+IsValid-drained {eq = eq} valid =
+    record { distinct = distinct-nil eq; within = omega arith; limit = valid.limit }
 
 -- after the insertions of an entry, by what their clause `limit` says
 module _ {K V S H : Type 0} {g : eq.Ghosts K} {h : hash.Ghosts K} {b : builder.Ghosts S H} {w : hasher.Ghosts H} where

@@ -13,11 +13,11 @@ use Rattle.linked_hash_map.proofs.lists.Elements.{slice_get-append, remove-appen
 use Rattle.lhm_ring.specs.Ring.{SplitFirst}
 
 -- the first pair to come has the key that is next, and the others are to come behind it
-record Next {K V : Type 0} (k : K) (left : List K) (rest : List (K × V)) : Type 0 where
-  split : SplitFirst (λ pair. pair.0) rest k
-  behind : left ≡ keys_of split.after
+pub record Next {K V : Type 0} (k : K) (left : List K) (rest : List (K × V)) : Type 0 where
+  pub split : SplitFirst (λ pair. pair.0) rest k
+  pub behind : left ≡ keys_of split.after
 
-next_of : {K V : Type 0} (k : K) (left : List K) (rest : List (K × V)) → k ∷ left ≡ keys_of rest → Next k left rest
+pub next_of : {K V : Type 0} (k : K) (left : List K) (rest : List (K × V)) → k ∷ left ≡ keys_of rest → Next k left rest
 next_of k left [] h = absurd (let no : k ∷ left ≡ [] = h in cc)
 next_of k left (pair ∷ others) h = record { split = record { node = pair; after = others; is = refl; at_is = cc }; behind = cc }
 

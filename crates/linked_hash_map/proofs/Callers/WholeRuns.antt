@@ -81,7 +81,7 @@ module _ {K V : Type 0} {eq : K → K → Bool} (laws : IsEquivalence eq) where
       let replied = Replied-given laws command reply defines run.0 (none_first refused later given) in
       Defines-given commands replies replied.defines run.1 (none_later refused later given)
 
-both_hold : (a b : Bool) → (a && b) ≡ true → (a ≡ true) × (b ≡ true)
+pub both_hold : (a b : Bool) → (a && b) ≡ true → (a ≡ true) × (b ≡ true)
 both_hold true b h = (refl, h)
 both_hold false b h = absurd (true≢false (sym h))
 

@@ -1,14 +1,16 @@
 -- For callers: values that are written, and calls one after another by the same key.
-use Rattle.std.proofs.Common.{◌≡◌, Bool, true, false, cond, List, [], ◌∷◌, Option, Some, None, is_some, option_map, refl, sym, ap, ap₂, ◌∙◌}
+use Rattle.std.proofs.Common.{◌≡◌, Bool, true, false, cond, not, List, [], ◌∷◌, ◌++◌, append-nil, Option, Some, None, is_some, option_map, refl, sym, ap, ap₂, ◌∙◌}
 use Rattle.std.specs.Borrow.{MutBor}
 use Rattle.std.specs.Fn.{Once}
 use Rattle.std.specs.List.{IsDistinct}
 use Rattle.std.specs.Map.{keys_of}
 use Rattle.std.specs.Map.Calls.{MayWrite, ModifiesValue}
 use Rattle.std.specs.Cmp.{IsEquivalence}
-use Rattle.linked_hash_map.specs.Pairs.{find, value_at, set_value, set_or_push, set_if_some}
+use Rattle.std.proofs.lemmas.List.Elements.{filter-append}
+use Rattle.linked_hash_map.specs.declared.map.Mode.{Mode}
+use Rattle.linked_hash_map.specs.Pairs.{find, value_at, without, set_value, set_or_push, set_if_some, put}
 use Rattle.linked_hash_map.proofs.pairs.Calls.{set_value-none}
-use Rattle.linked_hash_map.proofs.Callers.Keys.{find-absent, IsSome-find, set_or_push-present}
+use Rattle.linked_hash_map.proofs.Callers.Keys.{find-absent, IsSome-find, set_or_push-present, without-absent, put-absent}
 -- a value that is set as it was changes nothing
 pub use Rattle.linked_hash_map.proofs.pairs.Indexes.{set_value-own}
 
@@ -29,7 +31,7 @@ module _ {K V : Type 0} {eq : K → K → Bool} (laws : IsEquivalence eq) (pairs
 
 module _ {K V : Type 0} (eq : K → K → Bool) where
   -- the later of two writes counts
-  set_value-set_value : (pairs : List (K × V)) (k : K) (w v : V)
+  pub set_value-set_value : (pairs : List (K × V)) (k : K) (w v : V)
       → set_value eq (set_value eq pairs k w) k v ≡ set_value eq pairs k v
   set_value-set_value [] k w v = refl
   set_value-set_value (pair ∷ pairs) k w v = ap₂ (λ p ps. p ∷ ps) (by_test (eq k pair.0) refl) (set_value-set_value pairs k w v)
@@ -68,3 +70,20 @@ module _ {K V : Type 0} (eq : K → K → Bool) where
       by_test false none =
           let absent = find-absent eq pairs k none in
           ap (λ ps. set_or_push eq ps k v) (set_value-none eq pairs k w absent)
+
+-- an insertion taken back: a new key is removed, and a key that was there gets its old value
+module _ {K V : Type 0} {eq : K → K → Bool} (laws : IsEquivalence eq) where
+  pub without-put : (mode : Mode) (pairs : List (K × V)) (k : K) (v : V)
+      → find eq pairs k ≡ None → without eq (put eq mode pairs k v) k ≡ pairs
+  without-put mode pairs k v none =
+      ap (λ ps. without eq ps k) (put-absent eq mode pairs k v none)
+      ∙ filter-append (λ pair. not (eq k pair.0)) pairs ((k, v) ∷ [])
+      ∙ ap₂ (λ ps b. ps ++ cond (not b) ((k, v) ∷ []) []) (without-absent eq pairs k none) (laws.refl k)
+      ∙ append-nil pairs
+
+  pub set_value-set_or_push : (pairs : List (K × V)) (k : K) (w v : V)
+      → IsDistinct eq (keys_of pairs) → value_at eq pairs k ≡ Some v
+      → set_value eq (set_or_push eq pairs k w) k v ≡ pairs
+  set_value-set_or_push pairs k w v distinct own =
+      ap (λ ps. set_value eq ps k v) (set_or_push-present eq pairs k w (IsSome-find eq pairs k v own))
+      ∙ set_value-set_value eq pairs k w v ∙ set_value-own laws pairs k v distinct own

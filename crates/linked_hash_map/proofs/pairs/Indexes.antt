@@ -145,6 +145,9 @@ module _ {K V : Type 0} {eq : K → K → Bool} (laws : IsEquivalence eq) (pairs
   pub without-own : without eq pairs pair.0 ≡ remove pairs i
   without-own = without_at laws pair.0 pairs i pair distinct there (laws.refl pair.0)
 
+  pub set_value-own_at : (v : V) → set_value eq pairs pair.0 v ≡ set_value_at pairs i v
+  set_value-own_at v = set_value_by_index laws pair.0 pairs i pair v distinct there (laws.refl pair.0)
+
 -- the pairs with one moved to the back
 pub length-others : {X : Type 0} (xs : List X) (i : ℕ) (x : X) → slice_get xs i ≡ Some x → length xs - 1 ≡ length (remove xs i)
 length-others xs i x there = let removed = length-remove_at xs i x there in omega (arith, removed)

@@ -110,6 +110,10 @@ impl<'a, K: Eq + Hash, V, S: BuildHasher> Entry<'a, K, V, S> {
                   (entry_value result);
             } }
         ensures valid { IsValid K.eq (entry_map self.entry) }
+        // A law of the map once the entry writes a value, for the proofs of callers.
+        ensures writes { (v : V)
+            → set_or_push K.eq (entry_map result).pairs (entry_key result) v
+            ≡ set_or_push K.eq (entry_map self.entry).pairs (entry_key self.entry) v }
     {
         match self {
             Entry::Occupied(mut entry) => {

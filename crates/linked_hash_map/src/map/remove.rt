@@ -5,7 +5,7 @@ ghost use Rattle.std.specs.Map.{keys_of};
 ghost use Rattle.std.specs.Map.Calls.{CallableOnEachPair, CalledAtPair, TakesPair, RetainsPairs};
 ghost use Rattle.linked_hash_map.specs.Pairs.{find, value_at, without, first, last, without_first, without_last};
 ghost use Rattle.linked_hash_map.specs.Cursor.{to_visit};
-ghost use Rattle.linked_hash_map.specs.Changes.{Keeps};
+ghost use Rattle.linked_hash_map.specs.Changes.{Keeps, drained};
 ghost use Rattle.linked_hash_map.specs.Retains.{IsSublist};
 ghost use Rattle.linked_hash_map.specs.Updates.{Updates};
 ghost use Rattle.linked_hash_map.specs.Validity.{IsValid};
@@ -214,6 +214,7 @@ impl<K: Eq + Hash, V, S: BuildHasher> LinkedHashMap<K, V, S> {
             self.entry (drain_name result)) }
         ensures rest { drain_rest result ≡ self.old.pairs }
         ensures valid { IsValid K.eq self.old }
+        ensures stays_valid { IsValid K.eq (drained self.old) }
         // Laws of iterators, for the proofs of callers.
         ensures runs { YieldsInOrder (DrainSteps {K = K} {V = V}) drain_rest }
         ensures runs_back { YieldsInReverse (DrainStepsBack {K = K} {V = V}) drain_rest }

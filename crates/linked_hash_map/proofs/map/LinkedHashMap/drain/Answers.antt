@@ -1,4 +1,5 @@
 use Rattle.std.proofs.Common.{refl, sym}
+use Rattle.linked_hash_map.proofs.Callers.Valid.{IsValid-drained}
 use Rattle.linked_hash_map.proofs.nodes.Drained.{drains_in_order, drains_in_reverse, stays, stays_back, rest_drained}
 use Rattle.linked_hash_map.proofs.nodes.EmptyMap.{IsKept-none}
 use Rattle.linked_hash_map.proofs.nodes.Kept.{IsValid-view}
@@ -15,6 +16,7 @@ returns g c =
         writes_back = tt;
         rest = rest_drained c.new.result _ c.self.inside.table.held c.new.ensures.rest c.drain.ensures.rest;
         valid = IsValid-view c.self.inside refl c.self.invariant;
+        stays_valid = IsValid-drained (IsValid-view c.self.inside refl c.self.invariant);
         runs = drains_in_order;
         runs_back = drains_in_reverse;
         stays = stays _;
