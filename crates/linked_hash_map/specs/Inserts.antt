@@ -1,7 +1,9 @@
 -- Insertions one after another, and what an iterator gives.
-use Rattle.std.specs.Prelude.{◌≡◌, ℕ, ◌-◌, ◌<◌, ◌≤◌, ◌⊎◌, max, Bool, List, [], ◌∷◌, map, length, Option, Some}
+use Rattle.std.specs.Prelude.{◌≡◌, ℕ, ◌+◌, ◌-◌, ◌<◌, ◌≤◌, ◌⊎◌, max, Bool, List, [], ◌∷◌, map, length, Option, Some}
 use Rattle.std.specs.Iterator.{Count, UpTo, Drains, YieldsThen}
 use Rattle.std.specs.Iterator.SizeHint.{IsWithinCount}
+use Rattle.linked_hash_map.specs.LinkedMap.{LinkedMap}
+use Rattle.linked_hash_map.specs.Cursor.{to_visit}
 use Rattle.linked_hash_map.specs.Counts.{rechained_each, made_each}
 use Rattle.linked_hash_map.specs.declared.map.TheConstants.{LIMIT}
 use Rattle.linked_hash_map.specs.Pairs.{put}
@@ -14,6 +16,12 @@ abbrev pub insert_each : {K V : Type 0} → (K → K → Bool) → Mode → List
 insert_each eq mode pairs [] = pairs
 insert_each eq mode pairs (item ∷ items) =
     insert_each eq mode (put eq mode pairs item.0 item.1) items
+
+-- what so many insertions leave to be visited: all that was, if each made one pair more, as it does
+-- exactly if its key is new; else nothing
+pub record LeavesVisit {K V S : Type 0} (insertions : ℕ) (old new : LinkedMap K V S) : Type 0 where
+  pub stands : length new.pairs ≡ length old.pairs + insertions → to_visit new ≡ to_visit old
+  pub ended : length new.pairs < length old.pairs + insertions → to_visit new ≡ []
 
 -- whichever iterator it becomes, that has at most n items left
 abbrev pub GivesAtMost : {T I : Type 0} → (T → I → Type 0) → (I → Count) → T → ℕ → Type 0

@@ -6,7 +6,7 @@ ghost use Rattle.linked_hash_map.specs.Pairs.{find};
 ghost use Rattle.linked_hash_map.specs.Changes.{KeepsSettings};
 ghost use Rattle.linked_hash_map.specs.Validity.{IsValid};
 ghost use Rattle.linked_hash_map.specs.Counts.{rechained_each, made_each};
-ghost use Rattle.linked_hash_map.specs.Inserts.{GivesAtMost, InsertsAll, InsertsUntil, Collects, HintsAboveLimit, NeedsRoom};
+ghost use Rattle.linked_hash_map.specs.Inserts.{LeavesVisit, GivesAtMost, InsertsAll, InsertsUntil, Collects, HintsAboveLimit, NeedsRoom};
 
 use crate::error::{Refused, ReserveError};
 use crate::map::{LinkedHashMap, Mode};
@@ -43,9 +43,18 @@ impl<K: Eq + Hash, V, S: BuildHasher> LinkedHashMap<K, V, S> {
         ensures made { self.new.made
             ≡ made_each self.old.made self.old.capacity (self.new.capacity - self.old.capacity) }
         ensures settings { KeepsSettings self.old self.new }
+        // A present key ends a visit. If each is new, the same is left to visit.
+        ensures to_visit { OnOk result
+            ((inserts : InsertsAll I.into_iter_gives I.IntoIter.next_gives items K.eq (λ pair. pair)
+            self.old.mode self.old.pairs self.new.pairs)
+            × LeavesVisit (length inserts.given) self.old self.new) }
         ensures valid { IsValid K.eq self.old }
         ensures stays_valid { IsValid K.eq self.new }
 
+        ensures visit_stopped { IfErr result (λ refused.
+            (inserts : InsertsUntil I.into_iter_gives I.IntoIter.next_gives items K.eq (λ pair. pair)
+            self.old.mode self.old.pairs self.new.pairs refused.key refused.value)
+            × LeavesVisit (length inserts.given) self.old self.new) }
         ensures stopped { IfErr result (λ refused.
             InsertsUntil I.into_iter_gives I.IntoIter.next_gives items K.eq (λ pair. pair)
             self.old.mode self.old.pairs self.new.pairs refused.key refused.value) }
@@ -96,9 +105,18 @@ impl<K: Eq + Hash, V, S: BuildHasher> LinkedHashMap<K, V, S> {
         ensures made { self.new.made
             ≡ made_each self.old.made self.old.capacity (self.new.capacity - self.old.capacity) }
         ensures settings { KeepsSettings self.old self.new }
+        // A present key ends a visit. If each is new, the same is left to visit.
+        ensures to_visit { OnOk result
+            ((inserts : InsertsAll I.into_iter_gives I.IntoIter.next_gives items K.eq deref_pair
+            self.old.mode self.old.pairs self.new.pairs)
+            × LeavesVisit (length inserts.given) self.old self.new) }
         ensures valid { IsValid K.eq self.old }
         ensures stays_valid { IsValid K.eq self.new }
 
+        ensures visit_stopped { IfErr result (λ refused.
+            (inserts : InsertsUntil I.into_iter_gives I.IntoIter.next_gives items K.eq deref_pair
+            self.old.mode self.old.pairs self.new.pairs refused.key refused.value)
+            × LeavesVisit (length inserts.given) self.old self.new) }
         ensures stopped { IfErr result (λ refused.
             InsertsUntil I.into_iter_gives I.IntoIter.next_gives items K.eq deref_pair self.old.mode
             self.old.pairs self.new.pairs refused.key refused.value) }

@@ -178,7 +178,7 @@ module _ {T : Type 0} where
         let others = total_weight-others kept id in
         let after = total_weight-with_last (sessions_of m.pairs) id (weight_of (sessions_of m.pairs) id) payload in
         record {
-          valid = IsValid-put nat_eq_equiv Touch id now kept.valid refl (omega arith) (omega arith);
+          valid = IsValid-put nat_eq_equiv Touch id now kept.valid refl (omega arith) (omega arith) (omega arith);
           mode = kept.mode;
           sum = omega (arith, ap total_weight (sessions_of-refreshed payload));
           within = kept.within;

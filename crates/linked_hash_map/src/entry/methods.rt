@@ -5,8 +5,8 @@ ghost use Rattle.std.specs.Map.Calls.{ModifiesValue};
 ghost use Rattle.std.specs.Option.{UnwrapsOrElse};
 ghost use Rattle.std.specs.Fn.{FnOnceReturnsAt};
 ghost use Rattle.linked_hash_map.specs.Pairs.{key_or, find, value_at, without, set_or_push, set_if_some, put, ActsAs};
-ghost use Rattle.linked_hash_map.specs.Cursor.{without_cursor};
-ghost use Rattle.linked_hash_map.specs.Changes.{Keeps};
+ghost use Rattle.linked_hash_map.specs.Cursor.{to_visit, without_cursor};
+ghost use Rattle.linked_hash_map.specs.Changes.{Keeps, set_or_pushed};
 ghost use Rattle.linked_hash_map.specs.Updates.{Updates};
 ghost use Rattle.linked_hash_map.specs.Validity.{IsValid};
 ghost use Rattle.linked_hash_map.specs.Entry.{entry_map_ref, entry_map, is_occupied, entry_key, entry_value, lends_entry};
@@ -155,6 +155,10 @@ impl<'a, K: Eq + Hash, V, S: BuildHasher> Entry<'a, K, V, S> {
         ensures full { OnErr result
             (length (entry_map self.entry).pairs ≡ (entry_map self.entry).capacity) }
         ensures valid { IsValid K.eq (entry_map self.entry) }
+        // A law of the map once a value is written, for the proofs of callers. A new pair is not to
+        // be visited, and those that are stay so.
+        ensures to_visit { (v : V) → to_visit (set_or_pushed K.eq (entry_map self.entry)
+            (entry_key self.entry) v) ≡ to_visit (entry_map self.entry) }
     {
         match self {
             Entry::Occupied(entry) => Ok(entry.into_mut()),
@@ -188,6 +192,9 @@ impl<'a, K: Eq + Hash, V, S: BuildHasher> Entry<'a, K, V, S> {
         ensures full { OnErr result
             (length (entry_map self.entry).pairs ≡ (entry_map self.entry).capacity) }
         ensures valid { IsValid K.eq (entry_map self.entry) }
+        // A law, as that of `or_insert`.
+        ensures to_visit { (v : V) → to_visit (set_or_pushed K.eq (entry_map self.entry)
+            (entry_key self.entry) v) ≡ to_visit (entry_map self.entry) }
     {
         let vacant = match self {
             Entry::Occupied(occupied) => return Ok(occupied.into_mut()),
@@ -264,6 +271,9 @@ impl<'a, K: Eq + Hash, V, S: BuildHasher> Entry<'a, K, V, S> {
         ensures full { OnErr result
             (length (entry_map self.entry).pairs ≡ (entry_map self.entry).capacity) }
         ensures valid { IsValid K.eq (entry_map self.entry) }
+        // A law, as that of `or_insert`.
+        ensures to_visit { (v : V) → to_visit (set_or_pushed K.eq (entry_map self.entry)
+            (entry_key self.entry) v) ≡ to_visit (entry_map self.entry) }
     {
         match self {
             Entry::Occupied(occupied) => Ok(occupied.into_mut()),

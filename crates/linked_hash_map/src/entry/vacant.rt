@@ -2,6 +2,8 @@
 ghost use Rattle.std.specs.Prelude.{◌≡◌, ◌<◌, [], ◌∷◌, ◌++◌, length, Some, None, IfOk, IfErr, OnOk, OnErr};
 ghost use Rattle.std.specs.Borrow.{sem};
 ghost use Rattle.linked_hash_map.specs.Pairs.{find};
+ghost use Rattle.linked_hash_map.specs.Cursor.{to_visit};
+ghost use Rattle.linked_hash_map.specs.Changes.{pushed};
 ghost use Rattle.linked_hash_map.specs.Updates.{Updates};
 ghost use Rattle.linked_hash_map.specs.Validity.{IsValid};
 ghost use Rattle.linked_hash_map.specs.Entry.{vacant_map, vacant_key, lends_pushed};
@@ -82,7 +84,10 @@ impl<'a, K: Eq + Hash, V, S: BuildHasher> VacantEntry<'a, K, V, S> {
             (length (vacant_map self.entry).pairs ≡ (vacant_map self.entry).capacity) }
         ensures valid { IsValid K.eq (vacant_map self.entry) }
 
-        // A law of the map once a value is written, for the proofs of callers.
+        // Laws of the map once a value is written, for the proofs of callers. The pair is not to be
+        // visited, and those that are stay so.
+        ensures to_visit { (v : V) → to_visit (pushed (vacant_map self.entry)
+            (vacant_key self.entry) v) ≡ to_visit (vacant_map self.entry) }
         ensures updates { (v : V) → OnOk result
             (Updates K.eq (vacant_map self.entry).pairs
             ((vacant_map self.entry).pairs ++ (vacant_key self.entry, v) ∷ [])

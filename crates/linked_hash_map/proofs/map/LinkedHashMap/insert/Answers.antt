@@ -71,7 +71,7 @@ pub returns-in-Some-clause-valid : goal.returns-in-Some-clause-valid
 returns-in-Some-clause-valid g c = IsValid-view c.self.inside c.self.view_is c.self.invariant
 
 pub returns-in-Some-clause-stays_valid : goal.returns-in-Some-clause-stays_valid
-returns-in-Some-clause-stays_valid g c = IsValid-kept _ (invariant_of-self g c) refl refl
+returns-in-Some-clause-stays_valid g c = IsValid-kept _ (invariant_of-self g c) refl refl refl
 
 pub returns-in-Some-clause-as_many : goal.returns-in-Some-clause-as_many
 returns-in-Some-clause-as_many g c = λ _. rw (← c.self.view_is) (length-put (moved g c) c.replace.new.dest)
