@@ -5,7 +5,7 @@ use Rattle.lhm_ring.proofs.table.Table.move_backs.Goals as goal
 pub loop-moved-init : goal.loop-moved-init
 loop-moved-init g c = let hs = c.args.self.now.held in record {
   rotated = rotated-all hs ∙ ap (λ n. rotated n hs) (omega arith);
-  keeps = record { capacity = refl; rechained = refl };
+  keeps = record { capacity = refl; rechained = refl; made = refl };
 }
 
 -- one more is left to move back
@@ -40,5 +40,6 @@ loop-moved-preserved g c =
       keeps = record {
         capacity = moved.keeps.capacity ∙ inv.keeps.capacity;
         rechained = moved.keeps.rechained ∙ inv.keeps.rechained;
+        made = moved.keeps.made ∙ inv.keeps.made;
       };
     }

@@ -5,7 +5,7 @@ use Rattle.lhm_ring.proofs.table.Table.move_fronts.Goals as goal
 pub loop-moved-init : goal.loop-moved-init
 loop-moved-init g c = record {
   rotated = rotated-none c.args.self.now.held;
-  keeps = record { capacity = refl; rechained = refl };
+  keeps = record { capacity = refl; rechained = refl; made = refl };
 }
 
 pub unwrap-front-requires : goal.unwrap-front-requires
@@ -29,5 +29,6 @@ loop-moved-preserved g c =
       keeps = record {
         capacity = moved.keeps.capacity ∙ inv.keeps.capacity;
         rechained = moved.keeps.rechained ∙ inv.keeps.rechained;
+        made = moved.keeps.made ∙ inv.keeps.made;
       };
     }
