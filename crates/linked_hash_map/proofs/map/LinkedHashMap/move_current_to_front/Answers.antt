@@ -1,4 +1,4 @@
-use Rattle.std.proofs.Common.{◌≡◌, ◌<◌, ◌∷◌, Some, slice_get, length, refl, sym, ap, ap₂, ◌∙◌, subst}
+use Rattle.std.proofs.Common.{◌≡◌, ◌<◌, Some, slice_get, length, refl, sym, ap, ap₂, ◌∙◌, subst}
 use Rattle.linked_hash_map.specs.Nodes.{pairs_of, bare, before, visit_of, current_of}
 use Rattle.linked_hash_map.specs.Indexes.{IsIndex}
 use Rattle.linked_hash_map.proofs.pairs.Indexes.{to_front-index}
