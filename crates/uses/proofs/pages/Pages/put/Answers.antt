@@ -1,0 +1,11 @@
+use Rattle.std.proofs.Common.{length, string_bytes}
+use Rattle.linked_hash_map.specs.SessionTables.{with_last}
+use Rattle.linked_hash_map.proofs.session_table.Lists.{fit-all}
+use Rattle.uses.proofs.pages.Pages.put.Goals as goal
+
+pub returns-clause-all : goal.returns-clause-all
+returns-clause-all c = λ light.
+    let old = c.args.self.now.table in
+    let fits = fit-all old.limit (with_last old.sessions c.args.number (length (string_bytes c.args.text)) c.args.text) light in
+    let stay = c.in_ok-put_with.ensures.stay in
+    let len = c.len-bytes.ensures in cc
