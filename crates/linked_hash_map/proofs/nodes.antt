@@ -15,4 +15,5 @@ pub mod Outside
 pub mod PushedPair
 pub mod PutPair
 pub mod Retained
+pub mod StoredKeys
 pub mod TakenNode
