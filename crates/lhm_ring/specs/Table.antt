@@ -39,10 +39,10 @@ WritesOnly {K} {V} hs p =
     AtHeld hs p (λ xs t ys. (w : V) → change_at p (revalued w) hs ≡ xs ++ revalued w t ∷ ys)
 
 -- the pair at p, which has the hash and the key, was removed
-pub record Removes {K V : Type 0} (eq : K → K → Bool) (hash : ℕ) (key : K)
+pub record Removes {K V : Type 0} (is_key : K → Bool) (hash : ℕ)
     (old new : List (Held (K × V))) (removed : K × V) : Type 0 where
   pub at : Ptr
-  pub has : HasKey eq hash key old at
+  pub has : HasKey is_key hash old at
   pub others : AtHeld old at (λ xs t ys. new ≡ xs ++ ys)
   pub pair_is : AtHeld old at (λ xs t ys. removed ≡ t.pair)
 

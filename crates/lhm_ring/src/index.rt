@@ -14,7 +14,9 @@ use crate::pointer::{Link, Position};
 use crate::ring::Ring;
 use crate::search::Found;
 pub use crate::search::Probe;
+use equivalent::Equivalent;
 use std::alloc::{AllocError, Global};
+use std::hash::Hash;
 use std::marker::{Model, PhantomData};
 use std::mem;
 
@@ -221,14 +223,20 @@ impl<K, V> Index<K, V> {
     }
 }
 
-impl<K: Eq, V> Index<K, V> {
+impl<K: Eq + Hash, V> Index<K, V> {
     /// Returns the position of the node with this hash and key, if any. It reads no node if the
     /// filter lacks the hash.
-    pub fn position(&self, ring: &Ring<K, V>, hash: u64, key: &K) -> Option<Position<K, V>>
+    pub fn position<Q: Equivalent<K>>(
+        &self,
+        ring: &Ring<K, V>,
+        hash: u64,
+        key: Q,
+    ) -> Option<Position<K, V>>
         requires indexed { Indexes self.now (spots ring.now.held) }
         requires small { length ring.now.held < 2 ^ 64 }
-        ensures found { IfSome result (λ p. HasKey K.eq hash key.now ring.now.held (pointer_of p)) }
-        ensures absent { IfNone result (IsAbsent K.eq hash key.now ring.now.held) }
+        ensures found { IfSome result (λ p.
+            HasKey (Q.equivalent key) hash ring.now.held (pointer_of p)) }
+        ensures absent { IfNone result (IsAbsent (Q.equivalent key) hash ring.now.held) }
     {
         if self.buckets() == 0 {
             return None;

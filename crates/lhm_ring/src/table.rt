@@ -13,7 +13,9 @@ pub use crate::index::Probe;
 pub use crate::owned::{IntoIter, OwnedPairs};
 use crate::ring::Ring;
 pub use crate::ring::{Drain, Iter, IterMut, Lent, Position};
+use equivalent::Equivalent;
 use std::alloc::{AllocError, Global};
+use std::hash::Hash;
 use std::marker::Model;
 
 /// Pairs in insertion order, each with its hash, found by hash and key. A [`Position`] stays until
@@ -282,13 +284,13 @@ impl<K, V> Table<K, V> {
     }
 }
 
-impl<K: Eq, V> Table<K, V> {
+impl<K: Eq + Hash, V> Table<K, V> {
     /// Returns the position of the pair with this hash and key, if any, and the counts. Asks no
     /// filter.
     pub fn find(&self, hash: u64, key: &K) -> (Option<Position<K, V>>, Probe)
         ensures found { IfSome result.0 (λ p.
-            HasKey K.eq hash key.now self.now.held (pointer_of p)) }
-        ensures absent { IfNone result.0 (IsAbsent K.eq hash key.now self.now.held) }
+            HasKey (K.eq key.now) hash self.now.held (pointer_of p)) }
+        ensures absent { IfNone result.0 (IsAbsent (K.eq key.now) hash self.now.held) }
         ensures counts_found { OnSome result.0
             (CountsSome (spots self.now.held) (buckets self.now.capacity) hash result.1.visited
             result.1.compared) }
@@ -301,17 +303,19 @@ impl<K: Eq, V> Table<K, V> {
 
     /// Returns the position of the pair with this hash and key, if any. It reads no pair if the
     /// filter lacks the hash.
-    pub fn position(&self, hash: u64, key: &K) -> Option<Position<K, V>>
-        ensures found { IfSome result (λ p. HasKey K.eq hash key.now self.now.held (pointer_of p)) }
-        ensures absent { IfNone result (IsAbsent K.eq hash key.now self.now.held) }
+    pub fn position<Q: Equivalent<K>>(&self, hash: u64, key: Q) -> Option<Position<K, V>>
+        ensures found { IfSome result (λ p.
+            HasKey (Q.equivalent key) hash self.now.held (pointer_of p)) }
+        ensures absent { IfNone result (IsAbsent (Q.equivalent key) hash self.now.held) }
     {
         self.index.position(&self.ring, hash, key)
     }
 
     /// Removes and returns the pair with this hash and key, if any. Asks the filter first.
-    pub fn remove(&mut self, hash: u64, key: &K) -> Option<(K, V)>
-        ensures removed { IfSome result (Removes K.eq hash key.now self.old.held self.new.held) }
-        ensures absent { IfNone result (IsAbsent K.eq hash key.now self.old.held) }
+    pub fn remove<Q: Equivalent<K>>(&mut self, hash: u64, key: Q) -> Option<(K, V)>
+        ensures removed { IfSome result
+            (Removes (Q.equivalent key) hash self.old.held self.new.held) }
+        ensures absent { IfNone result (IsAbsent (Q.equivalent key) hash self.old.held) }
         ensures unchanged { IfNone result (self.new ≡ self.old) }
         ensures keeps { KeepsCounts self.old self.new }
     {

@@ -17,4 +17,5 @@ pub mod PushedPair
 pub mod PutPair
 pub mod Retained
 pub mod Rotated
+pub mod StoredKeys
 pub mod TakenNode

@@ -8,3 +8,4 @@ pub mod Inserts
 pub mod IteratorLaws
 pub mod OccupiedEntries
 pub mod RehashCounts
+pub mod Written

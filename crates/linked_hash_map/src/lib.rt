@@ -34,9 +34,10 @@
 //! - Create: `new`, `with_capacity`, `with_hasher`, `from_iter`, `clone`.
 //! - Insert: `insert`, `extend`, `extend_refs`, or by an [`Entry`]; after `set_mode(Mode::Keep)` a
 //!   present key keeps its place.
-//! - Look up: `get`, `get_mut`, `contains_key`, `map[&key]`, `front`, `back`, `front_mut`,
-//!   `back_mut`, or `get_refresh`, which moves the pair to the back.
-//! - Remove: `remove`, `pop_front`, `pop_back`, `retain`, `clear`, `drain`.
+//! - Look up: `get`, `get_key_value`, `get_mut`, `contains_key`, `map[&key]`, `front`, `back`,
+//!   `front_mut`, `back_mut`, or `get_refresh`, which moves the pair to the back. [`Equivalent`]
+//!   has what a lookup takes: a reference to a key, or `&str` for a `String`.
+//! - Remove: `remove`, `remove_entry`, `pop_front`, `pop_back`, `retain`, `clear`, `drain`.
 //! - Reorder: `move_to_back`, `move_to_front`, `rotate_left`.
 //! - Iterate: `iter`, `iter_mut`, `keys`, `values`, `into_iter`; `entries` or `visit` to remove or
 //!   move pairs on the way.
@@ -66,6 +67,7 @@ pub mod sessions;
 
 pub use drain::Drain;
 pub use entry::{Entries, Entry, OccupiedEntry, VacantEntry};
+pub use equivalent::Equivalent;
 pub use error::{NoRoom, Refused, ReserveError};
 pub use iter::{IntoIter, Iter, IterMut, Keys, Values};
 pub use map::{DefaultHashBuilder, LIMIT, LinkedHashMap, Mode, Probe};

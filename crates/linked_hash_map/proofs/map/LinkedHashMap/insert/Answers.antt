@@ -15,7 +15,7 @@ use Rattle.lhm_ring.specs.Search.{HasKey}
 
 -- a position that is found is that of the key
 has : (g : _) (c : goal.After-drop-key g)
-    → HasKey g.K.PartialEq.eq c.hash_one-hash.result c.args.key c.self.inside.table.held
+    → HasKey (g.K.PartialEq.eq c.args.key) c.hash_one-hash.result c.self.inside.table.held
     (pointer_of c.in-Some.at)
 has g c = of-Some _ c.in-Some.is c.position.ensures.found
 
