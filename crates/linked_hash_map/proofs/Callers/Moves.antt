@@ -10,16 +10,17 @@ use Rattle.std.proofs.lemmas.Map.Keys.{IsDistinct-tail}
 use Rattle.linked_hash_map.specs.Pairs.{key_or, find, without, to_back_as_is, to_front}
 use Rattle.linked_hash_map.proofs.Callers.Keys.{without-absent}
 use Rattle.linked_hash_map.proofs.Callers.Lookups.{eq-find, find-same, find-without, find-to_back, lookup_entry-append}
+use Rattle.linked_hash_map.proofs.pairs.Calls.{filter-none}
 use Rattle.linked_hash_map.proofs.pairs.Indexes.{others_differ}
 
 -- of a key that is absent
-module _ {K V : Type 0} (eq : K → K → Bool) (pairs : List (K × V)) (k : K) (none : find eq pairs k ≡ None) where
+module _ {A K V : Type 0} (eq : A → K → Bool) (pairs : List (K × V)) (k : A) (none : find eq pairs k ≡ None) where
   pub to_back_as_is-absent : to_back_as_is eq pairs k ≡ pairs
   to_back_as_is-absent = ap (λ o. without eq pairs k ++ option_to_list o) none
-      ∙ append-nil (without eq pairs k) ∙ without-absent eq pairs k none
+      ∙ append-nil (without eq pairs k) ∙ filter-none (eq k) pairs none
 
   pub to_front-absent : to_front eq pairs k ≡ pairs
-  to_front-absent = ap (λ o. option_to_list o ++ without eq pairs k) none ∙ without-absent eq pairs k none
+  to_front-absent = ap (λ o. option_to_list o ++ without eq pairs k) none ∙ filter-none (eq k) pairs none
 
 module _ {K V : Type 0} {eq : K → K → Bool} (laws : IsEquivalence eq) (pairs : List (K × V)) (k q : K) where
   -- the pair of k is what k finds, and each key that is the same

@@ -6,6 +6,7 @@ ghost use Rattle.linked_hash_map.specs.Changes.{Keeps};
 ghost use Rattle.linked_hash_map.specs.Validity.{IsValid};
 
 use super::LinkedHashMap;
+use equivalent::Equivalent;
 use std::hash::{BuildHasher, Hash};
 
 impl<K: Eq + Hash, V, S: BuildHasher> LinkedHashMap<K, V, S> {
@@ -23,9 +24,9 @@ impl<K: Eq + Hash, V, S: BuildHasher> LinkedHashMap<K, V, S> {
     /// assert!(rt; !map.move_to_back(&'z'));
     /// ```
     #[inline]
-    pub fn move_to_back(&mut self, key: &K) -> bool
-        ensures found { result ≡ is_some (find K.eq self.old.pairs key.now) }
-        ensures pairs { self.new.pairs ≡ to_back_as_is K.eq self.old.pairs key.now }
+    pub fn move_to_back<Q: Equivalent<K>>(&mut self, key: Q) -> bool
+        ensures found { result ≡ is_some (find Q.equivalent self.old.pairs key) }
+        ensures pairs { self.new.pairs ≡ to_back_as_is Q.equivalent self.old.pairs key }
         ensures keeps { Keeps self.old self.new }
         ensures ends_visit { IsTrue result → to_visit self.new ≡ [] }
         ensures unchanged { IsFalse result → self.new ≡ self.old }
@@ -60,9 +61,9 @@ impl<K: Eq + Hash, V, S: BuildHasher> LinkedHashMap<K, V, S> {
     /// assert!(rt; !map.move_to_front(&'z'));
     /// ```
     #[inline]
-    pub fn move_to_front(&mut self, key: &K) -> bool
-        ensures found { result ≡ is_some (find K.eq self.old.pairs key.now) }
-        ensures pairs { self.new.pairs ≡ to_front K.eq self.old.pairs key.now }
+    pub fn move_to_front<Q: Equivalent<K>>(&mut self, key: Q) -> bool
+        ensures found { result ≡ is_some (find Q.equivalent self.old.pairs key) }
+        ensures pairs { self.new.pairs ≡ to_front Q.equivalent self.old.pairs key }
         ensures keeps { Keeps self.old self.new }
         ensures ends_visit { IsTrue result → to_visit self.new ≡ [] }
         ensures unchanged { IsFalse result → self.new ≡ self.old }

@@ -66,4 +66,4 @@ returns-clause-outside g c =
     (elsewhere-touched g.met.K.Eq.laws c.self.inside.table.held ks c.self.invariant (is g c) (elsewhere g c) Touch (moved g c).touched)
 
 pub returns-clause-stays_valid : goal.returns-clause-stays_valid
-returns-clause-stays_valid g c = IsValid-kept _ (invariant_of-self g c) refl refl
+returns-clause-stays_valid g c = IsValid-kept _ (invariant_of-self g c) refl refl refl

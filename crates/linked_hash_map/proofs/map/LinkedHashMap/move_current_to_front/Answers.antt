@@ -66,4 +66,4 @@ returns-clause-outside g c =
     (elsewhere g c) c.move_to_front.ensures.apart)
 
 pub returns-clause-stays_valid : goal.returns-clause-stays_valid
-returns-clause-stays_valid g c = IsValid-kept _ (invariant_of-self g c) refl refl
+returns-clause-stays_valid g c = IsValid-kept _ (invariant_of-self g c) refl refl refl

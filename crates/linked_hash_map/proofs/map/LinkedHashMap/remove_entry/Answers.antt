@@ -87,4 +87,4 @@ returns-clause-fewer g c =
     )
 
 pub returns-clause-stays_valid : goal.returns-clause-stays_valid
-returns-clause-stays_valid g c = IsValid-kept _ (invariant_of-self-2 g c) refl refl
+returns-clause-stays_valid g c = IsValid-kept _ (invariant_of-self-2 g c) refl refl refl

@@ -20,7 +20,7 @@ returns-clause-pairs g c = rw (← c.self.view_is) (pairs-rotated c.args.count c
     c.rotate_left.new.self.held c.rotate_left.ensures.rotated)
 
 pub returns-clause-stays_valid : goal.returns-clause-stays_valid
-returns-clause-stays_valid g c = IsValid-kept _ (invariant_of-self g c) refl refl
+returns-clause-stays_valid g c = IsValid-kept _ (invariant_of-self g c) refl refl refl
 
 pub returns-clause-len : goal.returns-clause-len
 returns-clause-len g c = rw (← c.self.view_is) (length-rotated c.args.count c.self.inside.table.held
