@@ -2,11 +2,12 @@
 use Rattle.std.proofs.Common.{◌≡◌, ℕ, zero, suc, ◌+◌, ◌-◌, ◌<◌, ◌≤◌, Bool, true, false, List, [], ◌∷◌, ◌++◌, length, take, drop, nat_eq, None}
 use Rattle.std.proofs.Common.{refl, sym, ap, ◌∙◌, arith, add-one}
 use Rattle.std.specs.Prelude.{nat_le, if◌then◌else◌}
-use Rattle.std.proofs.lemmas.List.{take-append-drop, append_cancel_right, take-append-le}
+use Rattle.std.proofs.lemmas.List.{append_assoc, append_cancel_right, take-append-drop, take-append-le}
 use Rattle.linked_hash_map.specs.Pairs as pairs
 use Rattle.linked_hash_map.specs.SessionTables.{Session, total_weight, without, with_last, fit, leaving}
 use Rattle.linked_hash_map.specs.SessionsKept.{sessions_of}
 use Rattle.linked_hash_map.specs.declared.sessions.storage.Weighted.{Weighted}
+use Rattle.linked_hash_map.proofs.session_table.Lists.{fit-append}
 use Rattle.linked_hash_map.proofs.session_table.Pairs.{length-sessions_of}
 use Rattle.linked_hash_map.proofs.session_table.Puts.{drop-with_last, fit-with_last, with_last-new}
 
@@ -55,6 +56,19 @@ module _ {T : Type 0} where
         let all = with_last sessions id weight payload in
         append_cancel_right (take count all) (leaving limit all) (fit limit all)
         (ap (λ l. take count all ++ l) (sym drop-put) ∙ take-append-drop count all ∙ sym (leaving-fit limit all))
+
+  -- the new one does not go, so it is some of the others that do
+  pub leaving-with_last : (limit weight id : ℕ) (payload : T) (sessions : List (Session T)) → weight ≤ limit
+      → leaving limit (with_last sessions id weight payload) ≡ leaving (limit - weight) (without sessions id)
+  leaving-with_last limit weight id payload sessions light =
+      let all = with_last sessions id weight payload in
+      let others = without sessions id in
+      let session : Session T = (id, weight, payload) in
+      append_cancel_right (leaving limit all) (leaving (limit - weight) others) (fit limit all)
+      (leaving-fit limit all
+      ∙ ap (λ l. l ++ session ∷ []) (sym (leaving-fit (limit - weight) others))
+      ∙ append_assoc (leaving (limit - weight) others) (fit (limit - weight) others) (session ∷ [])
+      ∙ ap (λ l. leaving (limit - weight) others ++ l) (sym (fit-append limit others session light)))
 
   -- a new session does not go before the others
   pub take-new : (ps : List (ℕ × Weighted T)) (count id weight : ℕ) (payload : T) → pairs.find nat_eq ps id ≡ None
