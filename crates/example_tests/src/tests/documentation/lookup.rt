@@ -22,6 +22,25 @@ fn get(rt: HostRuntime) -> Result<(), Fail> {
     Ok(())
 }
 
+/// The example of `get_key_value`.
+#[test]
+fn get_key_value(rt: HostRuntime) -> Result<(), Fail> {
+    let mut map = LinkedHashMap::new(rt.alloc());
+    map.insert('x', 1)?;
+    assert_eq!(rt; map.get_key_value(&'x'), Some((&'x', &1)));
+    assert_eq!(rt; map.get_key_value(&'y'), None);
+    Ok(())
+}
+
+/// The example of `Equivalent`.
+#[test]
+fn equivalent(rt: HostRuntime) -> Result<(), Fail> {
+    let mut ages = LinkedHashMap::new(rt.alloc());
+    ages.insert(String::from_str(rt.alloc(), "Zoe")?, 31)?;
+    assert_eq!(rt; ages.get("Zoe"), Some(&31));
+    Ok(())
+}
+
 /// The example of `Index`.
 #[test]
 fn index(rt: HostRuntime) -> Result<(), Fail> {

@@ -11,6 +11,7 @@ use std::process::Abort;
 fn look_up(rt: &impl Abort, map: &mut CallMap, key: &Key, wanted: Calls) {
     check_calls!(rt; key.counts, map.get_counted(key), wanted);
     check_calls!(rt; key.counts, map.get(key), wanted);
+    check_calls!(rt; key.counts, map.get_key_value(key), wanted);
     check_calls!(rt; key.counts, map.contains_key(key), wanted);
     check_calls!(rt; key.counts, map.get_mut(key), wanted);
     check_calls!(rt; key.counts, map.get_refresh(key), wanted);
@@ -40,6 +41,7 @@ fn insert_present(rt: &impl Abort, map: &mut CallMap, key: &Key) -> Option<u64> 
 fn look_up_absent(rt: &impl Abort, map: &mut CallMap, key: &Key, wanted: Calls) {
     look_up(rt, map, key, wanted);
     check_calls!(rt; key.counts, map.remove(key), wanted);
+    check_calls!(rt; key.counts, map.remove_entry(key), wanted);
     check_calls!(rt; key.counts, map.insert(key.again(rt), 1).is_ok(), wanted);
     let present = lookup_of(rt, map, key);
     check_calls!(rt; key.counts, map.remove(key), present);
@@ -85,6 +87,9 @@ fn look_up_present(rt: &impl Abort, map: &mut CallMap, key: &Key) {
 fn remove_present(rt: &impl Abort, map: &mut CallMap, key: &Key) {
     let wanted = lookup_of(rt, map, key);
     check_calls!(rt; key.counts, map.remove(key), wanted);
+    check!(rt; map.insert(key.again(rt), 1).is_ok());
+    let wanted = lookup_of(rt, map, key);
+    check_calls!(rt; key.counts, map.remove_entry(key), wanted);
     check!(rt; map.insert(key.again(rt), 1).is_ok());
 }
 

@@ -1,7 +1,7 @@
 //! Pairs that an iterator hands out, or does not.
 
 use super::{KEY, PAIRS, VALUE, assert_dropped};
-use crate::tests::support::checks::check_eq;
+use crate::tests::support::checks::{check, check_eq};
 use crate::tests::support::counted_map::{CountedMap, counted_map_of};
 use crate::tests::support::tally::Tally;
 use std::mem::{forget, replace};
@@ -29,13 +29,25 @@ fn pop_pairs(rt: &impl Abort, tally: &Tally, map: &mut CountedMap<'_>) {
     assert_dropped(rt, tally, 63);
 }
 
+/// Takes a pair out by its key, and looks for it again. The pair is handed out.
+fn remove_entries<'a>(rt: &impl Abort, tally: &'a Tally, map: &mut CountedMap<'a>) {
+    let key = tally.thing(2, KEY);
+    let pair = map.remove_entry(&key);
+    check!(rt; map.remove_entry(&key).is_none());
+    assert_dropped(rt, tally, 0);
+    drop(pair);
+    assert_dropped(rt, tally, 4 | 8);
+    drop(key);
+}
+
 #[test]
 fn drops_a_pair_once_it_is_taken_out(rt: HostRuntime) {
     let tally = Tally::new();
     let mut map = counted_map_of(&rt, rt.alloc(), &tally, &PAIRS);
+    remove_entries(&rt, &tally, &mut map);
     pop_pairs(&rt, &tally, &mut map);
     drop(map);
-    assert_dropped(&rt, &tally, 63);
+    assert_dropped(&rt, &tally, 63 | KEY);
 }
 
 /// Takes the first key out and the last, and the rest is dropped with the iterator. The values of
@@ -71,6 +83,8 @@ fn borrow_all<'a>(rt: &impl Abort, tally: &'a Tally, map: &CountedMap<'a>) {
     let (key, absent) = (tally.thing(1, KEY), tally.thing(4, 1024));
     check_eq!(rt; (map.contains_key(&key), map.contains_key(&absent)), (true, false));
     check_eq!(rt; (map.get(&key).is_some(), map.get(&absent).is_some()), (true, false));
+    check!(rt; map.get_key_value(&key).is_some());
+    check!(rt; map.get_key_value(&absent).is_none());
     check_eq!(rt; (map.front().is_some(), map.back().is_some(), *map == *map), (true, true, true));
     assert_dropped(rt, tally, 0);
 }

@@ -141,6 +141,7 @@ fn remove_pairs(rt: &impl Abort, map: &mut Map) {
     insert_new(rt, map, &[(6, 0), (7, 0)]);
     map.retain(|key, _value| *key != 6);
     assert_map(rt, map, &[(5, 0), (7, 0)], 3, 0);
+    check_eq!(rt; (map.remove_entry(&5), map.remove_entry(&5)), (Some((5, 0)), None));
     map.clear();
     assert_map(rt, map, &[], 3, 0);
 }
