@@ -2,9 +2,11 @@
 use Rattle.std.specs.Prelude.{◌≡◌, ℕ, ◌+◌, ◌-◌, ◌<◌, ◌≤◌, ◌⊎◌, max, Bool, List, [], ◌∷◌, map, length, Option, Some}
 use Rattle.std.specs.Iterator.{Count, UpTo, Drains, YieldsThen}
 use Rattle.std.specs.Iterator.SizeHint.{IsWithinCount}
+use Rattle.linked_hash_map.specs.Changes.{KeepsSettings}
 use Rattle.linked_hash_map.specs.LinkedMap.{LinkedMap}
 use Rattle.linked_hash_map.specs.Cursor.{to_visit}
 use Rattle.linked_hash_map.specs.Counts.{rechained_each, made_each}
+use Rattle.linked_hash_map.specs.Validity.{IsValid}
 use Rattle.linked_hash_map.specs.declared.map.TheConstants.{LIMIT}
 use Rattle.linked_hash_map.specs.Pairs.{put}
 use Rattle.linked_hash_map.specs.declared.map.Mode.{Mode}
@@ -22,6 +24,21 @@ insert_each eq mode pairs (item ∷ items) =
 pub record LeavesVisit {K V S : Type 0} (insertions : ℕ) (old new : LinkedMap K V S) : Type 0 where
   pub stands : length new.pairs ≡ length old.pairs + insertions → to_visit new ≡ to_visit old
   pub ended : length new.pairs < length old.pairs + insertions → to_visit new ≡ []
+
+module _ {K V S : Type 0} (eq : K → K → Bool) where
+  -- the items went into a map one by one, in its mode; the capacity was raised as far as need be
+  pub record ExtendsWith (old : LinkedMap K V S) (items : List (K × V)) (new : LinkedMap K V S) : Type 0 where
+    pub pairs : new.pairs ≡ insert_each eq old.mode old.pairs items
+    pub capacity : new.capacity ≡ max old.capacity (length new.pairs)
+    pub settings : KeepsSettings old new
+    pub valid : IsValid eq new
+
+  -- the items went into a new map one by one, which has room for no more
+  pub record CollectsInto (items : List (K × V)) (made : LinkedMap K V S) : Type 0 where
+    pub pairs : made.pairs ≡ insert_each eq Touch [] items
+    pub capacity : made.capacity ≡ length made.pairs
+    pub mode : made.mode ≡ Touch
+    pub valid : IsValid eq made
 
 -- whichever iterator it becomes, that has at most n items left
 abbrev pub GivesAtMost : {T I : Type 0} → (T → I → Type 0) → (I → Count) → T → ℕ → Type 0

@@ -8,6 +8,8 @@ ghost use Rattle.linked_hash_map.specs.Validity.{IsValid};
 ghost use Rattle.linked_hash_map.specs.Counts.{rechained_each, made_each};
 ghost use Rattle.linked_hash_map.specs.Inserts.{LeavesVisit, GivesAtMost, InsertsAll, InsertsUntil, Collects, HintsAboveLimit, NeedsRoom};
 
+mod traits;
+
 use crate::error::{Refused, ReserveError};
 use crate::map::{LinkedHashMap, Mode};
 use std::alloc::Global;

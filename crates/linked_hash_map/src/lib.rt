@@ -31,7 +31,7 @@
 //!
 //! # Calls by task
 //!
-//! - Create: `new`, `with_capacity`, `with_hasher`, `from_iter`, `clone`.
+//! - Create: `new`, `with_capacity`, `with_hasher`, `from_iter`, `.collect(alloc)`, `clone`.
 //! - Insert: `insert`, `extend`, `extend_refs`, or by an [`Entry`]; `insert_within_capacity` if there
 //!   is room; after `set_mode(Mode::Keep)` a present key keeps its place.
 //! - Look up: `get`, `get_key_value`, `get_mut`, `contains_key`, `map[&key]`, `front`, `back`,

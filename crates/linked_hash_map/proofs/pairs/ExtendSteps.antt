@@ -5,11 +5,11 @@ use Rattle.std.specs.List.{IsDistinct}
 use Rattle.std.specs.Map.{keys_of}
 use Rattle.std.specs.Iterator.{Count, IsFinite, size, MakesProgress, YieldsThen}
 use Rattle.std.specs.Cmp.{IsEquivalence}
-use Rattle.std.proofs.lemmas.List.{map-append, length-map}
+use Rattle.std.proofs.lemmas.List.{map-append, map-id, length-map}
 use Rattle.linked_hash_map.specs.Changes.{KeepsSettings}
 use Rattle.linked_hash_map.specs.LinkedMap.{LinkedMap}
 use Rattle.linked_hash_map.specs.Counts.{rechained_raised, made_raised}
-use Rattle.linked_hash_map.specs.Inserts.{InsertsUntil, LeavesVisit}
+use Rattle.linked_hash_map.specs.Inserts.{InsertsUntil, LeavesVisit, ExtendsWith}
 use Rattle.linked_hash_map.specs.Cursor.{to_visit}
 use Rattle.linked_hash_map.specs.Pairs.{find, value_at, put}
 use Rattle.linked_hash_map.specs.Validity.{IsValid}
@@ -120,3 +120,20 @@ module _ {I X K V S : Type 0} {eq : K → K → Bool} (laws : IsEquivalence eq) 
       },
       subst (LeavesVisit (length came) old) (sym unchanged) so_far.visit,
     )
+
+-- the items that came so far went in
+module _ {I X K V S : Type 0} {eq : K → K → Bool} {shows : X → K × V} {remaining : I → Count}
+    {old new : LinkedMap K V S} {start now : I} {came : List X} where
+  pub ExtendsWith-IsExtended : IsExtended eq shows remaining old start now came new → ExtendsWith eq old (map shows came) new
+  ExtendsWith-IsExtended so_far = record {
+    pairs = so_far.inserted.pairs;
+    capacity = so_far.inserted.capacity;
+    settings = so_far.inserted.settings;
+    valid = so_far.valid;
+  }
+
+pub ExtendsWith-pairs : {I K V S : Type 0} {eq : K → K → Bool} {remaining : I → Count}
+    {old new : LinkedMap K V S} {start now : I} {came : List (K × V)}
+    → IsExtended eq (λ pair. pair) remaining old start now came new → ExtendsWith eq old came new
+ExtendsWith-pairs {eq = eq} {old = old} {new = new} {came = came} so_far =
+    subst (λ items. ExtendsWith eq old items new) (map-id came) (ExtendsWith-IsExtended so_far)
