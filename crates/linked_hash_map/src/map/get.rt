@@ -1,5 +1,5 @@
 //! Lookups, and indexing by a key that is present.
-ghost use Rattle.std.specs.Prelude.{◌≡◌, ◌≤◌, option_copied, option_map, is_some, IfNone, OnSome, Some, IsSome};
+ghost use Rattle.std.specs.Prelude.{◌≡◌, ◌≤◌, option_copied, option_map, is_some, IfSome, IfNone, OnSome, Some, IsSome};
 ghost use Rattle.std.specs.Map.Iter.{deref_pair};
 ghost use Rattle.std.specs.Borrow.{sem};
 ghost use Rattle.std.specs.Option.{option_copied_mut};
@@ -202,7 +202,10 @@ impl<K: Eq + Hash, V, S: BuildHasher> LinkedHashMap<K, V, S> {
     /// assert_eq!(rt; map.front(), Some((&'x', &1)));
     /// ```
     pub fn front(&self) -> Option<(&K, &V)>
-        ensures { option_map deref_pair result ≡ first self.now.pairs }
+        ensures pair { option_map deref_pair result ≡ first self.now.pairs }
+        // A law of lists, for the proofs of callers.
+        ensures found { IfSome result (λ pair.
+            find K.eq self.now.pairs pair.0.now ≡ Some (deref_pair pair)) }
     {
         let at = self.table.first()?;
         Some((self.table.key(at), self.table.value(at)))
@@ -219,7 +222,10 @@ impl<K: Eq + Hash, V, S: BuildHasher> LinkedHashMap<K, V, S> {
     /// assert_eq!(rt; map.back(), Some((&'y', &2)));
     /// ```
     pub fn back(&self) -> Option<(&K, &V)>
-        ensures { option_map deref_pair result ≡ last self.now.pairs }
+        ensures pair { option_map deref_pair result ≡ last self.now.pairs }
+        // A law of lists, for the proofs of callers.
+        ensures found { IfSome result (λ pair.
+            find K.eq self.now.pairs pair.0.now ≡ Some (deref_pair pair)) }
     {
         let at = self.table.last()?;
         Some((self.table.key(at), self.table.value(at)))
