@@ -20,6 +20,13 @@ last-append xs x =
     let index : length (xs ++ x ∷ []) - 1 ≡ length xs = omega arith in
     ap (slice_get (xs ++ x ∷ [])) index ∙ slice_get-last xs x
 
+-- as the pair of an insertion in Touch does
+pub last-put : {K V : Type 0} (eq : K → K → Bool) (mode : Mode) (before after : List (K × V)) (k : K)
+    (v : V) → after ≡ put eq mode before k v → mode ≡ Touch → last after ≡ Some (key_or k (find eq before k), v)
+last-put eq mode before after k v changed touch =
+    ap last (changed ∙ ap (λ m. put eq m before k v) touch)
+    ∙ last-append (without eq before k) (key_or k (find eq before k), v)
+
 cond-none : {X : Type 0} (b : Bool) (x : Option X) → cond (not b) x None ≡ cond b None x
 cond-none true x = refl
 cond-none false x = refl

@@ -233,7 +233,10 @@ impl<K: Eq + Hash, V, S: BuildHasher> LinkedHashMap<K, V, S> {
     /// assert_eq!(rt; map.front(), Some((&'x', &1)));
     /// ```
     pub fn front(&self) -> Option<(&K, &V)>
-        ensures { option_map deref_pair result ≡ first self.now.pairs }
+        ensures pair { option_map deref_pair result ≡ first self.now.pairs }
+        // A law of lists, for the proofs of callers.
+        ensures found { IfSome result (λ pair.
+            find K.eq self.now.pairs pair.0.now ≡ Some (deref_pair pair)) }
     {
         let at = self.table.first()?;
         Some((self.table.key(at), self.table.value(at)))
@@ -250,7 +253,10 @@ impl<K: Eq + Hash, V, S: BuildHasher> LinkedHashMap<K, V, S> {
     /// assert_eq!(rt; map.back(), Some((&'y', &2)));
     /// ```
     pub fn back(&self) -> Option<(&K, &V)>
-        ensures { option_map deref_pair result ≡ last self.now.pairs }
+        ensures pair { option_map deref_pair result ≡ last self.now.pairs }
+        // A law of lists, for the proofs of callers.
+        ensures found { IfSome result (λ pair.
+            find K.eq self.now.pairs pair.0.now ≡ Some (deref_pair pair)) }
     {
         let at = self.table.last()?;
         Some((self.table.key(at), self.table.value(at)))

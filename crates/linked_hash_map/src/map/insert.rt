@@ -1,7 +1,7 @@
 //! Insertion.
 ghost use Rattle.std.specs.Prelude.{◌≡◌, ◌<◌, [], length, max, option_map, None, OnOk, OnErr, IfOk, IfErr, IfNone, OnSome, IsTrue, IsFalse, ◌-◌, ◌+◌, ◌++◌, ◌∷◌, slice_get, Some, IsSome};
 ghost use Rattle.std.specs.Borrow.{sem};
-ghost use Rattle.linked_hash_map.specs.Pairs.{find, value_at, put};
+ghost use Rattle.linked_hash_map.specs.Pairs.{last, key_or, find, value_at, put};
 ghost use Rattle.linked_hash_map.specs.Cursor.{to_visit};
 ghost use Rattle.linked_hash_map.specs.Changes.{Keeps, KeepsSettings};
 ghost use Rattle.linked_hash_map.specs.Validity.{IsValid};
@@ -73,6 +73,8 @@ impl<K: Eq + Hash, V, S: BuildHasher> LinkedHashMap<K, V, S> {
         // Consequences of `pairs` and `capacity`, for the proofs of callers.
         ensures updates { OnOk result
             (Updates K.eq self.old.pairs self.new.pairs key (Some value)) }
+        ensures last { OnOk result (self.old.mode ≡ Mode.Touch → last self.new.pairs
+            ≡ Some (key_or key (find K.eq self.old.pairs key), value)) }
         ensures pushed { OnOk result (value_at K.eq self.old.pairs key ≡ None
             → self.new.pairs ≡ self.old.pairs ++ (key, value) ∷ []) }
         ensures more { OnOk result (value_at K.eq self.old.pairs key ≡ None

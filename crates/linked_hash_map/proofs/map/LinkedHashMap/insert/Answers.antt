@@ -3,6 +3,7 @@ use Rattle.std.specs.Map.{keys_of}
 use Rattle.linked_hash_map.specs.Nodes.{beside, pairs_of}
 use Rattle.linked_hash_map.specs.Pairs.{find, put}
 use Rattle.linked_hash_map.proofs.Callers.Updates.{Updates-put}
+use Rattle.linked_hash_map.proofs.Callers.Lookups.{last-put}
 use Rattle.linked_hash_map.proofs.pairs.Calls.{put-absent}
 use Rattle.linked_hash_map.proofs.lists.Options.{of-Some, of-None}
 use Rattle.linked_hash_map.proofs.nodes.Kept.{distinct_keys, IsValid-kept, IsValid-view}
@@ -135,4 +136,12 @@ returns-clause-to_visit g c =
 
 pub returns-clause-updates : goal.returns-clause-updates
 returns-clause-updates g c = Updates-put g.met.K.Eq.laws c.args.self.now.mode c.args.self.now.pairs
+    c.push_back.new.self.pairs c.args.key c.args.value (returns-clause-pairs g c)
+
+pub returns-in-Some-clause-last : goal.returns-in-Some-clause-last
+returns-in-Some-clause-last g c = last-put g.K.PartialEq.eq c.args.self.now.mode c.args.self.now.pairs _
+    c.args.key c.args.value (returns-in-Some-clause-pairs g c)
+
+pub returns-clause-last : goal.returns-clause-last
+returns-clause-last g c = last-put g.K.PartialEq.eq c.args.self.now.mode c.args.self.now.pairs
     c.push_back.new.self.pairs c.args.key c.args.value (returns-clause-pairs g c)
