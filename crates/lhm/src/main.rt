@@ -131,6 +131,22 @@ pub fn run<R: Read, W: Write, F: Write>(
     }
 }
 
+/// Runs the commands in `input` as [`run`] does, and appends what it writes to `output` and
+/// `faults`.
+pub fn run_in_memory(alloc: Global, input: &[u8], output: &mut Vec<u8>, faults: &mut Vec<u8>) -> u8
+    ensures statuses { (result ≡ 0) ⊎ (result ≡ 2) ⊎ (result ≡ 3) ⊎ (result ≡ 4) }
+    ensures done { result ≡ 0 → (text : List ℕ) × (IsRunOf input.now text
+        × (output.new.items ≡ output.old.items ++ text)) }
+    ensures no_fault { result ≡ 0 → faults.new.items ≡ faults.old.items }
+    ensures valid { result ≡ 0 → All IsValid (lines_of input.now) }
+    ensures invalid { result ≡ 2
+        → (line : ℕ) × IsFirstInvalid (lines_of input.now) line }
+    ensures silent { (result ≡ 2) ⊎ (result ≡ 3) → output.new.items ≡ output.old.items }
+{
+    let mut rest = input;
+    run(alloc, &mut rest, output, faults)
+}
+
 fn main(rt: HostRuntime) -> ExitCode {
     ExitCode::from(run(
         rt.alloc(),

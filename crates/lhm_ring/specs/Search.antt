@@ -6,21 +6,21 @@ use Rattle.lhm_ring.specs.Ring.{Held, IsHeld}
 use Rattle.lhm_ring.specs.Index.{OfNodeAt, IsLast, IsOnChain, IsChain, IsRearranged, is_in, Spot, spots, same, beside}
 
 -- r is whether the node has the hash and the key
-abbrev pub Compares : {K V : Type 0} → (K → K → Bool) → ℕ → K → Held (K × V) → Bool → Type 0
-Compares eq hash key x r = r ≡ ((x.hash == hash) && eq key x.pair.0)
+abbrev pub Compares : {K V : Type 0} → (K → Bool) → ℕ → Held (K × V) → Bool → Type 0
+Compares is_key hash x r = r ≡ ((x.hash == hash) && is_key x.pair.0)
 
 -- no node has both the hash and the key
-abbrev pub IsAbsent : {K V : Type 0} → (K → K → Bool) → ℕ → K → List (Held (K × V)) → Type 0
-IsAbsent {K} {V} eq hash key nodes =
+abbrev pub IsAbsent : {K V : Type 0} → (K → Bool) → ℕ → List (Held (K × V)) → Type 0
+IsAbsent {K} {V} is_key hash nodes =
     (before : List (Held (K × V))) (x : Held (K × V)) (after : List (Held (K × V)))
-    → nodes ≡ before ++ x ∷ after → Compares eq hash key x false
+    → nodes ≡ before ++ x ∷ after → Compares is_key hash x false
 
 -- the node at p is held, and has the hash and the key
-pub record HasKey {K V : Type 0} (eq : K → K → Bool) (hash : ℕ) (key : K)
+pub record HasKey {K V : Type 0} (is_key : K → Bool) (hash : ℕ)
     (nodes : List (Held (K × V))) (p : Ptr) : Type 0 where
   pub held : IsHeld nodes p
   pub hash_is : OfNodeAt nodes p (λ x. x.hash ≡ hash)
-  pub key_is : OfNodeAt nodes p (λ x. eq key x.pair.0 ≡ true)
+  pub key_is : OfNodeAt nodes p (λ x. is_key x.pair.0 ≡ true)
 
 -- the counts of a search that found nothing, and of one that found the key
 pub record CountsAll (xs : List Spot) (n hash visited compared : ℕ) : Type 0 where
@@ -34,27 +34,26 @@ pub record CountsSome (xs : List Spot) (n hash visited compared : ℕ) : Type 0 
   pub visited_few : visited ≤ beside xs n hash
 
 -- a search that ended at p, and one that ended with nothing
-pub record FindsKey {K V : Type 0} (eq : K → K → Bool) (hash : ℕ) (key : K)
+pub record FindsKey {K V : Type 0} (is_key : K → Bool) (hash : ℕ)
     (heads : List (Option Ptr)) (nodes : List (Held (K × V))) (before : Option Ptr) (p : Ptr)
     (visited compared : ℕ) : Type 0 where
   pub on : IsOnChain heads hash (spots nodes) before p
-  pub has : HasKey eq hash key nodes p
+  pub has : HasKey is_key hash nodes p
   pub counts : CountsSome (spots nodes) (length heads) hash visited compared
 
-pub record FindsNone {K V : Type 0} (eq : K → K → Bool) (hash : ℕ) (key : K)
+pub record FindsNone {K V : Type 0} (is_key : K → Bool) (hash : ℕ)
     (heads : List (Option Ptr)) (nodes : List (Held (K × V))) (visited compared : ℕ) : Type 0 where
-  pub absent : IsAbsent eq hash key nodes
+  pub absent : IsAbsent is_key hash nodes
   pub counts : CountsAll (spots nodes) (length heads) hash visited compared
 
 -- no node of these spots has both the hash and the key
-abbrev pub DifferAll : {K V : Type 0} → (K → K → Bool) → ℕ → K → List (Held (K × V)) → List Spot
-    → Type 0
-DifferAll eq hash key nodes [] = Unit {0}
-DifferAll eq hash key nodes (s ∷ ss) =
-    OfNodeAt nodes s.at (λ x. Compares eq hash key x false) × DifferAll eq hash key nodes ss
+abbrev pub DifferAll : {K V : Type 0} → (K → Bool) → ℕ → List (Held (K × V)) → List Spot → Type 0
+DifferAll is_key hash nodes [] = Unit {0}
+DifferAll is_key hash nodes (s ∷ ss) =
+    OfNodeAt nodes s.at (λ x. Compares is_key hash x false) × DifferAll is_key hash nodes ss
 
 -- a search that has passed some spots of the chain and stands before the rest
-pub record IsPart {K V : Type 0} (eq : K → K → Bool) (hash : ℕ) (key : K)
+pub record IsPart {K V : Type 0} (is_key : K → Bool) (hash : ℕ)
     (heads : List (Option Ptr)) (nodes : List (Held (K × V))) (before pointer : Option Ptr)
     (visited compared : ℕ) : Type 0 where
   pub done : List Spot
@@ -66,4 +65,4 @@ pub record IsPart {K V : Type 0} (eq : K → K → Bool) (hash : ℕ) (key : K)
   pub behind : IsLast before done
   pub visited_is : visited ≡ length done
   pub compared_is : compared ≡ same done hash
-  pub differ : DifferAll eq hash key nodes done
+  pub differ : DifferAll is_key hash nodes done

@@ -8,22 +8,29 @@ use Rattle.lhm_ring.specs.Index.{entries, IsIndexed}
 use Rattle.lhm_ring.specs.Buckets.{BucketState}
 use Rattle.lhm_ring.specs.Nodes.{same_ptr}
 
--- the pairs in order, each with its position and its hash and with no chain link; the capacity; and
--- how many nodes rehashes have moved
+-- the pairs in order, each with its position and its hash and with no chain link; the capacity; how
+-- many nodes rehashes have moved; and how many nodes the chunks have
 pub record TableState (B : Type 0) : Type 0 where
   pub held : List (Held B)
   pub capacity : ℕ
   pub rechained : ℕ
+  pub made : ℕ
 
--- the capacity and the count of moved nodes stay
+-- the capacity, the count of moved nodes and that of all nodes stay
 pub record KeepsCounts {B : Type 0} (old new : TableState B) : Type 0 where
   pub capacity : new.capacity ≡ old.capacity
   pub rechained : new.rechained ≡ old.rechained
+  pub made : new.made ≡ old.made
 
 -- a table with this ring and this count
 abbrev pub table_of : {K V : Type 0} → State (K × V) → ℕ → TableState (K × V)
 table_of s rechained =
-    record { held = entries s.held; capacity = length s.held + s.spares; rechained = rechained }
+    record {
+      held = entries s.held;
+      capacity = length s.held + s.spares;
+      rechained = rechained;
+      made = s.nodes;
+    }
 
 -- the index is that of the ring, the count is at most the number of buckets, the capacity is at most
 -- that of a ring, and the chunks have at most as many nodes as there are buckets
@@ -39,10 +46,10 @@ WritesOnly {K} {V} hs p =
     AtHeld hs p (λ xs t ys. (w : V) → change_at p (revalued w) hs ≡ xs ++ revalued w t ∷ ys)
 
 -- the pair at p, which has the hash and the key, was removed
-pub record Removes {K V : Type 0} (eq : K → K → Bool) (hash : ℕ) (key : K)
+pub record Removes {K V : Type 0} (is_key : K → Bool) (hash : ℕ)
     (old new : List (Held (K × V))) (removed : K × V) : Type 0 where
   pub at : Ptr
-  pub has : HasKey eq hash key old at
+  pub has : HasKey is_key hash old at
   pub others : AtHeld old at (λ xs t ys. new ≡ xs ++ ys)
   pub pair_is : AtHeld old at (λ xs t ys. removed ≡ t.pair)
 

@@ -1,11 +1,15 @@
 //! The buckets of an index: each has the head of its chain, and a word of the filter.
-ghost use Rattle.std.specs.Prelude.{◌≡◌, ◌≢◌, ◌%◌, ◌<◌, ◌/◌, ◌^◌, [], length, map, None, IfOk, IsOk, IsSome, ℕ, slice_index_or, slice_set, vec_len, vec_capacity};
+ghost use Rattle.std.specs.Prelude.{◌≡◌, ◌≢◌, ◌%◌, ◌<◌, ◌≤◌, ◌/◌, ◌^◌, [], length, map, None, IfOk, IsOk, IsSome, ℕ, slice_index_or, slice_set, vec_len, vec_capacity};
 ghost use Rattle.lhm_ring.specs.Pointer.{target};
-ghost use Rattle.lhm_ring.specs.Buckets.{IsBucketCount, HasNoChain, SetsBit, leads_to, may_contain};
+ghost use Rattle.std.specs.Int.{IsNextPowerOfTwo};
+ghost use Rattle.lhm_ring.specs.Index.{Indexes, spots};
+ghost use Rattle.lhm_ring.specs.Buckets.{buckets, IsBucketCount, HasNoChain, SetsBit, leads_to, may_contain};
 
 use crate::index::Index;
 use crate::pointer::{Link, Position};
+use crate::ring::Ring;
 use std::alloc::{AllocError, Global};
+use std::marker::PhantomData;
 use std::mem::size_of;
 
 /// The head of a chain. It is not `Drop`, so only `free_heads` ends a vector of heads.
@@ -85,7 +89,46 @@ pub(crate) fn free_words(words: Vec<Word>) {
     words.destroy_empty();
 }
 
+/// Returns the buckets of a capacity: 0 for 0, otherwise the least power of two not below it.
+pub fn buckets_for(capacity: usize) -> usize
+    requires { capacity ≤ 2 ^ 59 }
+    ensures value { result ≡ buckets capacity }
+    ensures enough { capacity ≤ result }
+    ensures none { capacity ≡ 0 → result ≡ 0 }
+    ensures least { 0 < capacity → IsNextPowerOfTwo capacity result }
+{
+    if capacity == 0 {
+        0
+    } else {
+        capacity.next_power_of_two()
+    }
+}
+
 impl<K, V> Index<K, V> {
+    /// Allocates empty buckets for a capacity, in O(n). For 0 it never fails.
+    pub fn with_buckets(alloc: Global, capacity: usize) -> Result<Index<K, V>, AllocError>
+        requires { capacity ≤ 2 ^ 59 }
+        ensures buckets { IfOk result (λ i. length i.heads ≡ buckets capacity) }
+        ensures words { IfOk result (λ i. length i.words ≡ length i.heads) }
+        ensures enough { IfOk result (λ i. capacity ≤ length i.heads) }
+        ensures empty { IfOk result HasNoChain }
+        ensures succeeds { capacity ≡ 0 → IsOk result }
+    {
+        let count = buckets_for(capacity);
+        let heads = new_heads(alloc, count)?;
+        match new_words(alloc, count) {
+            Ok(words) => Ok(Index {
+                heads,
+                words,
+                marker: PhantomData,
+            }),
+            Err(refused) => {
+                free_heads(heads);
+                Err(refused)
+            }
+        }
+    }
+
     /// Returns the bucket of a hash, by a mask.
     pub(crate) fn bucket_of(&self, hash: u64) -> usize
         requires { 0 < length self.now.heads }
@@ -142,5 +185,30 @@ impl<K, V> Index<K, V> {
         if there.is_none() {
             self.words[bucket].bits = 0;
         }
+    }
+
+    /// Removes all chains, in O(n), or O(1) if no node is held.
+    pub fn clear(&mut self, ring: &Ring<K, V>)
+        requires { Indexes self.old (spots ring.now.held) }
+        ensures empty { HasNoChain self.new }
+        ensures words { length self.new.words ≡ length self.old.words }
+        ensures buckets { length self.new.heads ≡ length self.old.heads }
+    {
+        if ring.len() == 0 {
+            return;
+        }
+        clear_heads(&mut self.heads);
+        clear_words(&mut self.words);
+    }
+
+    /// Frees the buckets, in O(n).
+    pub fn free(self) {
+        let Index {
+            heads,
+            words,
+            marker: _,
+        } = self;
+        free_heads(heads);
+        free_words(words);
     }
 }

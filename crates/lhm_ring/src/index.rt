@@ -7,14 +7,15 @@ ghost use Rattle.lhm_ring.specs.Buckets.{buckets, HasNoChain};
 ghost use Rattle.lhm_ring.specs.Search.{HasKey, IsAbsent};
 ghost use Rattle.lhm_ring.specs.Index.{Indexes, spots, OfNodeAt, entries, HoldsOthers, IsOnChain, PutsFirst};
 
-use crate::buckets::{
-    Head, Word, clear_heads, clear_words, free_heads, free_words, new_heads, new_words,
-};
+pub use crate::buckets::buckets_for;
+use crate::buckets::{Head, Word};
 use crate::pointer::{Link, Position};
 use crate::ring::Ring;
 use crate::search::Found;
 pub use crate::search::Probe;
+use equivalent::Equivalent;
 use std::alloc::{AllocError, Global};
+use std::hash::Hash;
 use std::marker::{Model, PhantomData};
 use std::mem;
 
@@ -29,7 +30,7 @@ pub struct Index<K, V> {
     // set, no node has that hash.
     pub(crate) heads: Vec<Head>,
     pub(crate) words: Vec<Word>,
-    marker: PhantomData<*mut (K, V)>,
+    pub(crate) marker: PhantomData<*mut (K, V)>,
 }
 
 impl<K, V> Model for Index<K, V> {
@@ -62,30 +63,6 @@ impl<K, V> Index<K, V> {
         }
     }
 
-    /// Allocates empty buckets for a capacity, in O(n). For 0 it never fails.
-    pub fn with_buckets(alloc: Global, capacity: usize) -> Result<Index<K, V>, AllocError>
-        requires { capacity ≤ 2 ^ 59 }
-        ensures buckets { IfOk result (λ i. length i.heads ≡ buckets capacity) }
-        ensures words { IfOk result (λ i. length i.words ≡ length i.heads) }
-        ensures enough { IfOk result (λ i. capacity ≤ length i.heads) }
-        ensures empty { IfOk result HasNoChain }
-        ensures succeeds { capacity ≡ 0 → IsOk result }
-    {
-        let count = buckets_for(capacity);
-        let heads = new_heads(alloc, count)?;
-        match new_words(alloc, count) {
-            Ok(words) => Ok(Index {
-                heads,
-                words,
-                marker: PhantomData,
-            }),
-            Err(refused) => {
-                free_heads(heads);
-                Err(refused)
-            }
-        }
-    }
-
     /// Returns the number of buckets.
     pub fn buckets(&self) -> usize
         ensures { result ≡ length self.now.heads }
@@ -105,7 +82,22 @@ impl<K, V> Index<K, V> {
         ensures nodes { ring.new.nodes ≡ ring.old.nodes }
         ensures buckets { length self.new.heads ≡ length self.old.heads }
     {
-        let hash = ring.links(at).hash;
+        self.put_in_by_hash(ring, at, ring.links(at).hash);
+    }
+
+    /// Does what `put_in` does, without reading the hash of the node.
+    pub(crate) fn put_in_by_hash(&mut self, ring: &mut Ring<K, V>, at: Position<K, V>, hash: u64)
+        requires some { 0 < length self.old.heads }
+        requires held { IsHeld ring.old.held (pointer_of at) }
+        requires hash { OfNodeAt ring.old.held (pointer_of at) (λ x. hash ≡ x.hash) }
+        ensures first { PutsFirst (pointer_of at) self.old self.new ring.old.held ring.new.held }
+        ensures indexed { HoldsOthers self.old ring.old.held (pointer_of at)
+            → Indexes self.new (spots ring.new.held) }
+        ensures held { entries ring.new.held ≡ entries ring.old.held }
+        ensures spares { ring.new.spares ≡ ring.old.spares }
+        ensures nodes { ring.new.nodes ≡ ring.old.nodes }
+        ensures buckets { length self.new.heads ≡ length self.old.heads }
+    {
         let bucket = self.bucket_of(hash);
         let behind = self.put_first(bucket, hash, Link::to(at.pointer));
         ring.set_link(at, behind);
@@ -189,46 +181,27 @@ impl<K, V> Index<K, V> {
         let mut pointer = ring.first();
         while let Some(at) = pointer {
             pointer = ring.next(at);
-            self.put_in(ring, at);
+            self.put_in_by_hash(ring, at, ring.links(at).hash);
             count += 1;
         }
         count
     }
-
-    /// Removes all chains, in O(n), or O(1) if no node is held.
-    pub fn clear(&mut self, ring: &Ring<K, V>)
-        requires { Indexes self.old (spots ring.now.held) }
-        ensures empty { HasNoChain self.new }
-        ensures words { length self.new.words ≡ length self.old.words }
-        ensures buckets { length self.new.heads ≡ length self.old.heads }
-    {
-        if ring.len() == 0 {
-            return;
-        }
-        clear_heads(&mut self.heads);
-        clear_words(&mut self.words);
-    }
-
-    /// Frees the buckets, in O(n).
-    pub fn free(self) {
-        let Index {
-            heads,
-            words,
-            marker: _,
-        } = self;
-        free_heads(heads);
-        free_words(words);
-    }
 }
 
-impl<K: Eq, V> Index<K, V> {
+impl<K: Eq + Hash, V> Index<K, V> {
     /// Returns the position of the node with this hash and key, if any. It reads no node if the
     /// filter lacks the hash.
-    pub fn position(&self, ring: &Ring<K, V>, hash: u64, key: &K) -> Option<Position<K, V>>
+    pub fn position<Q: Equivalent<K>>(
+        &self,
+        ring: &Ring<K, V>,
+        hash: u64,
+        key: Q,
+    ) -> Option<Position<K, V>>
         requires indexed { Indexes self.now (spots ring.now.held) }
         requires small { length ring.now.held < 2 ^ 64 }
-        ensures found { IfSome result (λ p. HasKey K.eq hash key.now ring.now.held (pointer_of p)) }
-        ensures absent { IfNone result (IsAbsent K.eq hash key.now ring.now.held) }
+        ensures found { IfSome result (λ p.
+            HasKey (Q.equivalent key) hash ring.now.held (pointer_of p)) }
+        ensures absent { IfNone result (IsAbsent (Q.equivalent key) hash ring.now.held) }
     {
         if self.buckets() == 0 {
             return None;
@@ -247,20 +220,5 @@ impl<K: Eq, V> Index<K, V> {
             Some(found) => Some(found.at),
             None => None,
         }
-    }
-}
-
-/// Returns the buckets of a capacity: 0 for 0, otherwise the least power of two not below it.
-pub fn buckets_for(capacity: usize) -> usize
-    requires { capacity ≤ 2 ^ 59 }
-    ensures value { result ≡ buckets capacity }
-    ensures enough { capacity ≤ result }
-    ensures none { capacity ≡ 0 → result ≡ 0 }
-    ensures least { 0 < capacity → IsNextPowerOfTwo capacity result }
-{
-    if capacity == 0 {
-        0
-    } else {
-        capacity.next_power_of_two()
     }
 }

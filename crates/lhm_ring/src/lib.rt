@@ -17,5 +17,6 @@ pub(crate) mod pointer;
 pub(crate) mod resize;
 pub(crate) mod retain;
 pub mod ring;
+pub(crate) mod rotate;
 pub(crate) mod search;
 pub mod table;

@@ -1,7 +1,8 @@
 //! Raises and lowers the capacity, moves all triples side by side, and counts those behind one.
 ghost use Rattle.std.specs.Prelude.{◌≡◌, ◌+◌, ◌<◌, ◌≤◌, ◌^◌, [], length, OnOk, OnErr, ◌++◌, IfSome, IfNone};
 ghost use Rattle.lhm_ring.specs.Ring.{triples, IsHeld, AtHeld};
-ghost use Rattle.lhm_ring.specs.Buckets.{buckets, rechained_raised, rechained_lowered, rechained_fitted};
+ghost use Rattle.lhm_ring.specs.Buckets.{buckets, rechained_raised, rechained_lowered, rechained_fitted, made_raised, made_fitted};
+ghost use Rattle.lhm_ring.specs.Links.{nodes_grown, least_more};
 ghost use Rattle.lhm_ring.specs.Pointer.{pointer_of};
 
 use crate::index::{Index, buckets_for};
@@ -23,6 +24,8 @@ impl<K, V> Table<K, V> {
         ensures rechained { OnOk result
             (self.new.rechained ≡ rechained_raised self.old.rechained (length self.old.held)
             self.old.capacity capacity) }
+        ensures made { OnOk result
+            (self.new.made ≡ made_raised self.old.made self.old.capacity capacity) }
         ensures refused { OnErr result (self.new ≡ self.old) }
     {
         let additional = capacity - self.capacity();
@@ -45,6 +48,8 @@ impl<K, V> Table<K, V> {
         ensures capacity { OnOk result (self.new.capacity ≡ capacity) }
         ensures rechained { OnOk result
             (self.new.rechained ≡ self.old.rechained + length self.old.held) }
+        ensures made { OnOk result (self.new.made ≡ nodes_grown self.old.made capacity
+            (least_more additional self.old.made (buckets capacity))) }
         ensures refused { OnErr result (self.new ≡ self.old) }
     {
         let fresh = Index::with_buckets(self.ring.allocator(), capacity)?;
@@ -70,9 +75,13 @@ impl<K, V> Table<K, V> {
         ensures capacity { OnOk result (self.new.capacity ≡ length self.old.held) }
         ensures rechained { OnOk result (self.new.rechained
             ≡ rechained_fitted self.old.rechained (length self.old.held) self.old.capacity) }
+        ensures made { OnOk result (self.new.made
+            ≡ made_fitted self.old.made (length self.old.held) self.old.capacity) }
         ensures refused { OnErr result (self.new ≡ self.old) }
         ensures some { OnErr result (0 < length self.old.held) }
         ensures spare { OnErr result (length self.old.held < self.old.capacity) }
+        ensures falls { OnErr result
+            (buckets (length self.old.held) < buckets self.old.capacity) }
     {
         let len = self.ring.len();
         if len == 0 {
@@ -89,7 +98,11 @@ impl<K, V> Table<K, V> {
         ensures capacity { OnOk result (self.new.capacity ≡ length self.old.held) }
         ensures rechained { OnOk result
             (self.new.rechained ≡ rechained_lowered (length self.old.held) self.old.capacity) }
+        ensures made { OnOk result (self.new.made
+            ≡ made_fitted self.old.made (length self.old.held) self.old.capacity) }
         ensures refused { OnErr result (self.new ≡ self.old) }
+        ensures falls { OnErr result
+            (buckets (length self.old.held) < buckets self.old.capacity) }
     {
         let len = self.ring.len();
         if buckets_for(len) == self.index.buckets() {
@@ -105,6 +118,7 @@ impl<K, V> Table<K, V> {
         ensures triples { triples self.new.held ≡ triples self.old.held }
         ensures capacity { OnOk result (self.new.capacity ≡ length self.old.held) }
         ensures rechained { OnOk result (self.new.rechained ≡ length self.old.held) }
+        ensures made { OnOk result (self.new.made ≡ length self.old.held) }
         ensures refused { OnErr result (self.new ≡ self.old) }
     {
         let fresh = Index::with_buckets(self.ring.allocator(), self.ring.len())?;
@@ -126,6 +140,7 @@ impl<K, V> Table<K, V> {
         ensures held { self.new.held ≡ [] }
         ensures capacity { self.new.capacity ≡ 0 }
         ensures rechained { self.new.rechained ≡ 0 }
+        ensures made { self.new.made ≡ 0 }
     {
         let alloc = self.ring.allocator();
         mem::replace(self, Table::new(alloc))

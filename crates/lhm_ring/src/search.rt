@@ -1,5 +1,5 @@
 //! Searches along a chain for a key.
-ghost use Rattle.std.specs.Prelude.{◌≡◌, ◌+◌, ◌%◌, ◌<◌, ◌≤◌, ◌^◌, ◌∷◌, [], length, None, Some, IfSome, IfNone, OnSome, slice_index_or};
+ghost use Rattle.std.specs.Prelude.{◌≡◌, Bool, ◌+◌, ◌%◌, ◌<◌, ◌≤◌, ◌^◌, ◌∷◌, [], length, None, Some, IfSome, IfNone, OnSome, slice_index_or};
 ghost use Rattle.lhm_ring.specs.Ring.{IsHeld};
 ghost use Rattle.lhm_ring.specs.Pointer.{pointer_of, pointer_of_some};
 ghost use Rattle.lhm_ring.specs.Index.{Indexes, spot, spots, same, OfNodeAt, entries, HoldsOthers};
@@ -8,6 +8,8 @@ ghost use Rattle.lhm_ring.specs.Search.{Compares, FindsKey, FindsNone, HasKey, I
 use crate::index::Index;
 use crate::pointer::Position;
 use crate::ring::Ring;
+use equivalent::Equivalent;
+use std::hash::Hash;
 
 /// The counts of a lookup.
 #[derive(Clone, Copy, Debug, PartialEq)]
@@ -43,11 +45,11 @@ const FEW_BUCKETS: usize = 1 << 17;
 
 /// Counts a node, and returns whether it has the hash and the key; compares the key only if the
 /// hash is equal.
-fn step<K: Eq, V>(
+fn step<K: Eq + Hash, V, Q: Equivalent<K>>(
     ring: &Ring<K, V>,
     at: Position<K, V>,
     hash: u64,
-    key: &K,
+    key: Q,
     probe: &mut Probe,
 ) -> bool
     requires held { IsHeld ring.now.held (pointer_of at) }
@@ -57,14 +59,14 @@ fn step<K: Eq, V>(
     ensures compared { OfNodeAt ring.now.held (pointer_of at) (λ x.
         probe.new.compared ≡ probe.old.compared + same (spot x ∷ []) hash) }
     ensures found { OfNodeAt ring.now.held (pointer_of at) (λ x.
-        Compares K.eq hash key.now x result) }
+        Compares (Q.equivalent key) hash x result) }
 {
     probe.visited += 1;
     if ring.links(at).hash != hash {
         return false;
     }
     probe.compared += 1;
-    key == ring.key(at)
+    key.equivalent(ring.key(at))
 }
 
 impl<K, V> Reached<K, V> {
@@ -86,24 +88,24 @@ impl<K, V> Reached<K, V> {
     }
 }
 
-impl<K: Eq, V> Index<K, V> {
+impl<K: Eq + Hash, V> Index<K, V> {
     /// Follows the chain of a bucket from its head to the node with the key.
-    fn search(
+    fn search<Q: Equivalent<K>>(
         &self,
         ring: &Ring<K, V>,
         bucket: usize,
         hash: u64,
-        key: &K,
+        key: Q,
     ) -> (Option<Found<K, V>>, Probe)
         requires of_hash { bucket ≡ hash % length self.now.heads }
         requires within { bucket < length self.now.heads }
         requires indexed { Indexes self.now (spots ring.now.held) }
         requires small { length ring.now.held < 2 ^ 64 }
         ensures found { IfSome result.0 (λ f.
-            FindsKey K.eq hash key.now self.now.heads ring.now.held (pointer_of_some f.before)
-            (pointer_of f.at) result.1.visited result.1.compared) }
+            FindsKey (Q.equivalent key) hash self.now.heads ring.now.held
+            (pointer_of_some f.before) (pointer_of f.at) result.1.visited result.1.compared) }
         ensures absent { IfNone result.0
-            (FindsNone K.eq hash key.now self.now.heads ring.now.held result.1.visited
+            (FindsNone (Q.equivalent key) hash self.now.heads ring.now.held result.1.visited
             result.1.compared) }
     {
         let head = self.head(bucket).get();
@@ -112,22 +114,22 @@ impl<K: Eq, V> Index<K, V> {
 
     /// Follows the rest of a chain to the node with the key. Every search of a chain reads the nodes
     /// here, except the first one in `begin`.
-    pub(crate) fn search_on(
+    pub(crate) fn search_on<Q: Equivalent<K>>(
         &self,
         ring: &Ring<K, V>,
         reached: Reached<K, V>,
         hash: u64,
-        key: &K,
+        key: Q,
     ) -> (Option<Found<K, V>>, Probe)
-        requires part { IsPart K.eq hash key.now self.now.heads ring.now.held
+        requires part { IsPart (Q.equivalent key) hash self.now.heads ring.now.held
             (pointer_of_some reached.before) (pointer_of_some reached.next) reached.probe.visited
             reached.probe.compared }
         requires small { length ring.now.held < 2 ^ 64 }
         ensures found { IfSome result.0 (λ f.
-            FindsKey K.eq hash key.now self.now.heads ring.now.held (pointer_of_some f.before)
-            (pointer_of f.at) result.1.visited result.1.compared) }
+            FindsKey (Q.equivalent key) hash self.now.heads ring.now.held
+            (pointer_of_some f.before) (pointer_of f.at) result.1.visited result.1.compared) }
         ensures absent { IfNone result.0
-            (FindsNone K.eq hash key.now self.now.heads ring.now.held result.1.visited
+            (FindsNone (Q.equivalent key) hash self.now.heads ring.now.held result.1.visited
             result.1.compared) }
     {
         let mut probe = reached.probe;
@@ -153,7 +155,7 @@ impl<K: Eq, V> Index<K, V> {
             ≡ Some (pointer_of first) }
         requires within { hash % length self.now.heads < length self.now.heads }
         requires indexed { Indexes self.now (spots ring.now.held) }
-        ensures part { (key : K) → IsPart K.eq hash key self.now.heads ring.now.held
+        ensures part { (is_key : K → Bool) → IsPart is_key hash self.now.heads ring.now.held
             (pointer_of_some result.before) (pointer_of_some result.next) result.probe.visited
             result.probe.compared }
     {
@@ -182,8 +184,8 @@ impl<K: Eq, V> Index<K, V> {
         requires indexed { Indexes self.now (spots ring.now.held) }
         requires small { length ring.now.held < 2 ^ 64 }
         ensures found { IfSome result.0 (λ p.
-            HasKey K.eq hash key.now ring.now.held (pointer_of p)) }
-        ensures absent { IfNone result.0 (IsAbsent K.eq hash key.now ring.now.held) }
+            HasKey (K.eq key.now) hash ring.now.held (pointer_of p)) }
+        ensures absent { IfNone result.0 (IsAbsent (K.eq key.now) hash ring.now.held) }
         ensures counts_found { OnSome result.0
             (CountsSome (spots ring.now.held) (length self.now.heads) hash result.1.visited
             result.1.compared) }
@@ -207,13 +209,18 @@ impl<K: Eq, V> Index<K, V> {
 
     /// Removes the node with this hash and key from its chain, if any, and returns its position. It
     /// reads no node if the filter lacks the hash.
-    pub fn take_out(&mut self, ring: &mut Ring<K, V>, hash: u64, key: &K) -> Option<Position<K, V>>
+    pub fn take_out<Q: Equivalent<K>>(
+        &mut self,
+        ring: &mut Ring<K, V>,
+        hash: u64,
+        key: Q,
+    ) -> Option<Position<K, V>>
         requires indexed { Indexes self.old (spots ring.old.held) }
         requires small { length ring.old.held < 2 ^ 64 }
         ensures found { IfSome result (λ at.
-            HasKey K.eq hash key.now ring.new.held (pointer_of at)) }
+            HasKey (Q.equivalent key) hash ring.new.held (pointer_of at)) }
         ensures lacks { IfSome result (λ at. HoldsOthers self.new ring.new.held (pointer_of at)) }
-        ensures absent { IfNone result (IsAbsent K.eq hash key.now ring.old.held) }
+        ensures absent { IfNone result (IsAbsent (Q.equivalent key) hash ring.old.held) }
         ensures unchanged { IfNone result (self.new ≡ self.old) }
         ensures ring_unchanged { IfNone result (ring.new ≡ ring.old) }
         ensures held { entries ring.new.held ≡ entries ring.old.held }

@@ -13,7 +13,9 @@ pub use crate::index::Probe;
 pub use crate::owned::{IntoIter, OwnedPairs};
 use crate::ring::Ring;
 pub use crate::ring::{Drain, Iter, IterMut, Lent, Position};
+use equivalent::Equivalent;
 use std::alloc::{AllocError, Global};
+use std::hash::Hash;
 use std::marker::Model;
 
 /// Pairs in insertion order, each with its hash, found by hash and key. A [`Position`] stays until
@@ -51,6 +53,7 @@ impl<K, V> Table<K, V> {
         ensures held { result.held ≡ [] }
         ensures capacity { result.capacity ≡ 0 }
         ensures rechained { result.rechained ≡ 0 }
+        ensures made { result.made ≡ 0 }
     {
         Table {
             ring: Ring::new(alloc),
@@ -65,6 +68,7 @@ impl<K, V> Table<K, V> {
         ensures held { IfOk result (λ table. table.held ≡ []) }
         ensures capacity { IfOk result (λ table. table.capacity ≡ capacity) }
         ensures rechained { IfOk result (λ table. table.rechained ≡ 0) }
+        ensures made { IfOk result (λ table. table.made ≡ capacity) }
         ensures succeeds { capacity ≡ 0 → IsOk result }
     {
         let index = Index::with_buckets(alloc, capacity)?;
@@ -100,6 +104,8 @@ impl<K, V> Table<K, V> {
         ensures value { result ≡ self.now.capacity }
         ensures within { length self.now.held ≤ self.now.capacity }
         ensures limit { self.now.capacity ≤ 2 ^ 59 }
+        ensures made { self.now.capacity ≤ self.now.made }
+        ensures made_within { self.now.made ≤ buckets self.now.capacity }
     {
         self.ring.len() + self.ring.spares()
     }
@@ -192,6 +198,17 @@ impl<K, V> Table<K, V> {
         self.ring.move_to_back(at);
     }
 
+    /// Moves the pair at a position to the front. Positions stay.
+    pub fn move_to_front(&mut self, at: Position<K, V>)
+        requires { IsHeld self.old.held (pointer_of at) }
+        ensures first { AtHeld self.old.held (pointer_of at) (λ xs t ys.
+            self.new.held ≡ t ∷ (xs ++ ys)) }
+        ensures keeps { KeepsCounts self.old self.new }
+        ensures apart { IsApart (map (λ t. t.at) self.old.held) }
+    {
+        self.ring.move_to_front(at);
+    }
+
     /// Inserts a pair at the back and returns its position.
     pub fn push_back(&mut self, hash: u64, key: K, value: V) -> Position<K, V>
         requires { length self.old.held < self.old.capacity }
@@ -200,7 +217,7 @@ impl<K, V> Table<K, V> {
         ensures keeps { KeepsCounts self.old self.new }
     {
         let at = self.ring.put_back(hash, key, value);
-        self.index.put_in(&mut self.ring, at);
+        self.index.put_in_by_hash(&mut self.ring, at, hash);
         at
     }
 
@@ -271,13 +288,13 @@ impl<K, V> Table<K, V> {
     }
 }
 
-impl<K: Eq, V> Table<K, V> {
+impl<K: Eq + Hash, V> Table<K, V> {
     /// Returns the position of the pair with this hash and key, if any, and the counts. Asks no
     /// filter.
     pub fn find(&self, hash: u64, key: &K) -> (Option<Position<K, V>>, Probe)
         ensures found { IfSome result.0 (λ p.
-            HasKey K.eq hash key.now self.now.held (pointer_of p)) }
-        ensures absent { IfNone result.0 (IsAbsent K.eq hash key.now self.now.held) }
+            HasKey (K.eq key.now) hash self.now.held (pointer_of p)) }
+        ensures absent { IfNone result.0 (IsAbsent (K.eq key.now) hash self.now.held) }
         ensures counts_found { OnSome result.0
             (CountsSome (spots self.now.held) (buckets self.now.capacity) hash result.1.visited
             result.1.compared) }
@@ -290,17 +307,19 @@ impl<K: Eq, V> Table<K, V> {
 
     /// Returns the position of the pair with this hash and key, if any. It reads no pair if the
     /// filter lacks the hash.
-    pub fn position(&self, hash: u64, key: &K) -> Option<Position<K, V>>
-        ensures found { IfSome result (λ p. HasKey K.eq hash key.now self.now.held (pointer_of p)) }
-        ensures absent { IfNone result (IsAbsent K.eq hash key.now self.now.held) }
+    pub fn position<Q: Equivalent<K>>(&self, hash: u64, key: Q) -> Option<Position<K, V>>
+        ensures found { IfSome result (λ p.
+            HasKey (Q.equivalent key) hash self.now.held (pointer_of p)) }
+        ensures absent { IfNone result (IsAbsent (Q.equivalent key) hash self.now.held) }
     {
         self.index.position(&self.ring, hash, key)
     }
 
     /// Removes and returns the pair with this hash and key, if any. Asks the filter first.
-    pub fn remove(&mut self, hash: u64, key: &K) -> Option<(K, V)>
-        ensures removed { IfSome result (Removes K.eq hash key.now self.old.held self.new.held) }
-        ensures absent { IfNone result (IsAbsent K.eq hash key.now self.old.held) }
+    pub fn remove<Q: Equivalent<K>>(&mut self, hash: u64, key: Q) -> Option<(K, V)>
+        ensures removed { IfSome result
+            (Removes (Q.equivalent key) hash self.old.held self.new.held) }
+        ensures absent { IfNone result (IsAbsent (Q.equivalent key) hash self.old.held) }
         ensures unchanged { IfNone result (self.new ≡ self.old) }
         ensures keeps { KeepsCounts self.old self.new }
     {

@@ -12,6 +12,7 @@ pub mod Iterators
 pub mod Keys
 pub mod Lookups
 pub mod Merges
+pub mod Moves
 pub mod Replay
 pub mod Retained
 pub mod Rounds

@@ -5,4 +5,4 @@ mod Examples
 pub mod HighWater
 pub mod LiveKeys
 pub mod Standing
-mod WithoutModes
+pub mod WithoutKeep

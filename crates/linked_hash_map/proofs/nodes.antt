@@ -11,8 +11,11 @@ pub mod HeldPairs
 pub mod Kept
 pub mod LookupCounts
 pub mod MovedNode
+pub mod MovedToFront
 pub mod Outside
 pub mod PushedPair
 pub mod PutPair
 pub mod Retained
+pub mod Rotated
+pub mod StoredKeys
 pub mod TakenNode

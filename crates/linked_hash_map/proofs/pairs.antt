@@ -1,5 +1,6 @@
 pub mod Calls
 pub mod Clones
+pub mod Ends
 pub mod EntryMaps
 pub mod ExtendSteps
 pub mod Indexes
@@ -7,3 +8,4 @@ pub mod Inserts
 pub mod IteratorLaws
 pub mod OccupiedEntries
 pub mod RehashCounts
+pub mod Written

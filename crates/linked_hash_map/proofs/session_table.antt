@@ -1,3 +1,4 @@
+pub mod HandOuts
 pub mod Leaving
 pub mod Lists
 pub mod Pairs

@@ -1,10 +1,10 @@
 -- What calls make of a map: updates of what it was, so that they name what changes and nothing
 -- else.
-use Rattle.std.specs.Prelude.{◌≡◌, ◌+◌, Bool, max, [], ◌∷◌, ◌++◌, length}
+use Rattle.std.specs.Prelude.{◌≡◌, ◌+◌, Bool, Option, max, [], ◌∷◌, ◌++◌, length}
 use Rattle.linked_hash_map.specs.LinkedMap.{LinkedMap}
 use Rattle.linked_hash_map.specs.Cursor.{without_cursor}
-use Rattle.linked_hash_map.specs.Pairs.{to_back, set_or_push}
-use Rattle.lhm_ring.specs.Buckets.{rechained_raised}
+use Rattle.linked_hash_map.specs.Pairs.{to_back, to_back_by, set_or_push}
+use Rattle.lhm_ring.specs.Buckets.{rechained_raised, made_raised}
 
 module _ {K V S : Type 0} where
   -- with the pair of k and v at the back, and room for it: k is absent
@@ -15,6 +15,7 @@ module _ {K V S : Type 0} where
         pairs = m.pairs ++ (k, v) ∷ [];
         capacity = capacity;
         rechained = rechained_raised m.rechained (length m.pairs) m.capacity capacity;
+        made = made_raised m.made m.capacity capacity;
       }
 
   -- with v as the value of k, in the place of its pair, or at the back if there is none, and room
@@ -26,11 +27,18 @@ module _ {K V S : Type 0} where
         pairs = pairs;
         capacity = capacity;
         rechained = rechained_raised m.rechained (length m.pairs) m.capacity capacity;
+        made = made_raised m.made m.capacity capacity;
       }
 
   -- with the pair of k at the back, and v as its value; nothing is left for a cursor to visit
   abbrev pub refreshed : (K → K → Bool) → LinkedMap K V S → K → V → LinkedMap K V S
   refreshed eq m k v = record (without_cursor m) { pairs = to_back eq m.pairs k v }
+
+  -- the same by what looks up a key
+  abbrev pub refreshed_by : {A : Type 0} → (A → K → Bool) → (A → Option K) → LinkedMap K V S → A
+      → V → LinkedMap K V S
+  refreshed_by eq as_key m k v =
+      record (without_cursor m) { pairs = to_back_by eq as_key m.pairs k v }
 
   -- with no pair; nothing is left for a cursor to visit
   abbrev pub drained : LinkedMap K V S → LinkedMap K V S
@@ -46,5 +54,6 @@ module _ {K V S : Type 0} (old new : LinkedMap K V S) where
   pub record Keeps : Type 0 where
     pub capacity : new.capacity ≡ old.capacity
     pub rechained : new.rechained ≡ old.rechained
+    pub made : new.made ≡ old.made
     pub hasher : new.hasher ≡ old.hasher
     pub mode : new.mode ≡ old.mode

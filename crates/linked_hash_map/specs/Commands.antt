@@ -1,6 +1,6 @@
 -- What commands return and leave if nothing is refused, in the words of single calls.
 use Rattle.std.specs.Prelude.{ℕ, ◌+◌, ◌-◌, max, Bool, true, false, cond, nat_lt, List, [], ◌∷◌}
-use Rattle.std.specs.Prelude.{take, drop, length, slice_get, Option, Some, None, is_some}
+use Rattle.std.specs.Prelude.{map, take, drop, length, slice_get, Option, Some, None, is_some}
 use Rattle.linked_hash_map.specs.declared.map.TheConstants.{LIMIT}
 use Rattle.linked_hash_map.specs.declared.map.Mode.{Mode}
 use Rattle.linked_hash_map.specs.Pairs.{find, value_at, without, to_back, set_value, put}
@@ -20,6 +20,17 @@ module _ {K V : Type 0} where
   is_refusal (Stopped n k v) = true
   is_refusal NoRoom = true
   is_refusal _ = false
+
+  -- how many pairs of the command went in before its refusal, or None if the answer is no refusal
+  abbrev pub refused_after : Answer K V → Option ℕ
+  refused_after (Refused k v) = Some 0
+  refused_after (Stopped n k v) = Some n
+  refused_after NoRoom = Some 0
+  refused_after _ = None
+
+  -- which replies are refusals, and after how many pairs of their commands
+  abbrev pub refusals : List (Reply K V) → List (Option ℕ)
+  refusals replies = map (λ reply. refused_after reply.answer) replies
 
   -- the mode after a command, and after commands in turn
   abbrev pub mode_after : Mode → Command K V → Mode

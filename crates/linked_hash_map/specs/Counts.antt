@@ -1,5 +1,5 @@
 -- What lookups and changes of the capacity count.
-pub use Rattle.lhm_ring.specs.Buckets.{buckets, rechained_raised, rechained_fitted}
+pub use Rattle.lhm_ring.specs.Buckets.{buckets, rechained_raised, rechained_fitted, made_raised, made_fitted}
 use Rattle.std.specs.Prelude.{ℕ, zero, suc, ◌+◌, ◌%◌, ◌==◌, List, count_by}
 
 -- given the hash of each key
@@ -19,3 +19,8 @@ abbrev pub rechained_each : ℕ → ℕ → ℕ → ℕ
 rechained_each rechained c zero = rechained
 rechained_each rechained c (suc n) =
     rechained_each (rechained_raised rechained c c (c + 1)) (c + 1) n
+
+-- the nodes of the chunks, after the same raises
+abbrev pub made_each : ℕ → ℕ → ℕ → ℕ
+made_each made c zero = made
+made_each made c (suc n) = made_each (made_raised made c (c + 1)) (c + 1) n

@@ -1,8 +1,12 @@
 -- Insertions one after another, and what an iterator gives.
-use Rattle.std.specs.Prelude.{◌≡◌, ℕ, ◌-◌, ◌<◌, ◌≤◌, ◌⊎◌, max, Bool, List, [], ◌∷◌, map, length, Option, Some}
+use Rattle.std.specs.Prelude.{◌≡◌, ℕ, ◌+◌, ◌-◌, ◌<◌, ◌≤◌, ◌⊎◌, max, Bool, List, [], ◌∷◌, map, length, Option, Some}
 use Rattle.std.specs.Iterator.{Count, UpTo, Drains, YieldsThen}
 use Rattle.std.specs.Iterator.SizeHint.{IsWithinCount}
-use Rattle.linked_hash_map.specs.Counts.{rechained_each}
+use Rattle.linked_hash_map.specs.Changes.{KeepsSettings}
+use Rattle.linked_hash_map.specs.LinkedMap.{LinkedMap}
+use Rattle.linked_hash_map.specs.Cursor.{to_visit}
+use Rattle.linked_hash_map.specs.Counts.{rechained_each, made_each}
+use Rattle.linked_hash_map.specs.Validity.{IsValid}
 use Rattle.linked_hash_map.specs.declared.map.TheConstants.{LIMIT}
 use Rattle.linked_hash_map.specs.Pairs.{put}
 use Rattle.linked_hash_map.specs.declared.map.Mode.{Mode}
@@ -14,6 +18,27 @@ abbrev pub insert_each : {K V : Type 0} → (K → K → Bool) → Mode → List
 insert_each eq mode pairs [] = pairs
 insert_each eq mode pairs (item ∷ items) =
     insert_each eq mode (put eq mode pairs item.0 item.1) items
+
+-- what so many insertions leave to be visited: all that was, if each made one pair more, as it does
+-- exactly if its key is new; else nothing
+pub record LeavesVisit {K V S : Type 0} (insertions : ℕ) (old new : LinkedMap K V S) : Type 0 where
+  pub stands : length new.pairs ≡ length old.pairs + insertions → to_visit new ≡ to_visit old
+  pub ended : length new.pairs < length old.pairs + insertions → to_visit new ≡ []
+
+module _ {K V S : Type 0} (eq : K → K → Bool) where
+  -- the items went into a map one by one, in its mode; the capacity was raised as far as need be
+  pub record ExtendsWith (old : LinkedMap K V S) (items : List (K × V)) (new : LinkedMap K V S) : Type 0 where
+    pub pairs : new.pairs ≡ insert_each eq old.mode old.pairs items
+    pub capacity : new.capacity ≡ max old.capacity (length new.pairs)
+    pub settings : KeepsSettings old new
+    pub valid : IsValid eq new
+
+  -- the items went into a new map one by one, which has room for no more
+  pub record CollectsInto (items : List (K × V)) (made : LinkedMap K V S) : Type 0 where
+    pub pairs : made.pairs ≡ insert_each eq Touch [] items
+    pub capacity : made.capacity ≡ length made.pairs
+    pub mode : made.mode ≡ Touch
+    pub valid : IsValid eq made
 
 -- whichever iterator it becomes, that has at most n items left
 abbrev pub GivesAtMost : {T I : Type 0} → (T → I → Type 0) → (I → Count) → T → ℕ → Type 0
@@ -60,8 +85,8 @@ module _ {T I K V : Type 0} (becomes : T → I → Type 0) (steps : I → Option
     (source : T) (remaining : I → Count) where
   -- it becomes one iterator: a new map got room for as many pairs as a lower bound that the hint of
   -- this iterator may return, and then all items of this iterator, one by one
-  pub record Collects (eq : K → K → Bool) (contents : List (K × V)) (capacity rechained : ℕ) : Type
-      0 where
+  pub record Collects (eq : K → K → Bool) (contents : List (K × V))
+      (capacity rechained nodes : ℕ) : Type 0 where
     pub iterator : I
     pub made : becomes source iterator
     pub lower : ℕ
@@ -72,6 +97,7 @@ module _ {T I K V : Type 0} (becomes : T → I → Type 0) (steps : I → Option
     pub pairs : contents ≡ insert_each eq Touch [] given
     pub capacity_is : capacity ≡ max lower (length contents)
     pub counted : rechained ≡ rechained_each 0 lower (capacity - lower)
+    pub nodes_are : nodes ≡ made_each lower lower (capacity - lower)
 
   -- it becomes an iterator whose hint may be a lower bound above `LIMIT`
   pub record HintsAboveLimit : Type 0 where

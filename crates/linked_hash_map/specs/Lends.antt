@@ -1,13 +1,13 @@
 -- What a map is once a reference into it has ended.
-use Rattle.std.specs.Prelude.{ℕ, Option}
+use Rattle.std.specs.Prelude.{ℕ, Bool, Option}
 use Rattle.std.specs.Borrow.{Fml, GName, RattleType, MutBor, Array, u8, Lends, LendsIf, follows, follows_if}
 use mathlib.Core.Option as maybe
 use Rattle.std.specs.HashMap.Lent.{HashMembers}
 use Rattle.std.specs.declared.hash.Hasher as hasher
 use Rattle.std.specs.declared.hash.BuildHasher as builder
 use Rattle.linked_hash_map.specs.LinkedMap.{LinkedMap, without_entry}
-use Rattle.linked_hash_map.specs.Changes.{refreshed, drained}
-use Rattle.linked_hash_map.specs.Pairs.{set_value, set_values}
+use Rattle.linked_hash_map.specs.Changes.{refreshed_by, drained}
+use Rattle.linked_hash_map.specs.Pairs.{set_value, set_values, set_first, set_last}
 use Rattle.linked_hash_map.specs.Indexes.{set_value_at}
 use Rattle.linked_hash_map.specs.contracts.map.LinkedHashMap.{the_row}
 
@@ -38,16 +38,28 @@ module _ (K V S H : RattleType) (key : HashMembers K.Denot) (build : builder.Gho
     lends_present k r =
         Lends map_row V m r (λ v. record m.now { pairs = set_value key.eq m.now.pairs k v })
 
-    -- the value of k is the last one written through the reference, and with no reference the map
-    -- is as it was
-    abbrev pub lends_value : K.Denot → Option (MutBor V.Denot) → Fml
-    lends_value k r =
-        LendsIf map_row V m r (λ v. record m.now { pairs = set_value key.eq m.now.pairs k v }) m.now
+    -- by k, which looks up a key
+    module _ {A : Type 0} (eq : A → K.Denot → Bool) where
+      -- the value of k is the last one written through the reference, and with no reference the map
+      -- is as it was
+      abbrev pub lends_value : A → Option (MutBor V.Denot) → Fml
+      lends_value k r =
+          LendsIf map_row V m r (λ v. record m.now { pairs = set_value eq m.now.pairs k v }) m.now
 
-    -- the map is refreshed by k with the last value written through the reference, and with no
-    -- reference it is as it was
-    abbrev pub lends_refreshed : K.Denot → Option (MutBor V.Denot) → Fml
-    lends_refreshed k r = LendsIf map_row V m r (refreshed key.eq m.now k) m.now
+      -- the map is refreshed by k with the last value written through the reference, and with no
+      -- reference it is as it was
+      abbrev pub lends_refreshed : (A → Option K.Denot) → A → Option (MutBor V.Denot) → Fml
+      lends_refreshed as_key k r = LendsIf map_row V m r (refreshed_by eq as_key m.now k) m.now
+
+    -- the value of the first pair, or of the last, is the last one written through the reference, and
+    -- with no reference the map is as it was
+    abbrev pub lends_first : Option (MutBor V.Denot) → Fml
+    lends_first r =
+        LendsIf map_row V m r (λ v. record m.now { pairs = set_first m.now.pairs v }) m.now
+
+    abbrev pub lends_last : Option (MutBor V.Denot) → Fml
+    lends_last r =
+        LendsIf map_row V m r (λ v. record m.now { pairs = set_last m.now.pairs v }) m.now
 
     -- the values are those that the loan with this name ends at, in order
     abbrev pub lends_values : maybe.Option GName → Fml

@@ -1,7 +1,8 @@
 -- What a closure did with the sessions of a table.
-use Rattle.std.specs.Prelude.{◌≡◌, ℕ, Bool, cond, List, [], ◌∷◌, map}
+use Rattle.std.specs.Prelude.{◌≡◌, ℕ, Bool, cond, List, [], ◌∷◌, ◌++◌, map}
 use Rattle.std.specs.Borrow.{MutBor}
-use Rattle.std.specs.Fn.{Called}
+use Rattle.std.specs.Fn.{Called, Takes}
+use Rattle.std.specs.List.{FoldsTo}
 use denote.Param.Members.{Mut}
 use Rattle.linked_hash_map.specs.SessionTables.{Session}
 
@@ -21,6 +22,22 @@ module _ {F T : Type 0} (g : Mut F (ℕ × (ℕ × (MutBor T × Unit {0}))) (Boo
       pub left : MutBor T
       pub called : Called g f (session.0, (session.1, (lent, tt))) (b, (left, tt)) f'
       pub leaves : left.now ≡ payload
+
+    -- f may be called at the session
+    abbrev pub TakesSession : F → Session T → Type 0
+    TakesSession f session = (lent : MutBor T) → lent.now ≡ session.2
+        → Takes g f (session.0, (session.1, (lent, tt)))
+
+    -- a call of f at the session may leave f'
+    abbrev pub SomeCallAtSession : F → Session T → F → Type 0
+    SomeCallAtSession f session f' =
+        (b : Bool) × (payload : T) × CalledAtSession f session b payload f'
+
+    -- the closure may be called at each session, as the calls at the sessions before have left it
+    pub record CallableOnEachSession (f : F) (sessions : List (Session T)) : Type 0 where
+      pub at : (before after : List (Session T)) (session : Session T) (f' : F)
+          → sessions ≡ before ++ session ∷ after → FoldsTo SomeCallAtSession f before f'
+          → TakesSession f' session
 
     -- f was called at each session in turn, and the last argument has those at which it returned
     -- `true`, in order, with their weights and the payloads that it left there. Of the first

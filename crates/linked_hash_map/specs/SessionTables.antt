@@ -3,20 +3,23 @@ use Rattle.std.specs.Prelude.{◌≡◌, ℕ, ◌≤◌, ◌==◌, not, List, []
 use Rattle.std.specs.Prelude.{Option, option_map, unwrap_or}
 use Rattle.std.specs.Borrow.{Bor}
 use Rattle.std.specs.List.{IsDistinct}
+use Rattle.linked_hash_map.specs.declared.map.TheConstants.{LIMIT}
 
 -- a session: its id, its weight and its payload
 abbrev pub Session : Type 0 → Type 0
 Session T = ℕ × ℕ × T
 
--- what a contract sees of a table: its sessions in the order of their last put or touch, and its
--- limit
+-- what a contract sees of a table: its sessions in the order of their last put or touch, its limit,
+-- and how many sessions there is room for
 pub record SessionTable (T : Type 0) : Type 0 where
   pub sessions : List (Session T)
   pub limit : ℕ
+  pub capacity : ℕ
 
 module _ {T : Type 0} where
-  abbrev pub session_table : List (Session T) → ℕ → SessionTable T
-  session_table sessions limit = record { sessions = sessions; limit = limit }
+  abbrev pub session_table : List (Session T) → ℕ → ℕ → SessionTable T
+  session_table sessions limit capacity =
+      record { sessions = sessions; limit = limit; capacity = capacity }
 
   -- what an id, a weight and a `&T` to the payload point to
   abbrev pub deref_session : ℕ × ℕ × Bor T → Session T
@@ -59,6 +62,13 @@ module _ {T : Type 0} where
       if nat_le (total_weight (session ∷ sessions)) limit then session
       ∷ sessions else fit limit sessions
 
+  -- the sessions before that end
+  abbrev pub leaving : ℕ → List (Session T) → List (Session T)
+  leaving limit [] = []
+  leaving limit (session ∷ sessions) =
+      if nat_le (total_weight (session ∷ sessions)) limit then [] else session
+      ∷ leaving limit sessions
+
   -- some sessions come before this end of the list, and the two make the list
   abbrev pub IsEnd : List (Session T) → List (Session T) → Type 0
   IsEnd sessions end = (before : List (Session T)) × (before ++ end ≡ sessions)
@@ -70,8 +80,10 @@ module _ {T : Type 0} where
     pub longest : (other : List (Session T)) → IsEnd sessions other → total_weight other ≤ limit
         → length other ≤ length end
 
-  -- what holds of every table: no two sessions have one id, and the weights sum to at most the
-  -- limit
+  -- what holds of every table: no two sessions have one id, the weights sum to at most the limit,
+  -- there are no more sessions than room, and no more room than a map may have
   pub record IsValidTable (table : SessionTable T) : Type 0 where
     pub distinct : IsDistinct nat_eq (ids_of table.sessions)
     pub within : total_weight table.sessions ≤ table.limit
+    pub room : length table.sessions ≤ table.capacity
+    pub few : table.capacity ≤ LIMIT

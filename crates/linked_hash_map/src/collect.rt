@@ -5,8 +5,10 @@ ghost use Rattle.std.specs.Map.Iter.{deref_pair};
 ghost use Rattle.linked_hash_map.specs.Pairs.{find};
 ghost use Rattle.linked_hash_map.specs.Changes.{KeepsSettings};
 ghost use Rattle.linked_hash_map.specs.Validity.{IsValid};
-ghost use Rattle.linked_hash_map.specs.Counts.{rechained_each};
-ghost use Rattle.linked_hash_map.specs.Inserts.{GivesAtMost, InsertsAll, InsertsUntil, Collects, HintsAboveLimit, NeedsRoom};
+ghost use Rattle.linked_hash_map.specs.Counts.{rechained_each, made_each};
+ghost use Rattle.linked_hash_map.specs.Inserts.{LeavesVisit, GivesAtMost, InsertsAll, InsertsUntil, Collects, HintsAboveLimit, NeedsRoom};
+
+mod traits;
 
 use crate::error::{Refused, ReserveError};
 use crate::map::{LinkedHashMap, Mode};
@@ -40,10 +42,21 @@ impl<K: Eq + Hash, V, S: BuildHasher> LinkedHashMap<K, V, S> {
         ensures rechained { self.new.rechained
             ≡ rechained_each self.old.rechained self.old.capacity
             (self.new.capacity - self.old.capacity) }
+        ensures made { self.new.made
+            ≡ made_each self.old.made self.old.capacity (self.new.capacity - self.old.capacity) }
         ensures settings { KeepsSettings self.old self.new }
+        // A present key ends a visit. If each is new, the same is left to visit.
+        ensures to_visit { OnOk result
+            ((inserts : InsertsAll I.into_iter_gives I.IntoIter.next_gives items K.eq (λ pair. pair)
+            self.old.mode self.old.pairs self.new.pairs)
+            × LeavesVisit (length inserts.given) self.old self.new) }
         ensures valid { IsValid K.eq self.old }
         ensures stays_valid { IsValid K.eq self.new }
 
+        ensures visit_stopped { IfErr result (λ refused.
+            (inserts : InsertsUntil I.into_iter_gives I.IntoIter.next_gives items K.eq (λ pair. pair)
+            self.old.mode self.old.pairs self.new.pairs refused.key refused.value)
+            × LeavesVisit (length inserts.given) self.old self.new) }
         ensures stopped { IfErr result (λ refused.
             InsertsUntil I.into_iter_gives I.IntoIter.next_gives items K.eq (λ pair. pair)
             self.old.mode self.old.pairs self.new.pairs refused.key refused.value) }
@@ -91,10 +104,21 @@ impl<K: Eq + Hash, V, S: BuildHasher> LinkedHashMap<K, V, S> {
         ensures rechained { self.new.rechained
             ≡ rechained_each self.old.rechained self.old.capacity
             (self.new.capacity - self.old.capacity) }
+        ensures made { self.new.made
+            ≡ made_each self.old.made self.old.capacity (self.new.capacity - self.old.capacity) }
         ensures settings { KeepsSettings self.old self.new }
+        // A present key ends a visit. If each is new, the same is left to visit.
+        ensures to_visit { OnOk result
+            ((inserts : InsertsAll I.into_iter_gives I.IntoIter.next_gives items K.eq deref_pair
+            self.old.mode self.old.pairs self.new.pairs)
+            × LeavesVisit (length inserts.given) self.old self.new) }
         ensures valid { IsValid K.eq self.old }
         ensures stays_valid { IsValid K.eq self.new }
 
+        ensures visit_stopped { IfErr result (λ refused.
+            (inserts : InsertsUntil I.into_iter_gives I.IntoIter.next_gives items K.eq deref_pair
+            self.old.mode self.old.pairs self.new.pairs refused.key refused.value)
+            × LeavesVisit (length inserts.given) self.old self.new) }
         ensures stopped { IfErr result (λ refused.
             InsertsUntil I.into_iter_gives I.IntoIter.next_gives items K.eq deref_pair self.old.mode
             self.old.pairs self.new.pairs refused.key refused.value) }
@@ -120,9 +144,8 @@ impl<K: Eq + Hash, V, S: BuildHasher> LinkedHashMap<K, V, S> {
     /// does, hashing its key once. It first reserves the lower bound of `size_hint`, in O(bound),
     /// and the capacity is that or, if larger, the number of pairs; at 0 it does not allocate.
     ///
-    /// Returns `TooLarge` exactly if that bound is above [`LIMIT`](crate::LIMIT), with no item
-    /// taken, and `NoRoom` if an allocation fails or an insertion is refused; the items taken are
-    /// dropped.
+    /// Returns `TooLarge` only if that bound is above [`LIMIT`](crate::LIMIT), with no item taken,
+    /// and `NoRoom` if an allocation fails or an insertion is refused; the items taken are dropped.
     ///
     /// # Examples
     ///
@@ -144,7 +167,7 @@ impl<K: Eq + Hash, V, S: BuildHasher> LinkedHashMap<K, V, S> {
             I.IntoIter.remaining items }
         ensures all { IfOk result (λ map.
             Collects I.into_iter_gives I.IntoIter.next_gives items I.IntoIter.remaining K.eq
-            map.pairs map.capacity map.rechained) }
+            map.pairs map.capacity map.rechained map.made) }
         ensures hasher { IfOk result (λ map. S.is_default map.hasher) }
         ensures mode { IfOk result (λ map. map.mode ≡ Mode.Touch) }
         ensures valid { IfOk result (IsValid K.eq) }

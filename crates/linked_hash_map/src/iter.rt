@@ -13,14 +13,20 @@ use std::iter::FusedIterator;
 use std::marker::Model;
 
 mod into_iter;
+mod into_keys;
+mod into_values;
 mod iter_mut;
 mod keys;
 mod values;
+mod values_mut;
 
 pub use into_iter::IntoIter;
+pub use into_keys::IntoKeys;
+pub use into_values::IntoValues;
 pub use iter_mut::IterMut;
 pub use keys::Keys;
 pub use values::Values;
+pub use values_mut::ValuesMut;
 
 /// A fused double-ended iterator over the pairs, returned by `iter` or a loop over `&map`. Its
 /// methods are O(1).

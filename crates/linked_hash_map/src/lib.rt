@@ -31,14 +31,16 @@
 //!
 //! # Calls by task
 //!
-//! - Create: `new`, `with_capacity`, `with_hasher`, `from_iter`, `clone`.
-//! - Insert: `insert`, `extend`, `extend_refs`, or by an [`Entry`]; after `set_mode(Mode::Keep)` a
-//!   present key keeps its place.
-//! - Look up: `get`, `get_mut`, `contains_key`, `map[&key]`, `front`, `back`, or `get_refresh`,
-//!   which moves the pair to the back.
-//! - Remove: `remove`, `pop_front`, `pop_back`, `retain`, `clear`, `drain`.
-//! - Iterate: `iter`, `iter_mut`, `keys`, `values`, `into_iter`; `entries` or `visit` to remove or
-//!   move pairs on the way.
+//! - Create: `new`, `with_capacity`, `with_hasher`, `from_iter`, `.collect(alloc)`, `clone`.
+//! - Insert: `insert`, `extend`, `extend_refs`, or by an [`Entry`]; `insert_within_capacity` if there
+//!   is room; after `set_mode(Mode::Keep)` a present key keeps its place.
+//! - Look up: `get`, `get_key_value`, `get_mut`, `contains_key`, `map[&key]`, `front`, `back`,
+//!   `front_mut`, `back_mut`, or `get_refresh`, which moves the pair to the back. [`Equivalent`] has
+//!   what a lookup takes: a reference to a key, or `&str` for a `String`.
+//! - Remove: `remove`, `remove_entry`, `pop_front`, `pop_back`, `retain`, `clear`, `drain`.
+//! - Reorder: `move_to_back`, `move_to_front`, `rotate_left`.
+//! - Iterate: `iter`, `iter_mut`, `keys`, `values`, `values_mut`, `into_iter`, `into_keys`,
+//!   `into_values`; `entries` or `visit` to remove or move pairs on the way.
 //! - Memory: `capacity`, `reserve`, `shrink_to_fit`.
 //! - Besides: [`replay`] runs commands, and [`sessions`] has a table with a limit on weights.
 //!
@@ -47,7 +49,8 @@
 //! Lookups, insertions and removals are O(1) on average, and O(n) if all keys hash alike. Below the
 //! capacity no insertion allocates or fails; a refused one hands back its pair. A call that
 //! allocates returns a `Result`, and an error changes nothing, except that an extension keeps what
-//! it inserted before. Nothing panics. [`LinkedHashMap`] says more.
+//! it inserted before. By `?` an error becomes an `io::Error` or an `AllocError` too. Nothing panics.
+//! [`LinkedHashMap`] says more.
 //!
 //! `docs/PROMISES.md` says what is proved, and `docs/CALLING.md` how callers use contracts.
 #![tactic(auto)]
@@ -65,6 +68,7 @@ pub mod sessions;
 
 pub use drain::Drain;
 pub use entry::{Entries, Entry, OccupiedEntry, VacantEntry};
+pub use equivalent::Equivalent;
 pub use error::{NoRoom, Refused, ReserveError};
-pub use iter::{IntoIter, Iter, IterMut, Keys, Values};
+pub use iter::{IntoIter, IntoKeys, IntoValues, Iter, IterMut, Keys, Values, ValuesMut};
 pub use map::{DefaultHashBuilder, LIMIT, LinkedHashMap, Mode, Probe};

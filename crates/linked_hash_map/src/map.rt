@@ -3,6 +3,7 @@
 
 ghost use Rattle.std.specs.Prelude.{◌≡◌, ◌==◌, ◌≤◌, [], length};
 ghost use Rattle.linked_hash_map.specs.Validity.{IsValid};
+ghost use Rattle.linked_hash_map.specs.Counts.{buckets};
 
 mod capacity;
 mod create;
@@ -10,6 +11,7 @@ mod cursor;
 mod get;
 mod insert;
 mod iter;
+mod order;
 mod remove;
 
 use self::cursor::Visit;
@@ -116,8 +118,8 @@ impl<K: Eq + Hash + Drop, V: Drop, S: BuildHasher + Drop> Drop for LinkedHashMap
     }
 }
 
-/// A contract sees the pairs, front to back, capacity, hasher, mode, `rechained` and the pairs left
-/// to visit.
+/// A contract sees the pairs, front to back, capacity, hasher, mode, `rechained`, how many nodes
+/// there are, and the pairs left to visit.
 impl<K: Eq + Hash, V, S: BuildHasher> Model for LinkedHashMap<K, V, S> {
     ghost use Rattle.linked_hash_map.specs.LinkedMap.{LinkedMap};
     ghost use Rattle.linked_hash_map.specs.Nodes.{IsKept, bare, map_of, beside, visit_of};
@@ -144,6 +146,7 @@ impl<K: Eq + Hash, V, S: BuildHasher> LinkedHashMap<K, V, S> {
         ensures mode { result.mode ≡ Mode.Touch }
         ensures valid { IsValid K.eq result }
         ensures rechained { result.rechained ≡ 0 }
+        ensures made { result.made ≡ table.made }
     {
         LinkedHashMap {
             table,
@@ -215,6 +218,8 @@ impl<K: Eq + Hash, V, S: BuildHasher> LinkedHashMap<K, V, S> {
     /// ```
     pub fn capacity(&self) -> usize
         ensures capacity { result ≡ self.now.capacity }
+        ensures made { self.now.capacity ≤ self.now.made }
+        ensures made_within { self.now.made ≤ buckets self.now.capacity }
         ensures valid { IsValid K.eq self.now }
     {
         self.table.capacity()

@@ -32,20 +32,23 @@
 //! ```
 #![tactic(auto, using(crate::proofs::session_table::Pairs::kept_sessions))]
 
-ghost use Rattle.std.specs.Prelude.{◌≡◌, ◌==◌, ◌≤◌, ◌<◌, ◌+◌, ◌++◌, ◌↔◌, ℕ, [], Some, None, false, length, vec_capacity, IfOk, IfErr, OnOk, OnErr, OnSome, IsOk, IsSome, IsErrAnd};
+ghost use Rattle.std.specs.Prelude.{◌≡◌, ◌==◌, ◌≤◌, ◌<◌, ◌+◌, ◌++◌, ◌↔◌, ℕ, [], nat_eq, Some, None, false, length, max, vec_capacity, IfOk, IfErr, OnOk, OnErr, OnSome, IsOk, IsSome, IsErrAnd, IsErrOf};
 ghost use Rattle.std.specs.Borrow.{sem};
 ghost use Rattle.std.specs.Map.Iter.{ShowsInOrder};
 ghost use Rattle.std.specs.Option.{option_copied_mut};
 ghost use Rattle.linked_hash_map.specs.Pairs.{last};
+ghost use Rattle.linked_hash_map.specs.Validity.{IsValid};
 ghost use Rattle.linked_hash_map.specs.SessionTables.{session_of, payload_of, total_weight, without, with_last, to_end, fit, deref_session, IsLongestEnd, IsValidTable};
 
 mod iter;
 mod outcome;
+mod put_with;
 mod retain;
 mod storage;
 
-use self::storage::{Weighted, allocate_for_put, find_leaving, store, weight_at};
-use crate::map::LinkedHashMap;
+use self::storage::{Weighted, allocate_for_put, plan_put, store};
+use crate::error::ReserveError;
+use crate::map::{LIMIT, LinkedHashMap, Mode};
 pub use iter::SessionIter;
 pub use outcome::{Put, PutReason, PutRefused};
 use std::alloc::Global;
@@ -54,10 +57,11 @@ use std::marker::Model;
 /// A table of sessions with a limit on the sum of their weights, in the order of their last put or
 /// touch.
 ///
-/// Only `put` allocates. Only `put`, `touch` and `remove` hash an id, with a fixed seed: whoever
-/// chooses ids can make them collide, and each lookup and removal is then O(n). For ids that
-/// strangers choose use a map: `LinkedHashMap::with_hasher(rt.alloc(), RandomState::new(&rt)?)`.
-/// Dropping a table drops the payloads, in O(n).
+/// Only calls that return a `Result` allocate, and only `reserve` and puts change the capacity.
+/// Only puts, `touch` and `remove` hash an id, with a fixed seed: whoever chooses ids can make them
+/// collide, and each lookup and removal is then O(n). For ids that strangers choose use a map:
+/// `LinkedHashMap::with_hasher(rt.alloc(), RandomState::new(&rt)?)`. Dropping a table drops the
+/// payloads, in O(n).
 ///
 /// # Examples
 ///
@@ -79,14 +83,14 @@ pub struct Sessions<T> {
     alloc: Global,
 }
 
-/// A contract sees the sessions, in order, and the limit.
+/// A contract sees the sessions, in order, the limit and the capacity.
 impl<T> Model for Sessions<T> {
     ghost use Rattle.linked_hash_map.specs.SessionTables.{SessionTable, session_table};
     ghost use Rattle.linked_hash_map.specs.SessionsKept.{sessions_of, IsKeptWithin};
 
     ghost Value = { SessionTable T };
 
-    ghost view = { λ s. session_table (sessions_of s.map.pairs) s.limit };
+    ghost view = { λ s. session_table (sessions_of s.map.pairs) s.limit s.map.capacity };
 
     ghost invariant = { λ s. IsKeptWithin s.map s.total s.limit };
 }
@@ -94,7 +98,25 @@ impl<T> Model for Sessions<T> {
 impl<T> Sessions<T> {
     ghost use Rattle.linked_hash_map.specs.SessionLends.{lends_payload};
 
-    /// Creates an empty table with this limit, in O(1).
+    /// Creates a table of an empty map.
+    fn of_empty(map: LinkedHashMap<u64, Weighted<T>>, limit: u64, alloc: Global) -> Self
+        requires empty { map.pairs ≡ [] }
+        requires mode { map.mode ≡ Mode.Touch }
+        requires valid { IsValid nat_eq map }
+        ensures sessions { result.sessions ≡ [] }
+        ensures limit { result.limit ≡ limit }
+        ensures capacity { result.capacity ≡ map.capacity }
+        ensures valid { IsValidTable result }
+    {
+        Sessions {
+            map,
+            limit,
+            total: 0,
+            alloc,
+        }
+    }
+
+    /// Creates an empty table with this limit and capacity 0, in O(1) without allocating.
     ///
     /// # Examples
     ///
@@ -105,14 +127,89 @@ impl<T> Sessions<T> {
     pub fn new(alloc: Global, limit: u64) -> Self
         ensures sessions { result.sessions ≡ [] }
         ensures limit { result.limit ≡ limit }
+        ensures capacity { result.capacity ≡ 0 }
         ensures valid { IsValidTable result }
     {
-        Sessions {
-            map: LinkedHashMap::new(alloc),
-            limit,
-            total: 0,
-            alloc,
+        Self::of_empty(LinkedHashMap::new(alloc), limit, alloc)
+    }
+
+    /// Creates an empty table with this limit and exactly this capacity, in O(capacity).
+    ///
+    /// Returns `TooLarge` exactly if the capacity is above [`LIMIT`], and `NoRoom` if an allocation
+    /// fails. Capacity 0 does not allocate.
+    ///
+    /// # Examples
+    ///
+    /// ```rust
+    /// let table: Sessions<char> = Sessions::with_capacity(rt.alloc(), 10, 5)?;
+    /// assert_eq!(rt; (table.len(), table.capacity()), (0, 5));
+    /// ```
+    pub fn with_capacity(alloc: Global, limit: u64, capacity: usize) -> Result<Self, ReserveError>
+        ensures sessions { IfOk result (λ table. table.sessions ≡ []) }
+        ensures limit { IfOk result (λ table. table.limit ≡ limit) }
+        ensures capacity { IfOk result (λ table. table.capacity ≡ capacity) }
+        ensures valid { IfOk result IsValidTable }
+
+        ensures too_large { IsErrOf result ReserveError.TooLarge ↔ (LIMIT < capacity) }
+        ensures no_room { IsErrOf result ReserveError.NoRoom → 0 < capacity }
+        ensures no_room_within { IsErrOf result ReserveError.NoRoom → capacity ≤ LIMIT }
+    {
+        match LinkedHashMap::with_capacity(alloc, capacity) {
+            Ok(map) => Ok(Self::of_empty(map, limit, alloc)),
+            Err(error) => Err(error),
         }
+    }
+
+    /// Raises the capacity to exactly the number of sessions plus `additional`, if it is below
+    /// that.
+    ///
+    /// Returns `TooLarge` exactly if the sum is above [`LIMIT`] or overflows, and `NoRoom` if an
+    /// allocation fails. It is O(capacity), the new one, or O(1) without allocating if the old one
+    /// suffices.
+    ///
+    /// # Examples
+    ///
+    /// ```rust
+    /// let mut table = Sessions::new(rt.alloc(), 10);
+    /// table.put(1, 4, "a")?;
+    /// table.reserve(4)?;
+    /// assert_eq!(rt; table.capacity(), 5);
+    /// ```
+    pub fn reserve(&mut self, additional: usize) -> Result<(), ReserveError>
+        ensures sessions { self.new.sessions ≡ self.old.sessions }
+        ensures limit { self.new.limit ≡ self.old.limit }
+        ensures capacity { OnOk result
+            (self.new.capacity ≡ max self.old.capacity (length self.old.sessions + additional)) }
+        ensures valid { IsValidTable self.old }
+        ensures stays_valid { IsValidTable self.new }
+
+        ensures unchanged { OnErr result (self.new ≡ self.old) }
+        ensures too_large { IsErrOf result ReserveError.TooLarge ↔
+            (LIMIT < length self.old.sessions + additional) }
+        ensures no_room { IsErrOf result ReserveError.NoRoom →
+            self.old.capacity < length self.old.sessions + additional }
+        ensures no_room_within { IsErrOf result ReserveError.NoRoom →
+            length self.old.sessions + additional ≤ LIMIT }
+    {
+        self.map.reserve(additional)
+    }
+
+    /// Returns how many sessions the table can hold without allocating, in O(1).
+    ///
+    /// # Examples
+    ///
+    /// ```rust
+    /// let mut table = Sessions::with_capacity(rt.alloc(), 10, 1)?;
+    /// table.put(1, 4, "a")?;
+    /// assert_eq!(rt; table.capacity(), 1);
+    /// table.put(2, 4, "b")?;
+    /// assert_eq!(rt; table.capacity(), 2);
+    /// ```
+    pub fn capacity(&self) -> usize
+        ensures capacity { result ≡ self.now.capacity }
+        ensures valid { IsValidTable self.now }
+    {
+        self.map.capacity()
     }
 
     /// Puts a session at the back, in place of the one with its id, and removes others from the
@@ -121,11 +218,13 @@ impl<T> Sessions<T> {
     ///
     /// Returns `TooHeavy` exactly if the weight is above the limit, otherwise `NoRoom` if an
     /// allocation fails, or at `LIMIT` sessions if none goes, with the payload, and changes
-    /// nothing. A present id that removes none is never out of room.
+    /// nothing. A put that removes none is never out of room if the id is present, or below the
+    /// capacity.
     ///
-    /// It allocates first: a vector of exactly the sessions removed, or, for none, room for a new
-    /// id. It is O(1), and O(1) more for each session removed, or O(n) if the number of buckets
-    /// changes.
+    /// It allocates first: a vector of exactly the sessions removed, or, for none and a new id at
+    /// full capacity, room for one more, which raises the capacity by one. It is O(1), and O(1)
+    /// more for each session removed, or O(n) if the number of buckets changes. `put_with` needs no
+    /// such vector.
     ///
     /// # Examples
     ///
@@ -156,6 +255,8 @@ impl<T> Sessions<T> {
         ensures exact { IfOk result (λ put. vec_capacity put.gone ≡ length put.gone.items) }
         ensures old { IfOk result (λ put. put.old ≡ payload_of self.old.sessions id) }
         ensures limit { self.new.limit ≡ self.old.limit }
+        ensures capacity { OnOk result
+            (self.new.capacity ≡ max self.old.capacity (length self.new.sessions)) }
         ensures valid { IsValidTable self.old }
         ensures stays_valid { IsValidTable self.new }
 
@@ -165,6 +266,14 @@ impl<T> Sessions<T> {
             (self.old.limit < weight) }
         ensures succeeds { IsSome (session_of self.old.sessions id)
             → total_weight (without self.old.sessions id) + weight ≤ self.old.limit → IsOk result }
+        ensures succeeds_below { length self.old.sessions < self.old.capacity
+            → total_weight (without self.old.sessions id) + weight ≤ self.old.limit → IsOk result }
+        ensures full { IsErrAnd result (λ refused. refused.reason ≡ PutReason.NoRoom)
+            → total_weight (without self.old.sessions id) + weight ≤ self.old.limit
+            → length self.old.sessions ≡ self.old.capacity }
+        ensures absent { IsErrAnd result (λ refused. refused.reason ≡ PutReason.NoRoom)
+            → total_weight (without self.old.sessions id) + weight ≤ self.old.limit
+            → session_of self.old.sessions id ≡ None }
     {
         if weight > self.limit {
             return Err(PutRefused {
@@ -172,20 +281,18 @@ impl<T> Sessions<T> {
                 payload,
             });
         }
-        let replaced = weight_at(&self.map, id);
-        let is_new = replaced.is_none();
         // No sum can overflow: the weight is subtracted from the limit, not added to the total.
-        let others = self.total - replaced.unwrap_or(0);
-        let leaving = find_leaving(&self.map, id, others, self.limit - weight);
-        let Ok(mut gone) = allocate_for_put(&mut self.map, self.alloc, is_new, leaving.count) else {
+        let plan = plan_put(&self.map, self.total, id, self.limit - weight);
+        let (is_new, count) = (plan.is_new, plan.count);
+        let Ok(mut gone) = allocate_for_put(&mut self.map, self.alloc, is_new, count) else {
             return Err(PutRefused {
                 reason: PutReason::NoRoom,
                 payload,
             });
         };
         let session = (id, weight, payload);
-        let old = store(&mut self.map, session, is_new, leaving.count, &mut gone);
-        self.total = leaving.staying + weight;
+        let old = store(&mut self.map, session, is_new, count, &mut gone);
+        self.total = plan.staying + weight;
         Ok(Put { old, gone })
     }
 
@@ -237,6 +344,7 @@ impl<T> Sessions<T> {
         ensures payload { result ≡ payload_of self.old.sessions id }
         ensures sessions { self.new.sessions ≡ without self.old.sessions id }
         ensures limit { self.new.limit ≡ self.old.limit }
+        ensures capacity { self.new.capacity ≡ self.old.capacity }
         ensures valid { IsValidTable self.old }
         ensures stays_valid { IsValidTable self.new }
         // Consequences of `payload` and `sessions`, for the proofs of callers.

@@ -12,6 +12,7 @@ mod drains;
 mod drops;
 mod entries;
 mod equal_keys;
+mod errors;
 mod every_call;
 mod failing_checks;
 mod growths;

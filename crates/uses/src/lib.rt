@@ -14,6 +14,7 @@ pub mod modes;
 pub mod numbered;
 pub mod pages;
 pub mod prices;
+pub mod printing;
 pub mod queue;
 pub mod refusal;
 pub mod replaying;

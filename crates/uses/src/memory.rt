@@ -1,5 +1,5 @@
 //! Room made first, so that nothing fails later, and what it cost.
-ghost use Rattle.std.specs.Prelude.{◌≡◌, ◌*◌, ◌<◌, ◌≤◌, [], IfOk, OnOk, OnErr};
+ghost use Rattle.std.specs.Prelude.{◌≡◌, ◌+◌, ◌*◌, ◌<◌, ◌≤◌, [], length, IfOk, OnOk, OnErr};
 ghost use Rattle.std.specs.Int.{IsPowerOfTwo};
 ghost use Rattle.linked_hash_map.specs.Pairs.{value_at, put};
 ghost use Rattle.linked_hash_map.specs.Inserts.{insert_each};
@@ -62,4 +62,19 @@ pub fn rehashed<K: Eq + Hash, V, S: BuildHasher>(map: &LinkedHashMap<K, V, S>) -
     ensures once { IsPowerOfTwo map.now.capacity → result ≤ map.now.capacity }
 {
     map.rechained()
+}
+
+/// Makes room for more pairs, and returns for how many there then is room in all. The map has fewer
+/// than two nodes for each of them.
+#[tactic(auto, using(linked_hash_map::proofs::Callers::Counts::buckets_below))]
+pub fn reserve_room<K: Eq + Hash, V, S: BuildHasher>(
+    map: &mut LinkedHashMap<K, V, S>,
+    additional: usize,
+) -> Result<usize, ReserveError>
+    ensures room { IfOk result (λ room. length map.new.pairs + additional ≤ room) }
+    ensures nodes { IfOk result (λ room. 0 < room → map.new.made < 2 * room) }
+    ensures unchanged { OnErr result (map.new ≡ map.old) }
+{
+    map.reserve(additional)?;
+    Ok(map.capacity())
 }

@@ -1,8 +1,10 @@
 //! A cache of pages, over a table of sessions, which together have at most a limit of bytes.
-ghost use Rattle.std.specs.Prelude.{◌≡◌, ◌==◌, ◌≤◌, ℕ, [], Some, IsSome, false, length, string_bytes, option_copied, IfErr, OnOk, OnErr};
+ghost use Rattle.std.specs.Prelude.{◌≡◌, ◌==◌, ◌≤◌, ◌<◌, ℕ, List, [], Some, IsSome, false, length, String, string_bytes, option_copied, IfOk, IfErr, OnOk, OnErr, IsOk};
 ghost use Rattle.std.specs.Borrow.{sem};
-ghost use Rattle.linked_hash_map.specs.SessionTables.{payload_of, without, with_last, total_weight, IsLongestEnd};
+ghost use Rattle.std.specs.Global.{Global};
+ghost use Rattle.linked_hash_map.specs.SessionTables.{Session, payload_of, without, with_last, total_weight, IsLongestEnd};
 
+use linked_hash_map::ReserveError;
 use linked_hash_map::sessions::{PutRefused, Sessions};
 use std::alloc::Global;
 
@@ -26,9 +28,20 @@ impl Pages {
         }
     }
 
+    /// Makes a cache without pages that has room for so many.
+    pub fn with_room(alloc: Global, limit: u64, pages: usize) -> Result<Self, ReserveError>
+        ensures empty { IfOk result (λ cache. cache.table.sessions ≡ []) }
+        ensures limit { IfOk result (λ cache. cache.table.limit ≡ limit) }
+        ensures room { IfOk result (λ cache. cache.table.capacity ≡ pages) }
+    {
+        let table = Sessions::with_capacity(alloc, limit, pages)?;
+        Ok(Pages { table })
+    }
+
     /// Puts a page in as the one used last, in place of the one with its number. Pages that were
     /// used least recently leave for it, as few as it takes, and those that stay keep their texts.
-    /// A page above the limit is handed back, and so is one that found no memory.
+    /// A page above the limit is handed back, and so is one that found no memory, which only a new
+    /// page needs for which none leaves and no room was made.
     pub fn put(&mut self, number: u64, text: String) -> Result<(), PutRefused<String>>
         ensures stays { OnOk result (payload_of self.new.table.sessions number ≡ Some text) }
         ensures others { (other : ℕ)
@@ -41,6 +54,11 @@ impl Pages {
             (IsLongestEnd self.old.table.limit
             (with_last self.old.table.sessions number (length (string_bytes text)) text)
             self.new.table.sessions) }
+        // No other pages are such an end.
+        ensures only { OnOk result ((pages : List (Session (String Global)))
+            → IsLongestEnd self.old.table.limit
+            (with_last self.old.table.sessions number (length (string_bytes text)) text) pages
+            → pages ≡ self.new.table.sessions) }
         ensures all { OnOk result
             (total_weight (with_last self.old.table.sessions number (length (string_bytes text))
             text)
@@ -49,11 +67,14 @@ impl Pages {
             ≡ with_last self.old.table.sessions number (length (string_bytes text)) text) }
         ensures limit { self.new.table.limit ≡ self.old.table.limit }
 
+        ensures room { length self.old.table.sessions < self.old.table.capacity
+            → length (string_bytes text) ≤ self.old.table.limit → IsOk result }
         ensures handed_back { IfErr result (λ refused. refused.payload ≡ text) }
         ensures unchanged { OnErr result (self.new ≡ self.old) }
     {
         let bytes = text.len() as u64;
-        self.table.put(number, bytes, text)?;
+        self.table
+            .put_with(number, bytes, text, |_number, _bytes, _text| {})?;
         Ok(())
     }
 

@@ -45,10 +45,7 @@ impl Window {
         ensures different { IsDistinct nat_eq (keys_of self.new.seen.pairs) }
         ensures size { self.new.size ≡ self.old.size }
     {
-        match self.seen.insert(number, ()) {
-            Ok(_) => {}
-            Err(_refused) => unreachable!(),
-        }
+        let _old = self.seen.insert_within_capacity(number, ());
         if self.seen.len() <= self.size {
             return None;
         }

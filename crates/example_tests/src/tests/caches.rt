@@ -61,3 +61,12 @@ fn pages_leave_for_others(rt: HostRuntime) {
     check_eq!(rt; given!(rt; pages.take(4).ok_or("no page")).as_str(), "a book");
     check_eq!(rt; given!(rt; pages.take(2).ok_or("no page")).as_str(), "nine");
 }
+
+#[test]
+fn pages_fit_into_the_room_that_was_made(rt: HostRuntime) {
+    let mut pages = given!(rt; Pages::with_room(rt.alloc(), 10, 1));
+    put_page(&rt, rt.alloc(), &mut pages, 1, "four");
+    put_page(&rt, rt.alloc(), &mut pages, 2, "a longer");
+    check_eq!(rt; pages.get(1), None);
+    check_eq!(rt; given!(rt; pages.take(2).ok_or("no page")).as_str(), "a longer");
+}

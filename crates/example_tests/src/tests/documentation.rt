@@ -11,6 +11,7 @@ mod insertion;
 mod iteration;
 mod lookup;
 mod making;
+mod order;
 mod removal;
 mod replaying;
 mod sessions;

@@ -19,6 +19,7 @@ use uses::memory::{empty_out, rehashed, reserve_and_extend, reserve_and_insert};
 use uses::modes::insert_in_place;
 use uses::numbered::{Numbered, add_both};
 use uses::prices::{Prices, limit};
+use uses::printing::insert_and_print;
 use uses::queue::Queue;
 use uses::refusal::{insert_anyway, insert_if_new};
 use uses::retains::{age, keep_frequent};
@@ -306,4 +307,12 @@ fn a_hasher_is_handed_in(rt: HostRuntime) {
     let mut map = given!(rt; for_strangers(&rt, rt.alloc()));
     check_eq!(rt; map.insert("guest", 1), Ok(None));
     check_eq!(rt; map.get(&"guest"), Some(&1));
+}
+
+#[test]
+fn an_insertion_is_printed(rt: HostRuntime) {
+    let mut map = LinkedHashMap::new(rt.alloc());
+    check!(rt; insert_and_print(&rt, &mut map, 1, 10).is_ok());
+    check!(rt; insert_and_print(&rt, &mut map, 1, 11).is_ok());
+    check_eq!(rt; map.get(&1), Some(&11));
 }

@@ -9,7 +9,7 @@ use std::alloc::Global;
 use std::hash::{BuildHasher, RandomState};
 use std::process::Abort;
 use uses::loops::into_list;
-use uses::replaying::{Outcome, replay_under_two_hashers, write_refresh_remove};
+use uses::replaying::{Outcome, replay_in_touch, replay_under_two_hashers, write_refresh_remove};
 
 #[test]
 fn commands_are_replayed(rt: HostRuntime) {
@@ -76,4 +76,11 @@ fn two_hashers_give_the_same_replies(rt: HostRuntime) {
     let (one, another) = replay_under_two_hashers(&mut map, &mut other, commands, copies);
     check_insertions(&rt, rt.alloc(), map, one);
     check_insertions(&rt, rt.alloc(), other, another);
+}
+
+#[test]
+fn replayed_pairs_stand_by_their_last_use(rt: HostRuntime) {
+    let mut map = LinkedHashMap::new(rt.alloc());
+    let outcome = replay_in_touch(&mut map, three_insertions(&rt, rt.alloc()));
+    check_insertions(&rt, rt.alloc(), map, outcome);
 }

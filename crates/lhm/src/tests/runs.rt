@@ -1,8 +1,8 @@
 //! Worked examples.
 
 use super::support::checks::{check_eq, given};
-use super::support::fakes::{NEVER, Output, Sink, Source};
-use crate::run;
+use super::support::fakes::{Sink, Source};
+use crate::{run, run_in_memory};
 use std::alloc::{AllocError, Global};
 use std::process::Abort;
 
@@ -200,16 +200,16 @@ fn lines_that_are_no_command(rt: HostRuntime) {
 }
 
 /// Commands that make room for two pairs, and then put a thousand in and take each out at once, and
-/// the output of their run. The pairs are 1:10 to 1000:10000.
+/// the output of their run. The pairs are 0:0 to 999:999.
 fn thousand_pairs(alloc: Global) -> Result<(Vec<u8>, Vec<u8>), AllocError> {
     let mut input = Vec::new(alloc);
     let mut output = Vec::new(alloc);
     input.extend_from_slice(b"reserve 2\n")?;
     output.extend_from_slice(b"done len=0 cap=2\n")?;
-    for key in 1..=1000u64 {
-        let commands = format!(in alloc; "insert {key} {key}0\npopfront\n")?;
+    for key in 0..1000u64 {
+        let commands = format!(in alloc; "insert {key} {key}\npopfront\n")?;
         input.extend_from_slice(commands.as_bytes())?;
-        let answers = format!(in alloc; "new len=1 cap=2\npair {key} {key}0 len=0 cap=2\n")?;
+        let answers = format!(in alloc; "new len=1 cap=2\npair {key} {key} len=0 cap=2\n")?;
         output.extend_from_slice(answers.as_bytes())?;
     }
     output.extend_from_slice(b"list\n")?;
@@ -218,12 +218,11 @@ fn thousand_pairs(alloc: Global) -> Result<(Vec<u8>, Vec<u8>), AllocError> {
 
 /// Checks that a run of any length writes its output, and tells no fault.
 fn check_long_run(rt: &impl Abort, alloc: Global, input: &[u8], output: &[u8]) {
-    let mut reader = Source::new(input);
-    let mut writer = Output::new(alloc, usize::MAX, NEVER);
-    let mut faults = Sink::new();
-    let status = run(alloc, &mut reader, &mut writer, &mut faults);
-    check_eq!(rt; (status, faults.text()), (0, ""));
-    check_eq!(rt; writer.bytes.as_slice(), output);
+    let mut written = Vec::new(alloc);
+    let mut faults = Vec::new(alloc);
+    let status = run_in_memory(alloc, input, &mut written, &mut faults);
+    check_eq!(rt; (status, faults.len()), (0, 0));
+    check_eq!(rt; written.as_slice(), output);
 }
 
 #[test]

@@ -68,11 +68,11 @@ module _ {K V : Type 0} where
         let k = i.split in
         subst Q k.at_is (f k.before k.node k.after k.is (ap (λ v. v.at) k.at_is ∙ at))
 
-    pub HasKey-kept : (eq : K → K → Bool) (hash : ℕ) (key : K) → HasKey eq hash key old p → HasKey eq hash key new p
-    HasKey-kept eq hash key h = record {
+    pub HasKey-kept : (is_key : K → Bool) (hash : ℕ) → HasKey is_key hash old p → HasKey is_key hash new p
+    HasKey-kept is_key hash h = record {
       held = IsHeld-kept h.held;
       hash_is = OfNodeAt-kept (λ x. x.hash ≡ hash) h.hash_is;
-      key_is = OfNodeAt-kept (λ x. eq key x.pair.0 ≡ true) h.key_is;
+      key_is = OfNodeAt-kept (λ x. is_key x.pair.0 ≡ true) h.key_is;
     }
 
   pub entries-entries : (hs : List (Held (K × V))) → entries (entries hs) ≡ entries hs
@@ -129,15 +129,15 @@ module _ {K V : Type 0} where
       (λ j. (i.before_is j, (k.at_is j, i.after_is j))) seen
 
   -- searches
-  pub HasKey-entries : (eq : K → K → Bool) (hash : ℕ) (key : K) (hs : List (Held (K × V))) (p : Ptr)
-      → HasKey eq hash key hs p → HasKey eq hash key (entries hs) p
-  HasKey-entries eq hash key hs p h = HasKey-kept hs (entries hs) p (entries-entries hs) eq hash key h
+  pub HasKey-entries : (is_key : K → Bool) (hash : ℕ) (hs : List (Held (K × V))) (p : Ptr)
+      → HasKey is_key hash hs p → HasKey is_key hash (entries hs) p
+  HasKey-entries is_key hash hs p h = HasKey-kept hs (entries hs) p (entries-entries hs) is_key hash h
 
-  pub IsAbsent-entries : (eq : K → K → Bool) (hash : ℕ) (key : K) (hs : List (Held (K × V)))
-      → IsAbsent eq hash key hs → IsAbsent eq hash key (entries hs)
-  IsAbsent-entries eq hash key hs none xs t ys e =
+  pub IsAbsent-entries : (is_key : K → Bool) (hash : ℕ) (hs : List (Held (K × V)))
+      → IsAbsent is_key hash hs → IsAbsent is_key hash (entries hs)
+  IsAbsent-entries is_key hash hs none xs t ys e =
       let k = (EntriesCut-split hs xs t ys e).split in
-      subst (λ (u : Held (K × V)). Compares eq hash key u false) k.at_is (none k.before k.node k.after k.is)
+      subst (λ (u : Held (K × V)). Compares is_key hash u false) k.at_is (none k.before k.node k.after k.is)
 
   count_by-entries : (test : ℕ → Bool) (hs : List (Held (K × V))) → count_by (λ s. test s.hash)
       (spots (entries hs)) ≡ count_by (λ s. test s.hash) (spots hs)

@@ -138,15 +138,15 @@ module _ (words : List ℕ) where
         CoversAll-hashes (spots old) (spots new) (hashes-spots old ∙ ap (map (λ t. t.hash)) (sym e) ∙ sym (hashes-spots new))
 
     -- no node has a hash whose bit is not set
-    pub IsAbsent-uncovered : (eq : K → K → Bool) (hash : ℕ) (key : K) (nodes : List (Held (K × V))) → CoversAll words (spots nodes)
-        → may_contain words hash ≡ false → IsAbsent eq hash key nodes
-    IsAbsent-uncovered eq hash key nodes c lacks before x after e =
+    pub IsAbsent-uncovered : (is_key : K → Bool) (hash : ℕ) (nodes : List (Held (K × V))) → CoversAll words (spots nodes)
+        → may_contain words hash ≡ false → IsAbsent is_key hash nodes
+    IsAbsent-uncovered is_key hash nodes c lacks before x after e =
         let covers = subst (λ (zs : List (Held (K × V))). CoversAll words (spots zs)) e c in
         let own : may_contain words x.hash ≡ true = may_contain-covered (spot x)
         (spots (before ++ after)) (spots (before ++ x ∷ after)) (PutsIn-spots before x after) covers
         in
         let other : x.hash ≢ hash = λ is. true≢false (sym own ∙ ap (may_contain words) is ∙ lacks) in
-        sym (ap (λ b. b && eq key x.pair.0) (ne_eqb x.hash hash other))
+        sym (ap (λ b. b && is_key x.pair.0) (ne_eqb x.hash hash other))
 
 pub CoversAll-more : (old new : List ℕ) → ((hash : ℕ) → may_contain old hash ≡ true → may_contain new hash ≡ true) → (xs : List Spot)
     → CoversAll old xs → CoversAll new xs

@@ -37,12 +37,13 @@ pub PutsIn-last : {K V : Type 0} (others : List (Held (K × V))) (x : Held (K ×
 PutsIn-last {K} {V} others x =
     subst (λ (v : List (Held (K × V))). PutsIn (spot x) (spots v) (spots (others ++ x ∷ []))) (append-nil others) (PutsIn-spots others x [])
 
-pub HasChains-to_back : {K V : Type 0} (heads : List (Option Ptr)) (before : List (Held (K × V)))
-    (x : Held (K × V)) (after : List (Held (K × V)))
-    → HasChains heads (spots (before ++ x ∷ after)) → HasChains heads (spots ((before ++ after) ++ x ∷ []))
-HasChains-to_back heads before x after h =
-    HasChains-elsewhere heads (spot x) (spots (before ++ after)) (spots (before ++ x ∷ after)) (spots ((before ++ after) ++ x ∷ []))
-    (PutsIn-spots before x after) (PutsIn-last (before ++ after) x) h
+pub HasChains-moved : {K V : Type 0} (heads : List (Option Ptr)) (before : List (Held (K × V)))
+    (x : Held (K × V)) (after : List (Held (K × V))) {moved : List Spot}
+    → PutsIn (spot x) (spots (before ++ after)) moved
+    → HasChains heads (spots (before ++ x ∷ after)) → HasChains heads moved
+HasChains-moved heads before x after {moved} puts h =
+    HasChains-elsewhere heads (spot x) (spots (before ++ after)) (spots (before ++ x ∷ after)) moved
+    (PutsIn-spots before x after) puts h
 
 -- the value at p written
 pub spots-value : {K V : Type 0} (p : Ptr) (w : V) (nodes : List (Held (K × V))) → spots (change_at p (revalued w) nodes) ≡ spots nodes

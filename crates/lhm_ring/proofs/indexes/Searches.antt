@@ -62,12 +62,12 @@ IsHeld-head {K} {V} {heads} {nodes} {p} bucket within i head =
     IsHeld-spot (OnNode-rearranged n bucket [] b.node b.after nodes
     (subst (λ (v : List Spot). IsRearranged v (filter (is_in n bucket) (spots nodes))) b.is h.holds)).of b.at_is
 
-DifferAll-push : {K V : Type 0} (eq : K → K → Bool) (hash : ℕ) (key : K)
-    (nodes : List (Held (K × V))) (ss : List Spot) (s : Spot) → DifferAll eq hash key nodes ss
-    → OfNodeAt nodes s.at (λ x. Compares eq hash key x false) → DifferAll eq hash key nodes
+DifferAll-push : {K V : Type 0} (is_key : K → Bool) (hash : ℕ)
+    (nodes : List (Held (K × V))) (ss : List Spot) (s : Spot) → DifferAll is_key hash nodes ss
+    → OfNodeAt nodes s.at (λ x. Compares is_key hash x false) → DifferAll is_key hash nodes
     (ss ++ s ∷ [])
-DifferAll-push eq hash key nodes [] s h k = (k, tt)
-DifferAll-push eq hash key nodes (x ∷ ss) s h k = (h.0, DifferAll-push eq hash key nodes ss s h.1 k)
+DifferAll-push is_key hash nodes [] s h k = (k, tt)
+DifferAll-push is_key hash nodes (x ∷ ss) s h k = (h.0, DifferAll-push is_key hash nodes ss s h.1 k)
 
 and-left : (a b : Bool) → true ≡ (a && b) → a ≡ true
 and-left true b e = refl
@@ -82,8 +82,8 @@ not-left true b e = absurd (cc)
 not-left false b e = refl
 
 -- a search that stands at p
-module _ {K V : Type 0} {eq : K → K → Bool} {hash : ℕ} {key : K} {heads : List (Option Ptr)} {nodes : List (Held (K × V))}
-    {before pointer : Option Ptr} {p : Ptr} {visited compared : ℕ} (w : IsPart eq hash key heads nodes before pointer visited compared)
+module _ {K V : Type 0} {is_key : K → Bool} {hash : ℕ} {heads : List (Option Ptr)} {nodes : List (Held (K × V))}
+    {before pointer : Option Ptr} {p : Ptr} {visited compared : ℕ} (w : IsPart is_key hash heads nodes before pointer visited compared)
     (some : pointer ≡ Some p) where
   abbrev IsOnChain-part : IsOnChain heads hash (spots nodes) before p
   IsOnChain-part =
@@ -121,12 +121,12 @@ module _ {K V : Type 0} {eq : K → K → Bool} {hash : ℕ} {key : K} {heads : 
   -- its node is visited, and compared
   module _ {visited' compared' : ℕ} {equal : Bool} (v : visited' ≡ visited + 1)
       (c : OfNodeAt nodes p (λ x. compared' ≡ compared + same (spot x ∷ []) hash))
-      (d : OfNodeAt nodes p (λ x. Compares eq hash key x equal)) where
+      (d : OfNodeAt nodes p (λ x. Compares is_key hash x equal)) where
     compared-here : compared' ≡ compared + same (IsOnChain-part.here ∷ []) hash
     compared-here = here-part (λ s. compared' ≡ compared + same (s ∷ []) hash) c
 
     pub IsPart-more : {link : Option Ptr} → equal ≡ false → OfNodeAt nodes p (λ x. link ≡ x.link)
-        → IsPart eq hash key heads nodes (Some p) link visited' compared'
+        → IsPart is_key hash heads nodes (Some p) link visited' compared'
     IsPart-more {link} off l =
         let b : IsOnChain heads hash (spots nodes) before p = IsOnChain-part in
         let head : Option Ptr = get_or heads (hash % length heads) None in
@@ -145,15 +145,15 @@ module _ {K V : Type 0} {eq : K → K → Bool} {hash : ℕ} {key : K} {heads : 
           behind = inr (record { before = b.done; node = b.here; is = refl; at_is = ap Some b.at_is });
           visited_is = (omega (arith, v, w.visited_is, len));
           compared_is = (omega (arith, compared-here, w.compared_is, ca));
-          differ = DifferAll-push eq hash key nodes b.done b.here w.differ (λ xs x ys i j. sym off ∙ d xs x ys i (j ∙ b.at_is));
+          differ = DifferAll-push is_key hash nodes b.done b.here w.differ (λ xs x ys i j. sym off ∙ d xs x ys i (j ∙ b.at_is));
         }
 
-    pub FindsKey-part : equal ≡ true → FindsKey eq hash key heads nodes before p visited' compared'
+    pub FindsKey-part : equal ≡ true → FindsKey is_key hash heads nodes before p visited' compared'
     FindsKey-part on =
         let b : IsOnChain heads hash (spots nodes) before p = IsOnChain-part in
         let test : Spot → Bool = λ u. eqb u.hash hash in
         let hit : OfNodeAt nodes p (λ x. eqb x.hash hash ≡ true) =
-        λ xs x ys i j. and-left (eqb x.hash hash) (eq key x.pair.0) (sym on ∙ d xs x ys i j) in
+        λ xs x ys i j. and-left (eqb x.hash hash) (is_key x.pair.0) (sym on ∙ d xs x ys i j) in
         let unit = ap (λ u. 0 + cond {A = ℕ} u 1 0) (here-part (λ s. eqb s.hash hash ≡ true) hit) in
         let one : compared' ≡ compared + same (b.here ∷ []) hash = compared-here in
         let split = count_by-append test b.done (b.here ∷ b.rest) in
@@ -167,7 +167,7 @@ module _ {K V : Type 0} {eq : K → K → Bool} {hash : ℕ} {key : K} {heads : 
           has = record {
             held = IsHeld-part;
             hash_is = λ xs x ys i j. eqb-true x.hash hash (hit xs x ys i j);
-            key_is = λ xs x ys i j. and-right (eqb x.hash hash) (eq key x.pair.0) (sym on ∙ d xs x ys i j);
+            key_is = λ xs x ys i j. and-right (eqb x.hash hash) (is_key x.pair.0) (sym on ∙ d xs x ys i j);
           };
           counts = record {
             some = (omega (arith, one, unit));
@@ -180,29 +180,29 @@ module _ {K V : Type 0} {eq : K → K → Bool} {hash : ℕ} {key : K} {heads : 
   -- its node has another hash, and the key is not compared
   pub IsPart-passed : (other : ℕ) (follows : Bool) {link : Option Ptr} → OfNodeAt nodes p (λ x. other ≡ x.hash)
       → (not (eqb other hash) && follows) ≡ true → OfNodeAt nodes p (λ x. link ≡ x.link)
-      → IsPart eq hash key heads nodes (Some p) link (visited + 1) compared
+      → IsPart is_key hash heads nodes (Some p) link (visited + 1) compared
   IsPart-passed other follows h t l =
       let off : OfNodeAt nodes p (λ x. eqb x.hash hash ≡ false) =
       λ xs x ys i j. ap (λ u. eqb u hash) (sym (h xs x ys i j)) ∙ not-left (eqb other hash) follows t in
       IsPart-more {equal = false} refl
       (λ xs x ys i j. let none : same (spot x ∷ []) hash ≡ 0 = ap (λ u. 0 + cond {A = ℕ} u 1 0) (off xs x ys i j) in omega arith)
-      (λ xs x ys i j. sym (ap (λ u. u && eq key x.pair.0) (off xs x ys i j))) refl l
+      (λ xs x ys i j. sym (ap (λ u. u && is_key x.pair.0) (off xs x ys i j))) refl l
 
-OfNodeAt-differs : {K V : Type 0} (eq : K → K → Bool) (hash : ℕ) (key : K)
+OfNodeAt-differs : {K V : Type 0} (is_key : K → Bool) (hash : ℕ)
     (nodes : List (Held (K × V))) (us : List Spot) (s : Spot) (vs : List Spot)
-    → DifferAll eq hash key nodes (us ++ s ∷ vs)
-    → OfNodeAt nodes s.at (λ x. Compares eq hash key x false)
-OfNodeAt-differs eq hash key nodes [] s vs h = h.0
-OfNodeAt-differs eq hash key nodes (u ∷ us) s vs h = OfNodeAt-differs eq hash key nodes us s vs h.1
+    → DifferAll is_key hash nodes (us ++ s ∷ vs)
+    → OfNodeAt nodes s.at (λ x. Compares is_key hash x false)
+OfNodeAt-differs is_key hash nodes [] s vs h = h.0
+OfNodeAt-differs is_key hash nodes (u ∷ us) s vs h = OfNodeAt-differs is_key hash nodes us s vs h.1
 
 append-end : {X : Type 0} (xs ys : List X) → ys ≡ [] → xs ++ ys ≡ xs
 append-end xs ys e = ap (λ v. xs ++ v) e ∙ append-nil xs
 
-pub FindsNone-part : {K V : Type 0} {eq : K → K → Bool} {hash : ℕ} {key : K}
+pub FindsNone-part : {K V : Type 0} {is_key : K → Bool} {hash : ℕ}
     {heads : List (Option Ptr)} {nodes : List (Held (K × V))} {before pointer : Option Ptr}
-    {visited compared : ℕ} → IsPart eq hash key heads nodes before pointer visited compared
-    → pointer ≡ None → FindsNone eq hash key heads nodes visited compared
-FindsNone-part {K} {V} {eq} {hash} {key} {heads} {nodes} w none =
+    {visited compared : ℕ} → IsPart is_key hash heads nodes before pointer visited compared
+    → pointer ≡ None → FindsNone is_key hash heads nodes visited compared
+FindsNone-part {K} {V} {is_key} {hash} {heads} {nodes} w none =
     let n : ℕ = length heads in
     let q : Spot → Bool = is_in n (hash % n) in
     let whole : w.done ++ w.rest ≡ w.done = append-end w.done w.rest
@@ -217,19 +217,19 @@ FindsNone-part {K} {V} {eq} {hash} {key} {heads} {nodes} w none =
                 let m = SplitAround-rearranged w.done (spot x)
                 (filter q (spots (before' ++ after'))) (filter q (spots nodes)) h
                 (PutsIn-bucket before' x after' e n (sym t.1)) in
-                let d = subst (λ (u : List Spot). DifferAll eq hash key nodes u) m.is w.differ in
-                OfNodeAt-differs eq hash key nodes m.before (spot x) m.after d before' x after' e refl
-            | inr t ↦ ap (λ u. u && eq key x.pair.0) (sym t.0)
+                let d = subst (λ (u : List Spot). DifferAll is_key hash nodes u) m.is w.differ in
+                OfNodeAt-differs is_key hash nodes m.before (spot x) m.after d before' x after' e refl
+            | inr t ↦ ap (λ u. u && is_key x.pair.0) (sym t.0)
           ];
       counts = record { visited_all = w.visited_is ∙ long; compared_all = w.compared_is ∙ all };
     }
 
 -- before the first node of the chain
-pub IsPart-first : {K V : Type 0} {eq : K → K → Bool} {hash : ℕ} {key : K} {heads : List (Option Ptr)} {nodes : List (Held (K × V))}
+pub IsPart-first : {K V : Type 0} {is_key : K → Bool} {hash : ℕ} {heads : List (Option Ptr)} {nodes : List (Held (K × V))}
     {before pointer : Option Ptr} {visited compared : ℕ} → before ≡ None → pointer ≡ get_or heads (hash % length heads) None
     → visited ≡ 0 → compared ≡ 0 → hash % length heads < length heads → HasChains heads (spots nodes)
-    → IsPart eq hash key heads nodes before pointer visited compared
-IsPart-first {K} {V} {eq} {hash} {key} {heads} {nodes} {before} {pointer} {visited} {compared} first
+    → IsPart is_key hash heads nodes before pointer visited compared
+IsPart-first {K} {V} {is_key} {hash} {heads} {nodes} {before} {pointer} {visited} {compared} first
     is none_visited none_compared within i =
     let h = i.chains (hash % length heads) within in
     record {

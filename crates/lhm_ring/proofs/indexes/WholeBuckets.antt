@@ -9,7 +9,7 @@ use Rattle.lhm_ring.proofs.indexes.Chains.{none-IsChain}
 use Rattle.lhm_ring.proofs.indexes.Filters.{CoversAll-put, CoversAll-others, CoversAll-more}
 use Rattle.lhm_ring.proofs.indexes.Filters.{CoversAll-cleared, CoversAll-entries}
 use Rattle.lhm_ring.proofs.indexes.Filters.{may_contain-covered}
-use Rattle.lhm_ring.proofs.indexes.IndexMoves.{HasChains-to_back, PutsIn-last}
+use Rattle.lhm_ring.proofs.indexes.IndexMoves.{HasChains-moved}
 use Rattle.lhm_ring.proofs.indexes.IndexTakes.{HasOtherChains}
 use Rattle.lhm_ring.proofs.indexes.Spots.{PutsIn-spots}
 use Rattle.lhm_ring.proofs.indexes.WholeIndex.{HasChains-put, HasChains-none, get_or-none_indexed}
@@ -38,17 +38,20 @@ module _ {K V : Type 0} (words : List ℕ) (before : List (Held (K × V))) (x : 
   CoversAll-rest : CoversAll words (spots (before ++ x ∷ after)) → CoversAll words (spots (before ++ after))
   CoversAll-rest = CoversAll-others words (spot x) (spots (before ++ after)) (spots (before ++ x ∷ after)) (PutsIn-spots before x after)
 
-  CoversAll-to_back : CoversAll words (spots (before ++ x ∷ after)) → CoversAll words (spots ((before ++ after) ++ x ∷ []))
-  CoversAll-to_back c =
-      CoversAll-put words (spot x) (spots (before ++ after)) (spots ((before ++ after) ++ x ∷ [])) (PutsIn-last (before ++ after) x)
+  CoversAll-moved : (moved : List Spot) → PutsIn (spot x) (spots (before ++ after)) moved
+      → CoversAll words (spots (before ++ x ∷ after)) → CoversAll words moved
+  CoversAll-moved moved puts c =
+      CoversAll-put words (spot x) (spots (before ++ after)) moved puts
       (may_contain-covered words (spot x) (spots (before ++ after)) (spots (before ++ x ∷ after)) (PutsIn-spots before x after) c)
       (CoversAll-rest c)
 
-pub Indexes-to_back : {K V : Type 0} (i : BucketState) (before : List (Held (K × V))) (x : Held (K × V)) (after : List (Held (K × V)))
-    → Indexes i (spots (before ++ x ∷ after)) → Indexes i (spots ((before ++ after) ++ x ∷ []))
-Indexes-to_back i before x after h = record {
-  chains = HasChains-to_back i.heads before x after h.chains;
-  covers = CoversAll-to_back i.words before x after h.covers;
+-- a node was moved
+pub Indexes-moved : {K V : Type 0} (i : BucketState) (before : List (Held (K × V))) (x : Held (K × V)) (after : List (Held (K × V)))
+    {moved : List Spot} → PutsIn (spot x) (spots (before ++ after)) moved
+    → Indexes i (spots (before ++ x ∷ after)) → Indexes i moved
+Indexes-moved i before x after {moved} puts h = record {
+  chains = HasChains-moved i.heads before x after puts h.chains;
+  covers = CoversAll-moved i.words before x after moved puts h.covers;
   count = h.count;
 }
 

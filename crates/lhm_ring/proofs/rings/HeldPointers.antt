@@ -1,16 +1,16 @@
 -- The pointers of what is held: they are apart, so that each is that of one triple.
-use Rattle.std.proofs.Common.{◌≡◌, ℕ, false, List, [], ◌∷◌, ◌++◌, map, refl, sym, ap, ◌∙◌, subst}
+use Rattle.std.proofs.Common.{◌≡◌, ℕ, false, List, [], ◌∷◌, ◌++◌, map, refl, sym, ap, ◌∙◌, subst, true≢false}
 use Rattle.std.proofs.lemmas.List.{map-append}
 use Rattle.std.specs.List.{AllByRecursion}
 use denote.RawPtr.{Ptr, null_ptr}
 use Rattle.lhm_ring.specs.declared.pointer.Link.{Link}
 use Rattle.lhm_ring.specs.declared.ring.Links.{Links}
-use Rattle.lhm_ring.proofs.lists.Apart.{IsFresh, IsApart-left, IsApart-tail, IsApart-removed}
+use Rattle.lhm_ring.proofs.lists.Apart.{IsFresh, same_ptr-reflexive, IsFresh-head, IsApart-left, IsApart-tail, IsApart-removed}
 use Rattle.lhm_ring.proofs.rings.Contents.{at-content}
 use Rattle.lhm_ring.proofs.lists.LinkRows.{follow-row}
 use Rattle.lhm_ring.specs.Nodes.{Cell, same_ptr, IsApart}
 use Rattle.lhm_ring.specs.Links.{HasContent, follow, listed, one_of, ring_list, ring_pointers, IsOwned}
-use Rattle.lhm_ring.specs.Ring.{State, state, Held}
+use Rattle.lhm_ring.specs.Ring.{State, state, Held, IsHeld, AtHeld}
 
 module _ {B : Type 0} where
   abbrev pub pointers_of : List (Held B) → List Ptr
@@ -30,6 +30,31 @@ module _ {B : Type 0} where
   IsApart-without_node xs t ys d =
       subst IsApart (sym (pointers_of-append xs ys)) (IsApart-removed (pointers_of xs) t.at
       (pointers_of ys) (subst IsApart (pointers_of-append xs (t ∷ ys)) d))
+
+  not_again : (t : Held B) (hs us : List (Held B)) (v : Held B) (ws : List (Held B))
+      → IsApart (pointers_of (t ∷ hs)) → hs ≡ us ++ v ∷ ws → v.at ≡ t.at → ⊥
+  not_again t hs us v ws d e at =
+      let fresh : IsFresh t.at (pointers_of (us ++ v ∷ ws)) =
+      subst (λ ks. IsFresh t.at (pointers_of ks)) e (IsFresh-head t.at (pointers_of hs) d) in
+      true≢false (sym (same_ptr-reflexive t.at) ∙ ap (same_ptr t.at) (sym at) ∙ same_ptr-fresh t.at us v ws fresh)
+
+  alike : (hs xs : List (Held B)) (t : Held B) (ys us : List (Held B)) (v : Held B)
+      (ws : List (Held B)) → IsApart (pointers_of hs) → hs ≡ xs ++ t ∷ ys → hs ≡ us ++ v ∷ ws
+      → t.at ≡ v.at → (t ≡ v) × (ys ≡ ws)
+  alike [] [] t ys us v ws d e f at = absurd (cc)
+  alike [] (x ∷ xs) t ys us v ws d e f at = absurd (cc)
+  alike (h ∷ hs) [] t ys [] v ws d e f at = (cc, cc)
+  alike (h ∷ hs) [] t ys (u ∷ us) v ws d e f at = let rest : hs ≡ us ++ v ∷ ws = cc in
+      let here : v.at ≡ h.at = cc in absurd (not_again h hs us v ws d rest here)
+  alike (h ∷ hs) (x ∷ xs) t ys [] v ws d e f at = let rest : hs ≡ xs ++ t ∷ ys = cc in
+      let here : t.at ≡ h.at = cc in absurd (not_again h hs xs t ys d rest here)
+  alike (h ∷ hs) (x ∷ xs) t ys (u ∷ us) v ws d e f at = alike hs xs t ys us v ws
+      (IsApart-tail h.at (pointers_of hs) d) (cc) (cc) at
+
+  -- no two lie at one pointer, so what is held there is one, and so is what is behind it
+  pub AtHeld-alone : {hs : List (Held B)} {p : Ptr} → IsApart (pointers_of hs) → (h : IsHeld hs p)
+      → AtHeld hs p (λ xs t ys. (h.node ≡ t) × (h.after ≡ ys))
+  AtHeld-alone {hs} d h xs t ys e at = alike hs h.before h.node h.after xs t ys d h.is e (h.at_is ∙ sym at)
 
   pub pointers-listed : (cs : List (Cell Links B)) (ps : List Ptr) → AllByRecursion (HasContent cs) ps → pointers_of (listed cs ps) ≡ ps
   unfolding listed

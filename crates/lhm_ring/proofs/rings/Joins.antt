@@ -122,3 +122,28 @@ module _ {B : Type 0} where
       (IsFresh-head g ps d) (same_ptr-flip p g free.0, tt)) first in
       AreLinked-glued es g (ps ++ p ∷ []) g [] second (subst (λ z. AreNeighbours es z g)
       (sym (last_from-push g ps p)) (AreNeighbours-made k)) tt
+
+  -- a node p comes first
+  pub AreLinked-first : {cs ds es : List (Cell Links B)} (g : Ptr) (ps : List Ptr) (p : Ptr)
+      → IsApart (g ∷ ps) → IsFresh p (g ∷ ps) → AreLinked cs (g ∷ (ps ++ g ∷ []))
+      → IsJoined cs ds p (next_at cs g) → IsJoined ds es g p → AreLinked es (g ∷ p ∷ (ps ++ g ∷ []))
+  AreLinked-first {cs} {ds} {es} g ps p d free l j k =
+      let P : Ptr → Type 0 = λ q. same_ptr p q ≡ false in (
+        AreNeighbours-made k,
+        AreLinked-unchanged k (p ∷ (ps ++ g ∷ []))
+            (AvoidsSource-but_last g p ps g (same_ptr-flip p g free.0, IsFresh-head g ps d))
+            (AllByRecursion-append P ps (g ∷ []) free.1 (free.0, tt)) (behind ps free.1 d l),
+      )
+    where
+      behind : (xs : List Ptr) → IsFresh p xs → IsApart (g ∷ xs) → AreLinked cs (g ∷ (xs ++ g ∷ []))
+          → AreLinked ds (p ∷ (xs ++ g ∷ []))
+      behind [] f a h = let j' = subst (λ z. IsJoined cs ds p z) h.0.0 j in (AreNeighbours-made j', tt)
+      behind (x ∷ xs) f a h =
+          let j' = subst (λ z. IsJoined cs ds p z) h.0.0 j in
+          let Q : Ptr → Type 0 = λ q. same_ptr x q ≡ false in (
+            AreNeighbours-made j',
+            AreLinked-unchanged j' (x ∷ (xs ++ g ∷ []))
+                (AvoidsSource-but_last p x xs g f)
+                (AllByRecursion-append Q xs (g ∷ []) (IsFresh-head x xs (IsApart-tail g (x ∷ xs) a))
+                (same_ptr-flip g x (IsFresh-head g (x ∷ xs) a).0, tt)) h.1,
+          )

@@ -1,14 +1,14 @@
 -- A ring with its index, after the ring's own calls.
-use Rattle.std.proofs.Common.{◌≡◌, ◌+◌, ◌<◌, List, [], ◌∷◌, ◌++◌, refl, sym, ◌∙◌, ap, subst, arith, length, length-append}
+use Rattle.std.proofs.Common.{◌≡◌, ◌+◌, ◌<◌, List, [], ◌++◌, refl, sym, ◌∙◌, ap, subst, arith, length}
 use Rattle.std.proofs.lemmas.List.{length-map}
 use denote.RawPtr.{Ptr}
 use Rattle.lhm_ring.proofs.indexes.BucketCounts.{buckets-zero, buckets-at_least}
 use Rattle.lhm_ring.proofs.indexes.IndexMoves.{spots-value}
-use Rattle.lhm_ring.proofs.indexes.WholeBuckets.{Indexes-none, Indexes-to_back}
-use Rattle.lhm_ring.specs.Ring.{State, Held, IsHeld, AtHeld}
+use Rattle.lhm_ring.proofs.indexes.WholeBuckets.{Indexes-none, Indexes-moved}
+use Rattle.lhm_ring.specs.Ring.{State, Held, IsHeld}
 use Rattle.lhm_ring.specs.RingAfterLoan.{with_value}
 use Rattle.lhm_ring.specs.Buckets.{BucketState, HasNoChain, buckets}
-use Rattle.lhm_ring.specs.Index.{Indexes, spot, spots, IsIndexed}
+use Rattle.lhm_ring.specs.Index.{Indexes, PutsIn, spot, spots, IsIndexed}
 
 -- nothing is held
 module _ {K V : Type 0} (i : BucketState) (s : State (K × V)) where
@@ -37,19 +37,14 @@ module _ {K V : Type 0} (i : BucketState) (s t : State (K × V)) (h : IsIndexed 
       let all : length s.held + s.spares ≡ length t.held + t.spares = omega (arith, a, b, c, spares) in
       record { indexes = subst (λ v. Indexes i v) (sym e) h.indexes; count = h.count ∙ ap buckets all }
 
-  -- a triple was moved to the back
-  pub IsIndexed-to_back : (p : Ptr) → IsHeld s.held p → AtHeld s.held p (λ xs x ys. t.held ≡ (xs ++ ys) ++ x ∷ []) → IsIndexed i t
-  IsIndexed-to_back p k last =
-      let e = last k.before k.node k.after k.is k.at_is in
+  -- a triple was moved
+  pub IsIndexed-moved : {p : Ptr} (k : IsHeld s.held p) → PutsIn (spot k.node) (spots (k.before ++ k.after)) (spots t.held)
+      → length t.held ≡ length s.held → IsIndexed i t
+  IsIndexed-moved k puts long =
       let c = subst (λ (v : List (Held (K × V))). Indexes i (spots v)) k.is h.indexes in
-      let a : length t.held ≡ length ((k.before ++ k.after) ++ k.node ∷ []) = ap length e in
-      let b : length s.held ≡ length (k.before ++ k.node ∷ k.after) = ap length k.is in
-      let f = length-append (k.before ++ k.after) (k.node ∷ []) in
-      let g = length-append k.before k.after in
-      let m = length-append k.before (k.node ∷ k.after) in
-      let all : length s.held + s.spares ≡ length t.held + t.spares = omega (arith, a, b, f, g, m, spares) in
+      let all : length s.held + s.spares ≡ length t.held + t.spares = omega (arith, long, spares) in
       record {
-        indexes = subst (λ (v : List (Held (K × V))). Indexes i (spots v)) (sym e) (Indexes-to_back i k.before k.node k.after c);
+        indexes = Indexes-moved i k.before k.node k.after puts c;
         count = h.count ∙ ap buckets all;
       }
 

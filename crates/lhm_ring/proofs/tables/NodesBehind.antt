@@ -1,42 +1,20 @@
 -- How many nodes lie behind one.
 use Rattle.std.proofs.Common.{◌≡◌, ℕ, ◌+◌, ◌<◌, List, [], ◌∷◌, ◌++◌, length, Option, Some, None}
-use Rattle.std.proofs.Common.{refl, sym, ap, ◌∙◌, subst, arith, true≢false, length-append}
+use Rattle.std.proofs.Common.{refl, sym, ap, ◌∙◌, arith, length-append}
 use Rattle.std.proofs.Common.{append_assoc}
 use Rattle.std.specs.Prelude.{IfSome}
 use denote.RawPtr.{Ptr}
 use Rattle.lhm_ring.specs.declared.pointer.Position.{Position}
-use Rattle.lhm_ring.proofs.lists.Apart.{IsFresh, same_ptr-reflexive, IsFresh-head, IsApart-tail}
 use Rattle.lhm_ring.proofs.rings.Ends.{Last, First-first_at, Last-last_at, none-first_at}
-use Rattle.lhm_ring.proofs.rings.HeldPointers.{pointers_of, same_ptr-fresh}
-use Rattle.lhm_ring.specs.Nodes.{same_ptr, IsApart}
+use Rattle.lhm_ring.proofs.rings.HeldPointers.{pointers_of, AtHeld-alone}
+use Rattle.lhm_ring.specs.Nodes.{IsApart}
 use Rattle.lhm_ring.specs.Pointer.{pointer_of, pointer_of_some}
 use Rattle.lhm_ring.specs.Ring.{Held, IsHeld, AtHeld, first_at, last_at}
 
 module _ {B : Type 0} where
-  not_again : (t : Held B) (hs us : List (Held B)) (v : Held B) (ws : List (Held B))
-      → IsApart (pointers_of (t ∷ hs)) → hs ≡ us ++ v ∷ ws → v.at ≡ t.at → ⊥
-  not_again t hs us v ws d e at =
-      let fresh : IsFresh t.at (pointers_of (us ++ v ∷ ws)) =
-      subst (λ ks. IsFresh t.at (pointers_of ks)) e (IsFresh-head t.at (pointers_of hs) d) in
-      true≢false (sym (same_ptr-reflexive t.at) ∙ ap (same_ptr t.at) (sym at) ∙ same_ptr-fresh t.at us v ws fresh)
-
-  length-alike : (hs xs : List (Held B)) (t : Held B) (ys us : List (Held B)) (v : Held B)
-      (ws : List (Held B)) → IsApart (pointers_of hs) → hs ≡ xs ++ t ∷ ys → hs ≡ us ++ v ∷ ws
-      → t.at ≡ v.at → length ys ≡ length ws
-  length-alike [] [] t ys us v ws d e f at = absurd (cc)
-  length-alike [] (x ∷ xs) t ys us v ws d e f at = absurd (cc)
-  length-alike (h ∷ hs) [] t ys [] v ws d e f at = let same : ys ≡ ws = cc in ap length same
-  length-alike (h ∷ hs) [] t ys (u ∷ us) v ws d e f at = let rest : hs ≡ us ++ v ∷ ws = cc in
-      let here : v.at ≡ h.at = cc in absurd (not_again h hs us v ws d rest here)
-  length-alike (h ∷ hs) (x ∷ xs) t ys [] v ws d e f at = let rest : hs ≡ xs ++ t ∷ ys = cc in
-      let here : t.at ≡ h.at = cc in absurd (not_again h hs xs t ys d rest here)
-  length-alike (h ∷ hs) (x ∷ xs) t ys (u ∷ us) v ws d e f at = length-alike hs xs t ys us v ws
-      (IsApart-tail h.at (pointers_of hs) d) (cc) (cc) at
-
-  -- no two nodes lie at one pointer, so there is one place for it
   pub AtHeld-behind : {hs : List (Held B)} {p : Ptr} → IsApart (pointers_of hs) → (h : IsHeld hs p)
       → AtHeld hs p (λ xs t ys. length h.after ≡ length ys)
-  AtHeld-behind {hs} d h xs t ys e at = length-alike hs h.before h.node h.after xs t ys d h.is e (h.at_is ∙ sym at)
+  AtHeld-behind d h xs t ys e at = ap length (AtHeld-alone d h xs t ys e at).1
 
 -- a loop to the back began at one node, has come to another, and has passed so many
 pub record HasPassed {B : Type 0} (hs : List (Held B)) (start here : Ptr) (passed : ℕ) : Type 0 where

@@ -1,22 +1,24 @@
 -- A table: what it shows of the nodes of its ring, which stand there without their links.
-use Rattle.std.proofs.Common.{◌≡◌, ℕ, ◌+◌, ◌^◌, ◌<◌, ◌≤◌, ◌≢◌, cond, List, [], ◌∷◌, ◌++◌, length}
+use Rattle.std.proofs.Common.{◌≡◌, ℕ, ◌+◌, ◌-◌, ◌^◌, ◌<◌, ◌≤◌, ◌≢◌, cond, List, [], ◌∷◌, ◌++◌, length}
 use Rattle.std.proofs.Common.{length-append, map, Option, None, refl, sym, ap, ◌∙◌, subst, inl, inr}
 use Rattle.std.proofs.Common.{arith}
 use Rattle.std.specs.Prelude.{Result, Ok, Err, OnOk, OnErr}
 use Rattle.std.proofs.lemmas.Bool.{eq-eqb, ne_eqb}
 use Rattle.std.proofs.lemmas.List.{length-map}
 use denote.RawPtr.{Ptr}
-use Rattle.lhm_ring.proofs.indexes.BucketCounts.{buckets-raised, buckets-below, buckets-at_least, rechained-within}
+use Rattle.lhm_ring.proofs.indexes.BucketCounts.{buckets-raised, buckets-below, buckets-at_least, rechained-within, made_raised-higher}
 use Rattle.lhm_ring.proofs.indexes.Entries.{AtHeld-entries, IsHeld-entries, entries-append}
 use Rattle.lhm_ring.proofs.indexes.Entries.{entries-change_at, first_at-entries, length-entries}
 use Rattle.lhm_ring.proofs.indexes.Entries.{length-same_entries, pointers-entries, triples-entries}
-use Rattle.lhm_ring.proofs.indexes.IndexMoves.{spots-value}
-use Rattle.lhm_ring.proofs.tables.IndexedRing.{IsIndexed-value, IsIndexed-to_back}
+use Rattle.lhm_ring.proofs.indexes.IndexMoves.{spots-value, PutsIn-last}
+use Rattle.lhm_ring.proofs.indexes.Spots.{PutsIn-spots}
+use Rattle.lhm_ring.proofs.tables.IndexedRing.{IsIndexed-value, IsIndexed-moved}
 use Rattle.lhm_ring.specs.Nodes.{IsApart}
 use Rattle.lhm_ring.specs.Ring.{Held, State, state, IsHeld, AtHeld, ChangesOnly, linked_to, first_at, change_at, triples, revalued}
 use Rattle.lhm_ring.specs.RingAfterLoan.{with_value}
-use Rattle.lhm_ring.specs.Index.{Indexes, spot, spots, same, entries, HoldsOthers}
-use Rattle.lhm_ring.specs.Buckets.{BucketState, buckets, rechained_raised}
+use Rattle.lhm_ring.specs.Index.{Indexes, PutsIn, spot, spots, same, entries, HoldsOthers}
+use Rattle.lhm_ring.specs.Buckets.{BucketState, buckets, rechained_raised, made_raised}
+use Rattle.lhm_ring.specs.Links.{nodes_grown, least_more}
 use Rattle.lhm_ring.specs.TableAfterLoan.{with_value as write}
 use Rattle.lhm_ring.specs.Table.{IsTable, TableState, WritesOnly, table_of}
 
@@ -60,7 +62,7 @@ module _ {K V : Type 0} (s : State (K × V)) (r : ℕ) {m : TableState (K × V)}
   pub table_of-value : (p : Ptr) (w : V) → table_of (with_value s p w) r ≡ write m p w
   table_of-value p w =
       let count = sym (length-map (change_at p (revalued w) s.held) spot) ∙ ap length (spots-value p w s.held) ∙ length-map s.held spot in
-      (λ i. record { held = entries-change_at p w s.held i; capacity = count i + s.spares; rechained = r })
+      (λ i. record { held = entries-change_at p w s.held i; capacity = count i + s.spares; rechained = r; made = s.nodes })
       ∙ ap (λ (z : TableState (K × V)). write z p w) seen
 
   pub WritesOnly-table : (p : Ptr) → ChangesOnly s.held p → WritesOnly m.held p
@@ -111,7 +113,17 @@ module _ {K V : Type 0} {i : BucketState} {s : State (K × V)} {r : ℕ} (table 
         nodes_within = table.nodes_within;
       }
 
-  -- a pair was moved to the back
+  -- a pair was moved: to the back, or to the front
+  IsTable-moved : {t : State (K × V)} {p : Ptr} (h : IsHeld s.held p)
+      → PutsIn (spot h.node) (spots (h.before ++ h.after)) (spots t.held)
+      → length t.held ≡ length s.held → t.spares ≡ s.spares → t.nodes ≡ s.nodes → IsTable i t r
+  IsTable-moved {t} h puts long spares made = record {
+    indexed = IsIndexed-moved i s t table.indexed spares h puts long;
+    few = table.few;
+    limit = omega (arith, long, spares, table.limit);
+    nodes_within = omega (arith, made, table.nodes_within);
+  }
+
   pub length-moved : (t : State (K × V)) (p : Ptr) → IsHeld s.held p
       → AtHeld s.held p (λ xs x ys. t.held ≡ (xs ++ ys) ++ x ∷ []) → length t.held ≡ length s.held
   length-moved t p h last =
@@ -126,13 +138,28 @@ module _ {K V : Type 0} {i : BucketState} {s : State (K × V)} {r : ℕ} (table 
       → AtHeld s.held p (λ xs x ys. t.held ≡ (xs ++ ys) ++ x ∷ []) → t.spares ≡ s.spares
       → t.nodes ≡ s.nodes → IsTable i t r
   IsTable-to_back {t} p h last spares made =
-      let long = length-moved t p h last in
-      record {
-        indexed = IsIndexed-to_back i s t table.indexed spares p h last;
-        few = table.few;
-        limit = omega (arith, long, spares, table.limit);
-        nodes_within = omega (arith, made, table.nodes_within);
-      }
+      IsTable-moved h
+      (subst (λ (v : List (Held (K × V))). PutsIn (spot h.node) (spots (h.before ++ h.after)) (spots v))
+      (sym (last h.before h.node h.after h.is h.at_is)) (PutsIn-last (h.before ++ h.after) h.node))
+      (length-moved t p h last) spares made
+
+  pub length-moved_front : (t : State (K × V)) (p : Ptr) → IsHeld s.held p
+      → AtHeld s.held p (λ xs x ys. t.held ≡ x ∷ (xs ++ ys)) → length t.held ≡ length s.held
+  length-moved_front t p h first =
+      let a = ap length (first h.before h.node h.after h.is h.at_is) in
+      let b = ap length h.is in
+      let g = length-append h.before h.after in
+      let k = length-append h.before (h.node ∷ h.after) in
+      omega (arith, a, b, g, k)
+
+  pub IsTable-to_front : {t : State (K × V)} (p : Ptr) → IsHeld s.held p
+      → AtHeld s.held p (λ xs x ys. t.held ≡ x ∷ (xs ++ ys)) → t.spares ≡ s.spares
+      → t.nodes ≡ s.nodes → IsTable i t r
+  IsTable-to_front {t} p h first spares made =
+      IsTable-moved h
+      (subst (λ (v : List (Held (K × V))). PutsIn (spot h.node) (spots (h.before ++ h.after)) (spots v))
+      (sym (first h.before h.node h.after h.is h.at_is)) (PutsIn-spots [] h.node (h.before ++ h.after)))
+      (length-moved_front t p h first) spares made
 
   -- the node at p was removed from its chain, and then from the ring
   module _ {i' : BucketState} {t w : State (K × V)} {p : Ptr}
@@ -172,6 +199,11 @@ module _ {K V : Type 0} {i : BucketState} {s : State (K × V)} {r : ℕ} (table 
 
     pub rechained_raised-stays : (len : ℕ) → rechained_raised r len (length s.held + s.spares) d ≡ r
     rechained_raised-stays len = ap (λ b. cond b r (r + len)) (eq-eqb (buckets (length s.held + s.spares)) (buckets d) buckets-same)
+
+    pub made_raised-stays : made_raised s.nodes (length s.held + s.spares) d
+        ≡ nodes_grown s.nodes d (least_more (d - (length s.held + s.spares)) s.nodes (length i.heads))
+    made_raised-stays = made_raised-higher s.nodes (length s.held + s.spares) d up
+        ∙ ap (λ most. nodes_grown s.nodes d (least_more (d - (length s.held + s.spares)) s.nodes most)) (sym (table.indexed.count ∙ buckets-same))
 
     pub IsTable-grown : {E : Type 0} {t : State (K × V)} (result : Result (Unit {0}) E)
         (more most : ℕ) → most ≡ length i.heads → OnOk result (t.held ≡ s.held)

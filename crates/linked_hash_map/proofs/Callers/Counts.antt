@@ -1,5 +1,5 @@
 -- For callers: how many buckets a capacity has.
-use Rattle.std.proofs.Common.{ℕ, ◌<◌, ◌≤◌, ◌≡◌, inl, inr, arith}
+use Rattle.std.proofs.Common.{ℕ, ◌*◌, ◌<◌, ◌≤◌, ◌≡◌, inl, inr, arith}
 use Rattle.std.proofs.lemmas.Nat.{pow_pos}
 use Rattle.std.specs.Int.{IsPowerOfTwo}
 use Rattle.lhm_ring.proofs.indexes.BucketCounts as ring
@@ -30,3 +30,7 @@ buckets_power c power =
     let some = pow_pos power.0 in let is = power.1 in let least = buckets_least c (omega arith) in
     let enough = least.enough in let no_more = least.least c power (omega arith) in
     omega arith
+
+-- there are fewer than twice as many as the capacity
+pub buckets_below : (c : ℕ) → 0 < c → buckets c < 2 * c
+buckets_below = ring.buckets-below

@@ -110,7 +110,7 @@ module _ {K V : Type 0} {eq : K → K → Bool} (laws : IsEquivalence eq) where
   value_at-same pairs j k same = ap (option_map (λ pair. pair.1)) (find-same pairs j k same)
 
   -- the key of the pair that is found is the key asked for
-  eq-find : (pairs : List (K × V)) (k : K) (pair : K × V) → find eq pairs k ≡ Some pair
+  pub eq-find : (pairs : List (K × V)) (k : K) (pair : K × V) → find eq pairs k ≡ Some pair
       → eq k pair.0 ≡ true
   eq-find [] k pair found = absurd (true≢false (sym (ap is_some found)))
   eq-find (first ∷ pairs) k pair found = by_test (eq k first.0) refl found (eq-find pairs k pair)
@@ -129,7 +129,7 @@ module _ {K V : Type 0} {eq : K → K → Bool} (laws : IsEquivalence eq) where
   eq-stored pairs k = eq-key_or k (find eq pairs k) (eq-find pairs k)
 
   -- after `remove`
-  find-without : (pairs : List (K × V)) (k q : K)
+  pub find-without : (pairs : List (K × V)) (k q : K)
       → find eq (without eq pairs k) q ≡ cond (eq k q) None (find eq pairs q)
   find-without pairs k q =
       lookup_entry-filter (eq q) (λ j. not (eq k j)) (not (eq k q)) (λ j same. ap not (alike laws k q j same)) pairs

@@ -1,6 +1,6 @@
--- For callers: a map stays valid through each change. The map after it is one whose pairs and whose
--- capacity are as the clauses of the call say.
-use Rattle.std.proofs.Common.{◌≡◌, ◌<◌, ◌≤◌, max, Bool, List, length, None, is_some, true≢false, refl, sym, ap, ◌∙◌, subst, arith}
+-- For callers: a map stays valid through each change. The map after it is one whose pairs, capacity
+-- and cursor are as the clauses of the call say.
+use Rattle.std.proofs.Common.{◌≡◌, ◌+◌, ◌<◌, ◌≤◌, max, Bool, length, None, is_some, true≢false, refl, sym, ap, ◌∙◌, subst, arith}
 use Rattle.std.specs.Option.{IsSome}
 use Rattle.std.specs.List.{IsDistinct}
 use Rattle.std.specs.Map.{keys_of}
@@ -18,43 +18,47 @@ use Rattle.linked_hash_map.specs.Pairs.{find, set_or_push, put}
 use Rattle.linked_hash_map.specs.Changes.{set_or_pushed, drained}
 use Rattle.linked_hash_map.specs.Entry.{Occupied, Vacant, occupied_key, vacant_map, vacant_key, entry_map, entry_key, entry_value}
 use Rattle.linked_hash_map.specs.declared.entry.Entry.{Entry}
-use Rattle.linked_hash_map.proofs.Callers.Keys.{distinct-nil, distinct-put, distinct-set_or_push, length-set_or_push_most}
+use Rattle.linked_hash_map.proofs.Callers.Keys.{distinct-nil, distinct-put, length-set_or_push_most}
 use Rattle.linked_hash_map.proofs.Callers.Updates.{max-length_put}
+use Rattle.linked_hash_map.proofs.pairs.Inserts.{length-grows}
 use Rattle.linked_hash_map.proofs.pairs.OccupiedEntries.{is_some-occupied}
 
 module _ {K V S : Type 0} {eq : K → K → Bool} (laws : IsEquivalence eq) {m n : LinkedMap K V S} where
-  -- other pairs with keys that differ, and a capacity that rose to their number, if need was
-  raised : IsValid eq m → {pairs : List (K × V)} → IsDistinct eq (keys_of pairs) → n.pairs ≡ pairs
-      → n.capacity ≡ max m.capacity (length n.pairs) → length n.pairs ≤ LIMIT → IsValid eq n
-  raised valid {pairs} distinct changed more enough =
-      let limit = valid.limit in
-      record { distinct = subst (λ ps. IsDistinct eq (keys_of ps)) (sym changed) distinct; within = omega arith; limit = omega arith }
-
-  -- after `insert` in either mode, if the pairs are within the limit
+  -- after `insert` in either mode, if the pairs are within the limit, and those left to visit there
   pub IsValid-put : (mode : Mode) (k : K) (v : V) → IsValid eq m → n.pairs ≡ put eq mode m.pairs k v
-      → n.capacity ≡ max m.capacity (length n.pairs) → length n.pairs ≤ LIMIT → IsValid eq n
-  IsValid-put mode k v valid = raised valid (distinct-put laws mode m.pairs k v valid.distinct)
-
-  -- after `or_insert`
-  IsValid-set_or_push : (k : K) (v : V) → IsValid eq m → n.pairs ≡ set_or_push eq m.pairs k v
-      → n.capacity ≡ max m.capacity (length n.pairs) → length n.pairs ≤ LIMIT → IsValid eq n
-  IsValid-set_or_push k v valid = raised valid (distinct-set_or_push laws m.pairs k v valid.distinct)
-
-  IsValid-set_or_push_present : (k : K) (v : V) → IsValid eq m → IsSome (find eq m.pairs k)
-      → n.pairs ≡ set_or_push eq m.pairs k v → n.capacity ≡ max m.capacity (length n.pairs)
-      → IsValid eq n
-  IsValid-set_or_push_present k v valid found changed more =
-      let stays = max-length_put laws Keep m.pairs k v m.capacity valid.distinct valid.within
-      (λ none. absurd (true≢false (sym found ∙ ap is_some none))) in
-      let counted : length n.pairs ≡ length (set_or_push eq m.pairs k v) = ap length changed in
+      → n.capacity ≡ max m.capacity (length n.pairs) → length n.pairs ≤ LIMIT
+      → n.cursor.bookmark + n.cursor.unvisited ≤ length n.pairs → IsValid eq n
+  IsValid-put mode k v valid changed more enough reach =
       let limit = valid.limit in
-      IsValid-set_or_push k v valid changed more (omega arith)
+      record {
+        distinct = subst (λ ps. IsDistinct eq (keys_of ps)) (sym changed) (distinct-put laws mode m.pairs k v valid.distinct);
+        within = omega arith;
+        limit = omega arith;
+        reach = reach;
+      }
+
+  -- after `or_insert`, which leaves what is to be visited
+  module _ (k : K) (v : V) (valid : IsValid eq m) (changed : n.pairs ≡ set_or_push eq m.pairs k v)
+      (more : n.capacity ≡ max m.capacity (length n.pairs)) (visits : n.cursor ≡ m.cursor) where
+    IsValid-set_or_push : length n.pairs ≤ LIMIT → IsValid eq n
+    IsValid-set_or_push enough =
+        let grows = length-grows laws Keep m.pairs k v valid.distinct in
+        IsValid-put Keep k v valid changed more enough
+        (omega (arith, ap length changed, valid.reach, ap (λ c. c.bookmark) visits, ap (λ c. c.unvisited) visits))
+
+    IsValid-set_or_push_present : IsSome (find eq m.pairs k) → IsValid eq n
+    IsValid-set_or_push_present found =
+        let stays = max-length_put laws Keep m.pairs k v m.capacity valid.distinct valid.within
+        (λ none. absurd (true≢false (sym found ∙ ap is_some none))) in
+        let counted : length n.pairs ≡ length (set_or_push eq m.pairs k v) = ap length changed in
+        let limit = valid.limit in
+        IsValid-set_or_push (omega arith)
 
 -- after `drain`
 pub IsValid-drained : {K V S : Type 0} {eq : K → K → Bool} {m : LinkedMap K V S} → IsValid eq m
     → IsValid eq (drained m)
 IsValid-drained {eq = eq} valid =
-    record { distinct = distinct-nil eq; within = omega arith; limit = valid.limit }
+    record { distinct = distinct-nil eq; within = omega arith; limit = valid.limit; reach = omega arith }
 
 -- after the insertions of an entry, by what their clause `limit` says
 module _ {K V S H : Type 0} {g : eq.Ghosts K} {h : hash.Ghosts K} {b : builder.Ghosts S H} {w : hasher.Ghosts H} where
@@ -63,8 +67,8 @@ module _ {K V S H : Type 0} {g : eq.Ghosts K} {h : hash.Ghosts K} {b : builder.G
       → IsValid g.eq (entry_map e) → (entry_value e ≡ None → length (entry_map e).pairs < LIMIT)
       → IsValid g.eq (set_or_pushed g.eq (entry_map e) (entry_key e) v)
   IsValid-set_or_pushed laws (Occupied o) v valid limit =
-      IsValid-set_or_push_present laws (occupied_key o) v valid (is_some-occupied o laws) refl refl
+      IsValid-set_or_push_present laws (occupied_key o) v valid refl refl refl (is_some-occupied o laws)
   IsValid-set_or_pushed laws (Vacant e) v valid limit =
       let below = limit refl in
       let most = length-set_or_push_most g.eq (vacant_map e).pairs (vacant_key e) v in
-      IsValid-set_or_push laws (vacant_key e) v valid refl refl (omega arith)
+      IsValid-set_or_push laws (vacant_key e) v valid refl refl refl (omega arith)

@@ -1,10 +1,12 @@
 -- For callers: a visit that keeps some of the pairs and takes the others out, step by step.
-use Rattle.std.proofs.Common.{◌≡◌, Bool, true, false, cond, List, [], ◌∷◌, ◌++◌, length, slice_get, option_map, Some, filter, refl, sym, ap}
-use Rattle.std.proofs.Common.{subst, ◌∙◌, append_assoc, append-nil}
+use Rattle.std.proofs.Common.{◌≡◌, ℕ, ◌+◌, ◌<◌, Bool, true, false, cond, List, [], ◌∷◌, ◌++◌, length, take, drop, slice_get, get_or}
+use Rattle.std.proofs.Common.{option_map, Some, filter, refl, sym, ap, subst, ◌∙◌, append_assoc, append-nil, length-append, arith}
 use Rattle.std.specs.Cmp.{IsEquivalence}
 use Rattle.std.specs.List.{IsDistinct, remove}
 use Rattle.std.specs.Map.{keys_of}
+use Rattle.std.proofs.lemmas.List.{drop-map, drop_more, take_more, length-drop, length-map, get_or_append_left}
 use Rattle.std.proofs.lemmas.List.Elements.{filter-append}
+use Rattle.std.proofs.lemmas.Option.{slice_get-get_or}
 use Rattle.lhm_ring.proofs.lists.Options.{Some-injective}
 use Rattle.linked_hash_map.specs.Pairs.{value_at, without}
 use Rattle.linked_hash_map.specs.Visits.{VisitKeeps}
@@ -109,3 +111,46 @@ module _ {K V : Type 0} {eq : K → K → Bool} (laws : IsEquivalence eq) {keeps
       let s : VisitKeeps keeps start after left = subst (λ ps. VisitKeeps keeps start ps left)
       (sym (removed ∙ ap (λ ps. without eq ps k) same)) r in
       subst (λ ks. VisitKeeps keeps start after ks) (sym stays) s
+
+-- a step of a visit that only puts pairs behind the others: the key that is next is that of the pair
+-- behind the first n
+module _ {K V : Type 0} {eq : K → K → Bool} (laws : IsEquivalence eq) (start behind : List (K × V))
+    (n : ℕ) {now : List (K × V)} {to_come left : List K} {k : K} {v : V}
+    (now_is : now ≡ start ++ behind) (to_come_is : to_come ≡ drop n (keys_of start))
+    (visits : to_come ≡ k ∷ left) (distinct : IsDistinct eq (keys_of now)) (has : value_at eq now k ≡ Some v) where
+  pub within-visited : n < length start
+  within-visited = omega (
+    arith,
+    ap length (sym visits ∙ to_come_is),
+    length-drop n (keys_of start),
+    length-map start (λ pair. pair.0),
+  )
+
+  abbrev come : K × V
+  come = get_or start n (k, v)
+
+  keys : k ∷ left ≡ come.0 ∷ keys_of (drop (n + 1) start)
+  keys = sym visits ∙ to_come_is ∙ drop-map (λ (pair : K × V). pair.0) n start ∙ ap keys_of (drop_more start n (k, v) within-visited)
+
+  has_come : slice_get now n ≡ Some come
+  has_come = ap (λ ps. slice_get ps n) now_is
+      ∙ slice_get-get_or (start ++ behind) n (k, v) (omega (arith, within-visited, length-append start behind))
+      ∙ ap Some (get_or_append_left start behind (k, v) n within-visited)
+
+  come-is : come ≡ (k, v)
+  come-is =
+      let key : come.0 ≡ k = let same = keys in cc in
+      let value : v ≡ come.1 = Some-injective _ _
+      (sym has ∙ ap (value_at eq now) (sym key) ∙ ap (option_map (λ p. p.1)) (find-own laws now distinct n come has_come)) in
+      λ i. (key i, sym value i)
+
+  pub take-visited : take (n + 1) start ≡ take n start ++ (k, v) ∷ []
+  take-visited = take_more start n (k, v) within-visited ∙ ap (λ pair. take n start ++ pair ∷ []) come-is
+
+  pub slice_get-visited : slice_get start n ≡ Some (k, v)
+  slice_get-visited = slice_get-get_or start n (k, v) within-visited ∙ ap Some come-is
+
+  pub drop-visited : left ≡ drop (n + 1) (keys_of start)
+  drop-visited =
+      let rest : left ≡ keys_of (drop (n + 1) start) = let same = keys in cc in
+      rest ∙ sym (drop-map (λ (pair : K × V). pair.0) (n + 1) start)

@@ -1,24 +1,31 @@
--- For callers: whole runs in which nothing is refused. The replies, the pairs and the capacity then
--- follow from the commands and the first map, and two such runs have the same answers.
+-- For callers: whole runs. If nothing is refused, the replies, the pairs and the capacity follow
+-- from the commands and the first map. Two runs with the same refusals have the same answers.
 use Rattle.std.proofs.Common.{◌≡◌, ℕ, Bool, true, false, Result, Ok, Err, IfOk, IsOkAnd, Vec, Global, ◌||◌, ◌&&◌, IsFalse, List, [], ◌∷◌}
-use Rattle.std.proofs.Common.{map, refl, sym, ap, ap₂, ◌∙◌, subst, true≢false}
+use Rattle.std.proofs.Common.{Option, Some, None, slice_get, map, refl, sym, ap, ap₂, ◌∙◌, subst, true≢false}
 use Rattle.std.specs.List.{list_any, list_all}
 use Rattle.std.specs.Cmp.{IsEquivalence}
 use Rattle.linked_hash_map.specs.declared.map.Mode.{Mode}
 use Rattle.linked_hash_map.specs.LinkedMap.{LinkedMap}
 use Rattle.linked_hash_map.specs.Validity.{IsValid}
-use Rattle.linked_hash_map.specs.Log.{Log, mode, Defines}
-use Rattle.linked_hash_map.specs.Run.{last_log, IsReply, IsRun}
-use Rattle.linked_hash_map.specs.Commands.{is_refusal, pairs_after, capacity_after, mode_after, mode_after_all, reply_to, replies_to}
+use Rattle.linked_hash_map.specs.Log.{Log, mode, pairs, high, Defines}
+use Rattle.linked_hash_map.specs.AllowedAnswers.{log_after, Answers}
+use Rattle.linked_hash_map.specs.Run.{first_log, last_log, IsReply, IsRun}
+use Rattle.linked_hash_map.specs.Commands.{is_refusal, refused_after, refusals, answer_to, mode_after_all, replies_to}
 use Rattle.linked_hash_map.specs.Commands.{pairs_after_all, capacity_after_all}
+use Rattle.linked_hash_map.specs.LastUses.{sets_keep, pairs_by_use}
 use Rattle.linked_hash_map.specs.declared.replay.Command.{Command}
 use Rattle.linked_hash_map.specs.declared.replay.Command.TheVariants.{Insert, Write, Refresh, Remove, PopFront, PopBack, Clear, Drain}
 use Rattle.linked_hash_map.specs.declared.replay.Command.TheVariants.{Extend, OrInsert, EntryInsert, EntryRemove, Reserve, Shrink, SetMode}
+use Rattle.linked_hash_map.specs.declared.replay.Answer.{Answer}
+use Rattle.linked_hash_map.specs.declared.replay.Answer.TheVariants.{New, Old, Found, Missing, Absent, Refused, Pair, Empty, Pairs, Stopped}
+use Rattle.linked_hash_map.specs.declared.replay.Answer.TheVariants.{Done, TooLarge, NoRoom}
 use Rattle.linked_hash_map.specs.declared.replay.Reply.{Reply}
 use Rattle.linked_hash_map.proofs.Callers.Replay.{Replied-given, Defines-first, is_refusal-write, is_refusal-refresh, is_refusal-remove}
 use Rattle.linked_hash_map.proofs.Callers.Replay.{is_refusal-entry_remove, is_refusal-pop_front, is_refusal-pop_back, is_refusal-clear}
 use Rattle.linked_hash_map.proofs.Callers.Replay.{is_refusal-set_mode}
 use Rattle.linked_hash_map.proofs.lists.Elements.{none_first, none_later}
+use Rattle.linked_hash_map.proofs.log.WithoutKeep.{pairs-in_touch}
+use Rattle.linked_hash_map.proofs.runs.Outcomes.{outcome}
 -- what `replay` says if it returns replies
 pub use Rattle.linked_hash_map.specs.Run.{Replayed}
 
@@ -147,57 +154,185 @@ module _ {K V S : Type 0} {eq : K → K → Bool} (laws : IsEquivalence eq) {old
   pub replies-replayed_never_refused : replies ≡ replies_to eq old.mode old.capacity old.pairs these
   replies-replayed_never_refused = replies-replayed laws valid replayed none ∙ ap (replies_to eq old.mode old.capacity old.pairs) are
 
--- the answers do not rest on the capacity
-answers-replies_to : {K V : Type 0} (eq : K → K → Bool) (commands : List (Command K V))
-    (contents : List (K × V)) (capacity other : ℕ) (mode : Mode)
-    → map (λ reply. reply.answer) (replies_to eq mode capacity contents commands)
-    ≡ map (λ reply. reply.answer) (replies_to eq mode other contents commands)
-answers-replies_to eq [] contents capacity other mode = refl
-answers-replies_to eq (command ∷ commands) contents capacity other mode =
-    ap (λ answers. (reply_to eq mode capacity contents command).answer ∷ answers)
-    (answers-replies_to eq commands (pairs_after eq mode contents command)
-    (capacity_after eq mode capacity contents command)
-    (capacity_after eq mode other contents command) (mode_after mode command))
+-- a refusal is told by its command and by how many pairs went in before it
+stopped_at : {K V : Type 0} → ℕ → Option (K × V) → Answer K V
+stopped_at n None = NoRoom
+stopped_at n (Some pair) = Stopped n pair.0 pair.1
 
-module _ {K V S T : Type 0} {eq : K → K → Bool} (laws : IsEquivalence eq)
-    {old new : LinkedMap K V S} {old' new' : LinkedMap K V T} {commands : List (Command K V)}
-    {replies replies' : List (Reply K V)} (valid : IsValid eq old) (valid' : IsValid eq old')
-    (replayed : Replayed eq old commands replies new)
-    (replayed' : Replayed eq old' commands replies' new') (same : old.pairs ≡ old'.pairs)
-    (alike : old.mode ≡ old'.mode) (given : NoneRefused replies)
-    (given' : NoneRefused replies') where
-  -- two runs of the same commands on maps with the same pairs and the same mode, whatever their
-  -- hashers, have the same answers and leave the same pairs
-  answers-same_run : map (λ reply. reply.answer) replies ≡ map (λ reply. reply.answer) replies'
-  answers-same_run =
-      ap (map (λ (reply : Reply K V). reply.answer)) (replies-replayed laws valid replayed given)
-      ∙ answers-replies_to eq commands old.pairs old.capacity old'.capacity old.mode
-      ∙ ap₂ (λ mode contents. map (λ (reply : Reply K V). reply.answer) (replies_to eq mode old'.capacity contents commands)) alike same
-      ∙ sym (ap (map (λ (reply : Reply K V). reply.answer)) (replies-replayed laws valid' replayed' given'))
+refused_answer : {K V : Type 0} → ℕ → Command K V → Answer K V
+refused_answer n (Insert k v) = Refused k v
+refused_answer n (OrInsert k v) = Refused k v
+refused_answer n (EntryInsert k v) = Refused k v
+refused_answer n (Extend items) = stopped_at n (slice_get items n)
+refused_answer n _ = NoRoom
 
-  pairs-same_run : new.pairs ≡ new'.pairs
-  pairs-same_run =
-      pairs-replayed laws valid replayed given
-      ∙ ap₂ (λ mode contents. pairs_after_all eq mode contents commands) alike same
-      ∙ sym (pairs-replayed laws valid' replayed' given')
+-- the answer to a command on these pairs, if it is refused after so many pairs, or if it is not
+answer_if : {K V : Type 0} → (K → K → Bool) → List (K × V) → Command K V → Option ℕ → Answer K V
+answer_if eq contents command None = answer_to eq contents command
+answer_if eq contents command (Some n) = refused_answer n command
 
--- the same of what two calls of `replay` return
-module _ {K V S T E : Type 0} {eq : K → K → Bool} (laws : IsEquivalence eq) {old : LinkedMap K V S}
-    (new : LinkedMap K V S) {old' : LinkedMap K V T} (new' : LinkedMap K V T)
-    {commands copies : List (Command K V)} where
-  pub same_runs : (run run' : Result (Vec (Reply K V) Global) E) → IsValid eq old → IsValid eq old'
-      → old.pairs ≡ old'.pairs → old.mode ≡ old'.mode → commands ≡ copies
-      → IfOk run (λ replies. Replayed eq old commands replies.items new)
-      → IfOk run' (λ replies. Replayed eq old' copies replies.items new')
-      → IsOkAnd run (λ replies. NoneRefused replies.items)
-      → IsOkAnd run' (λ replies. NoneRefused replies.items)
-      → IfOk run (λ replies. IfOk run' (λ replies'.
-      map (λ reply. reply.answer) replies.items ≡ map (λ reply. reply.answer) replies'.items))
-      × (new.pairs ≡ new'.pairs)
-  same_runs (Err refused) run' valid valid' same alike copied replayed replayed' given given' = absurd given
-  same_runs (Ok replies) (Err refused) valid valid' same alike copied replayed replayed' given given' = absurd given'
-  same_runs (Ok replies) (Ok replies') valid valid' same alike copied replayed replayed' given given' =
-      let again = subst (λ cs. Replayed eq old' cs replies'.items new') (sym copied) replayed' in (
-        answers-same_run laws valid valid' replayed again same alike given given',
-        pairs-same_run laws valid valid' replayed again same alike given given',
+-- on a log the answer follows from the command and its refusal, whatever the start capacity
+module _ {K V : Type 0} {eq : K → K → Bool} (laws : IsEquivalence eq) (start : ℕ) (log : Log K V)
+  where
+    answer-Refused : (command : Command K V) (k : K) (v : V)
+        → Answers eq start log command (Refused k v) → Refused k v ≡ refused_answer 0 command
+    unfolding refused_answer
+    answer-Refused (Insert k v) j w told = ap₂ (λ key value. Refused key value) told.1 told.2
+    answer-Refused (OrInsert k v) j w told = ap₂ (λ key value. Refused key value) told.1 told.2
+    answer-Refused (EntryInsert k v) j w told = ap₂ (λ key value. Refused key value) told.1 told.2
+    answer-Refused _ j w told = absurd told
+
+    answer-Stopped : (command : Command K V) (n : ℕ) (k : K) (v : V)
+        → Answers eq start log command (Stopped n k v) → Stopped n k v ≡ refused_answer n command
+    unfolding refused_answer stopped_at
+    answer-Stopped (Extend items) n k v told = ap (stopped_at n) (sym told.0)
+    answer-Stopped _ n k v told = absurd told
+
+    answer-NoRoom : (command : Command K V) → Answers eq start log command NoRoom
+        → NoRoom ≡ refused_answer 0 command
+    unfolding refused_answer
+    answer-NoRoom Drain told = refl
+    answer-NoRoom (Reserve additional) told = refl
+    answer-NoRoom Shrink told = refl
+    answer-NoRoom _ told = absurd told
+
+    answer-given : (command : Command K V) (answer : Answer K V) → Answers eq start log command answer
+        → is_refusal answer ≡ false → answer ≡ answer_to eq (pairs eq log) command
+    answer-given command answer told given = (outcome laws {start = start} {log = log}
+        {capacity = high eq start log} (record { same_pairs = refl; same_capacity = refl; same_mode = refl }) command answer told given).0
+
+    answer-allowed : (command : Command K V) (answer : Answer K V)
+        → Answers eq start log command answer
+        → answer ≡ answer_if eq (pairs eq log) command (refused_after answer)
+    unfolding answer_if
+    answer-allowed command (Refused k v) told = answer-Refused command k v told
+    answer-allowed command (Stopped n k v) told = answer-Stopped command n k v told
+    answer-allowed command NoRoom told = answer-NoRoom command told
+    answer-allowed command New told = answer-given command New told refl
+    answer-allowed command (Old v) told = answer-given command (Old v) told refl
+    answer-allowed command Found told = answer-given command Found told refl
+    answer-allowed command Missing told = answer-given command Missing told refl
+    answer-allowed command (Absent k v) told = answer-given command (Absent k v) told refl
+    answer-allowed command (Pair k v) told = answer-given command (Pair k v) told refl
+    answer-allowed command Empty told = answer-given command Empty told refl
+    answer-allowed command (Pairs drained) told = answer-given command (Pairs drained) told refl
+    answer-allowed command Done told = answer-given command Done told refl
+    answer-allowed command TooLarge told = answer-given command TooLarge told refl
+
+-- two runs of the same commands on one log, from any capacities, with the same refusals have the
+-- same answers and end with one log
+module _ {K V : Type 0} {eq : K → K → Bool} (laws : IsEquivalence eq) (start start' : ℕ) where
+  same_answer : (log : Log K V) (command : Command K V) (answer answer' : Answer K V)
+      → Answers eq start log command answer → Answers eq start' log command answer'
+      → refused_after answer ≡ refused_after answer' → answer ≡ answer'
+  same_answer log command answer answer' told told' same =
+      answer-allowed laws start log command answer told
+      ∙ ap (answer_if eq (pairs eq log) command) same
+      ∙ sym (answer-allowed laws start' log command answer' told')
+
+  same_answers : (commands : List (Command K V)) (replies replies' : List (Reply K V)) (log : Log K V)
+      → IsRun eq start log commands replies → IsRun eq start' log commands replies'
+      → refusals replies ≡ refusals replies'
+      → (map (λ reply. reply.answer) replies ≡ map (λ reply. reply.answer) replies')
+      × (last_log eq log commands replies ≡ last_log eq log commands replies')
+  same_answers [] [] [] log run run' same = (refl, refl)
+  same_answers [] (reply ∷ replies) replies' log run run' same = absurd run
+  same_answers [] [] (reply' ∷ replies') log run run' same = absurd run'
+  same_answers (command ∷ commands) [] replies' log run run' same = absurd run
+  same_answers (command ∷ commands) (reply ∷ replies) [] log run run' same = absurd run'
+  same_answers (command ∷ commands) (reply ∷ replies) (reply' ∷ replies') log run run' same =
+      let first : refused_after reply.answer ≡ refused_after reply'.answer = cc in
+      let others : refusals replies ≡ refusals replies' = cc in
+      let answer = same_answer log command reply.answer reply'.answer run.0.allowed.answers
+      run'.0.allowed.answers first in
+      let rest = same_answers commands replies replies' (log_after eq log command reply.answer)
+      run.1 (subst (λ answer. IsRun eq start' (log_after eq log command answer) commands replies')
+      (sym answer) run'.1) others in (
+        ap₂ (λ answer answers. answer ∷ answers) answer rest.0,
+        rest.1 ∙ ap (λ answer. last_log eq (log_after eq log command answer) commands replies') answer,
       )
+
+refused_after-given : {K V : Type 0} (answer : Answer K V) → is_refusal answer ≡ false → refused_after answer ≡ None
+refused_after-given (Refused k v) given = absurd (true≢false given)
+refused_after-given (Stopped n k v) given = absurd (true≢false given)
+refused_after-given NoRoom given = absurd (true≢false given)
+refused_after-given _ given = refl
+
+module _ {K V : Type 0} (eq : K → K → Bool) (start start' : ℕ) where
+  -- runs in which nothing is refused have the same refusals
+  refusals-given : (commands : List (Command K V)) (replies replies' : List (Reply K V)) (log log' : Log K V)
+      → IsRun eq start log commands replies → IsRun eq start' log' commands replies'
+      → NoneRefused replies → NoneRefused replies' → refusals replies ≡ refusals replies'
+  refusals-given [] [] [] log log' run run' given given' = refl
+  refusals-given [] (reply ∷ replies) replies' log log' run run' given given' = absurd run
+  refusals-given [] [] (reply' ∷ replies') log log' run run' given given' = absurd run'
+  refusals-given (command ∷ commands) [] replies' log log' run run' given given' = absurd run
+  refusals-given (command ∷ commands) (reply ∷ replies) [] log log' run run' given given' = absurd run'
+  refusals-given (command ∷ commands) (reply ∷ replies) (reply' ∷ replies') log log' run run' given given' =
+      let refused = is_refusal reply.answer in let refused' = is_refusal reply'.answer in
+      let later = list_any (λ (r : Reply K V). is_refusal r.answer) replies in
+      let later' = list_any (λ (r : Reply K V). is_refusal r.answer) replies' in
+      ap₂ (λ o os. o ∷ os)
+      (refused_after-given reply.answer (none_first refused later given)
+      ∙ sym (refused_after-given reply'.answer (none_first refused' later' given')))
+      (refusals-given commands replies replies' (log_after eq log command reply.answer)
+      (log_after eq log' command reply'.answer) run.1 run'.1 (none_later refused later given)
+      (none_later refused' later' given'))
+
+-- of what two calls of `replay` return with the same commands, on maps with the same pairs and the
+-- same mode: if their refusals are the same, so are the answers, the pairs that they leave and, if
+-- the maps had the same capacity, the capacities
+module _ {K V S T E : Type 0} {eq : K → K → Bool} (laws : IsEquivalence eq)
+    (old new : LinkedMap K V S) (old' new' : LinkedMap K V T) {commands copies : List (Command K V)}
+  where
+    pub same_runs : (run run' : Result (Vec (Reply K V) Global) E)
+        → old.pairs ≡ old'.pairs → old.mode ≡ old'.mode → commands ≡ copies
+        → IfOk run (λ replies. Replayed eq old commands replies.items new)
+        → IfOk run' (λ replies. Replayed eq old' copies replies.items new')
+        → IsOkAnd run (λ replies. IsOkAnd run' (λ replies'.
+        refusals replies.items ≡ refusals replies'.items))
+        → IfOk run (λ replies. IfOk run' (λ replies'.
+        map (λ reply. reply.answer) replies.items ≡ map (λ reply. reply.answer) replies'.items))
+        × (new.pairs ≡ new'.pairs) × (old.capacity ≡ old'.capacity → new.capacity ≡ new'.capacity)
+    same_runs (Err refused) run' same alike copied replayed replayed' refused_alike = absurd refused_alike
+    same_runs (Ok replies) (Err refused) same alike copied replayed replayed' refused_alike = absurd refused_alike
+    same_runs (Ok replies) (Ok replies') same alike copied replayed replayed' refused_alike =
+        let first = first_log old.mode old.pairs in
+        let begun : first_log old'.mode old'.pairs ≡ first = ap₂ (λ mode contents. first_log mode contents) (sym alike) (sym same) in
+        let again = subst (λ log. IsRun eq old'.capacity log commands replies'.items) begun
+        (subst (λ cs. IsRun eq old'.capacity (first_log old'.mode old'.pairs) cs replies'.items) (sym copied) replayed'.run) in
+        let run = same_answers laws old.capacity old'.capacity commands replies.items replies'.items
+        first replayed.run again refused_alike in
+        let ends : last_log eq first commands replies.items
+        ≡ last_log eq (first_log old'.mode old'.pairs) copies replies'.items =
+        run.1 ∙ ap₂ (λ log cs. last_log eq log cs replies'.items) (sym begun) copied in (
+          run.0,
+          replayed.pairs ∙ ap (pairs eq) ends ∙ sym replayed'.pairs,
+          λ as_large. replayed.capacity ∙ ap₂ (high eq) as_large ends ∙ sym replayed'.capacity,
+        )
+
+    pub same_refusals : (run run' : Result (Vec (Reply K V) Global) E) → commands ≡ copies
+        → IfOk run (λ replies. Replayed eq old commands replies.items new)
+        → IfOk run' (λ replies. Replayed eq old' copies replies.items new')
+        → IsOkAnd run (λ replies. NoneRefused replies.items)
+        → IsOkAnd run' (λ replies. NoneRefused replies.items)
+        → IsOkAnd run (λ replies. IsOkAnd run' (λ replies'.
+        refusals replies.items ≡ refusals replies'.items))
+    same_refusals (Err refused) run' copied replayed replayed' given given' = absurd given
+    same_refusals (Ok replies) (Err refused) copied replayed replayed' given given' = absurd given'
+    same_refusals (Ok replies) (Ok replies') copied replayed replayed' given given' =
+        refusals-given eq old.capacity old'.capacity commands replies.items replies'.items
+        (first_log old.mode old.pairs) (first_log old'.mode old'.pairs) replayed.run
+        (subst (λ cs. IsRun eq old'.capacity (first_log old'.mode old'.pairs) cs replies'.items) (sym copied) replayed'.run)
+        given given'
+
+-- the pairs after a run whose log never sets the mode to Keep
+pub pairs-replayed_in_touch : {K V S E : Type 0} (eq : K → K → Bool) (old new : LinkedMap K V S)
+    (commands : List (Command K V)) (run : Result (Vec (Reply K V) Global) E)
+    → IfOk run (λ replies. Replayed eq old commands replies.items new)
+    → IfOk run (λ replies.
+    list_any sets_keep (last_log eq (first_log old.mode old.pairs) commands replies.items) ≡ false
+    → new.pairs ≡ pairs_by_use eq (last_log eq (first_log old.mode old.pairs) commands replies.items))
+pairs-replayed_in_touch eq old new commands (Err refused) replayed = tt
+pairs-replayed_in_touch eq old new commands (Ok replies) replayed = λ touch. replayed.pairs
+    ∙ pairs-in_touch eq (last_log eq (first_log old.mode old.pairs) commands replies.items) touch

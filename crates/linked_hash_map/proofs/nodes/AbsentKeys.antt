@@ -14,9 +14,9 @@ use Rattle.lhm_ring.specs.Search.{IsAbsent}
 use Rattle.lhm_ring.specs.Table.{TableState}
 
 -- no node with the hash of a key has that key
-module _ {K V : Type 0} (eq : K → K → Bool) (hash : K → ℕ)
-    (respects : (x y : K) → IsTrue (eq x y) → hash x ≡ hash y) (k : K) {n : ℕ}
-    (is : n ≡ hash k) where
+module _ {A K V : Type 0} (eq : A → K → Bool) (hash_of : A → ℕ) (hash : K → ℕ)
+    (respects : (x : A) (y : K) → IsTrue (eq x y) → hash_of x ≡ hash y) (k : A) {n : ℕ}
+    (is : n ≡ hash_of k) where
   eq-other_hash : (t : Held (K × V)) → t.hash ≡ hash t.pair.0
       → false ≡ (eqb t.hash n && eq k t.pair.0) → (b : Bool) → eq k t.pair.0 ≡ b
       → eq k t.pair.0 ≡ false
@@ -26,40 +26,41 @@ module _ {K V : Type 0} (eq : K → K → Bool) (hash : K → ℕ)
       sym (none ∙ ap (λ b. b && eq k t.pair.0) same_hash)
 
   list_any-IsAbsent : (hs : List (Held (K × V)))
-      → AllByRecursion (λ u. u.hash ≡ hash u.pair) (bare hs) → IsAbsent eq n k hs
+      → AllByRecursion (λ u. u.hash ≡ hash u.pair) (bare hs) → IsAbsent (eq k) n hs
       → list_any (eq k) (keys_of (pairs_of hs)) ≡ false
   list_any-IsAbsent [] h none = refl
   list_any-IsAbsent (t ∷ hs) h none =
       ap (λ b. b || list_any (eq k) (keys_of (pairs_of hs))) (eq-other_hash t h.0 (none [] t hs refl) (eq k t.pair.0) refl)
       ∙ list_any-IsAbsent hs h.1 (λ xs x ys e. none (t ∷ xs) x ys (ap (λ l. t ∷ l) e))
 
--- keys that are the same have one hash, if they are hashed by the same
-pub hash_by-respects : {K S H : Type 0} {eq : K → K → Bool} {input : K → List (List ℕ)}
-    (finish : H → ℕ) (write : H → List ℕ → H) (build : S → H)
-    → ((x y : K) → IsTrue (eq x y) → input x ≡ input y) → (hasher : S) (x y : K) → IsTrue (eq x y)
-    → hash_by finish write build input hasher x ≡ hash_by finish write build input hasher y
+-- what looks up a key has the hash of the key, if the two are hashed by the same
+pub hash_by-respects : {A K S H : Type 0} {eq : A → K → Bool} {input_of : A → List (List ℕ)}
+    {input : K → List (List ℕ)} (finish : H → ℕ) (write : H → List ℕ → H) (build : S → H)
+    → ((x : A) (y : K) → IsTrue (eq x y) → input_of x ≡ input y) → (hasher : S) (x : A) (y : K)
+    → IsTrue (eq x y)
+    → hash_by finish write build input_of hasher x ≡ hash_by finish write build input hasher y
 hash_by-respects finish write build respects hasher x y same =
     ap (λ words. finish (fold write (build hasher) words)) (respects x y same)
 
 -- so a map of these nodes has no such key
-module _ {K V S : Type 0} {eq : K → K → Bool} {hash : S → K → ℕ}
-    (respects : (hasher : S) (x y : K) → IsTrue (eq x y) → hash hasher x ≡ hash hasher y) where
-  find-IsAbsent : (hasher : S) (k : K) {n : ℕ} → n ≡ hash hasher k → (hs : List (Held (K × V)))
-      → AllByRecursion (λ u. u.hash ≡ hash hasher u.pair) (bare hs) → IsAbsent eq n k hs
+module _ {A K V S : Type 0} {eq : A → K → Bool} {hash_of : S → A → ℕ} {hash : S → K → ℕ}
+    (respects : (hasher : S) (x : A) (y : K) → IsTrue (eq x y) → hash_of hasher x ≡ hash hasher y) where
+  pub find-IsAbsent : (hasher : S) (k : A) {n : ℕ} → n ≡ hash_of hasher k → (hs : List (Held (K × V)))
+      → AllByRecursion (λ u. u.hash ≡ hash hasher u.pair) (bare hs) → IsAbsent (eq k) n hs
       → find eq (pairs_of hs) k ≡ None
   find-IsAbsent hasher k is hs hashed none = lookup_entry-none (eq k) (pairs_of hs)
-      (list_any-IsAbsent eq (hash hasher) (respects hasher) k is hs hashed none)
+      (list_any-IsAbsent eq (hash_of hasher) (hash hasher) (respects hasher) k is hs hashed none)
 
-  pub value_at-IsAbsent : (hasher : S) (k : K) {n : ℕ} → n ≡ hash hasher k
+  pub value_at-IsAbsent : (hasher : S) (k : A) {n : ℕ} → n ≡ hash_of hasher k
       → (hs : List (Held (K × V))) → AllByRecursion (λ u. u.hash ≡ hash hasher u.pair) (bare hs)
-      → IsAbsent eq n k hs → value_at eq (pairs_of hs) k ≡ None
+      → IsAbsent (eq k) n hs → value_at eq (pairs_of hs) k ≡ None
   value_at-IsAbsent hasher k is hs hashed none =
       ap (option_map (λ pair. pair.1)) (find-IsAbsent hasher k is hs hashed none)
 
-  pub find-IsAbsent_map : {m : LinkedMap K V S} (s : TableState (K × V)) (b : Beside S)
-      → map_of s b ≡ m → IsKept eq (hash b.hasher) (bare s.held) s.capacity b.visit → (k : K) {n : ℕ}
-      → n ≡ hash m.hasher k → IsAbsent eq n k s.held → find eq m.pairs k ≡ None
+  pub find-IsAbsent_map : {by : K → K → Bool} {m : LinkedMap K V S} (s : TableState (K × V)) (b : Beside S)
+      → map_of s b ≡ m → IsKept by (hash b.hasher) (bare s.held) s.capacity b.visit → (k : A) {n : ℕ}
+      → n ≡ hash_of m.hasher k → IsAbsent (eq k) n s.held → find eq m.pairs k ≡ None
   find-IsAbsent_map s b seen kept k {n} =
-      subst (λ (z : LinkedMap K V S). n ≡ hash z.hasher k → IsAbsent eq n k s.held
+      subst (λ (z : LinkedMap K V S). n ≡ hash_of z.hasher k → IsAbsent (eq k) n s.held
       → find eq z.pairs k ≡ None) seen
       (λ is none. find-IsAbsent b.hasher k is s.held kept.hashed none)

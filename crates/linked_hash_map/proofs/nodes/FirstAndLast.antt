@@ -1,6 +1,6 @@
 -- The node at an end: its pair and its index.
-use Rattle.std.proofs.Common.{◌≡◌, ◌-◌, List, [], ◌∷◌, length, slice_get, Some, sym, ap, ◌∙◌, arith}
-use Rattle.std.proofs.Common.{length-append, suc, ◌+◌, ◌<◌, true, false, cond, map, None, subst}
+use Rattle.std.proofs.Common.{◌≡◌, ◌-◌, List, [], ◌∷◌, length, slice_get, Some, refl, sym, ap, ◌∙◌, arith}
+use Rattle.std.proofs.Common.{length-append, suc, ◌+◌, ◌<◌, true, false, cond, map, Option, None, subst}
 use denote.RawPtr.{Ptr}
 use Rattle.lhm_ring.proofs.rings.Ends.{First, Last, last_held}
 use Rattle.lhm_ring.proofs.lists.Apart.{IsFresh, same_ptr-reflexive}
@@ -29,6 +29,15 @@ module _ {K V : Type 0} {hs : List (Held (K × V))} {p : Ptr} where
 
   pub Some-last : (l : Last hs p) (k : K) (v : V) → k ≡ l.node.pair.0 → v ≡ l.node.pair.1 → Some (k, v) ≡ last (pairs_of hs)
   Some-last l k v key value = (λ i. Some (key i, value i)) ∙ sym (last-pairs l)
+
+-- with no node there is none
+pub none-first : {K V : Type 0} (hs : List (Held (K × V))) {o : Option Ptr} → o ≡ None → o ≡ first_at hs → first (pairs_of hs) ≡ None
+none-first [] none is = refl
+none-first (t ∷ hs) none is = absurd (let no : None ≡ Some t.at = sym none ∙ is in cc)
+
+pub none-last : {K V : Type 0} (hs : List (Held (K × V))) {o : Option Ptr} → o ≡ None → o ≡ last_at hs → last (pairs_of hs) ≡ None
+none-last [] none is = refl
+none-last (t ∷ hs) none is = absurd (let no : None ≡ Some (last_of t hs) = sym none ∙ is in cc)
 
 -- the first node has the first index
 pub before-first_at : {B : Type 0} {p : Ptr} (hs : List (Held B)) → Some p ≡ first_at hs → before p hs ≡ 0

@@ -10,7 +10,7 @@ use Rattle.lhm_ring.specs.Ring.{Held}
 use Rattle.lhm_ring.specs.Search.{HasKey}
 
 pub IsIndex-HasKey : {K V : Type 0} {eq : K → K → Bool} {hash : ℕ} {k : K}
-    {hs : List (Held (K × V))} {p : Ptr} (h : HasKey eq hash k hs p)
+    {hs : List (Held (K × V))} {p : Ptr} (h : HasKey (eq k) hash hs p)
     → IsIndex eq (pairs_of hs) k (length h.held.before)
 IsIndex-HasKey h = let held = h.held in
     record {
@@ -19,7 +19,7 @@ IsIndex-HasKey h = let held = h.held in
       same = h.key_is held.before held.node held.after held.is held.at_is;
     }
 
-module _ {K V : Type 0} {eq : K → K → Bool} {hash : ℕ} {k : K} {hs : List (Held (K × V))} {p : Ptr} (h : HasKey eq hash k hs p) where
+module _ {K V : Type 0} {is_key : K → Bool} {hash : ℕ} {hs : List (Held (K × V))} {p : Ptr} (h : HasKey is_key hash hs p) where
   pub before-HasKey : before p hs < length hs
   before-HasKey = let at = h.held in
       subst (λ (ks : List (Held (K × V))). before p ks < length ks) (sym at.is)
@@ -31,9 +31,10 @@ module _ {K V : Type 0} {eq : K → K → Bool} {hash : ℕ} {k : K} {hs : List 
       let of_bare = length-bare hs in
       omega (arith, lies, of_before, of_bare)
 
+module _ {K V : Type 0} {eq : K → K → Bool} {hash : ℕ} {k : K} {hs : List (Held (K × V))} {p : Ptr} (h : HasKey (eq k) hash hs p) where
   pub IsIndex-before : IsIndex eq (pairs_of hs) k (before p hs)
   IsIndex-before =
-      let cut = CutAt-before p hs before-HasKey in let at = cut.held in
+      let cut = CutAt-before p hs (before-HasKey h) in let at = cut.held in
       record {
         pair = at.node.pair;
         there = ap (slice_get (pairs_of hs)) (sym cut.long) ∙ slice_get-held at;

@@ -24,21 +24,31 @@ module _ {K V : Type 0} {eq : K → K → Bool} {hash : K → ℕ} (hs : List (H
   pub distinct_keys : IsDistinct eq (keys_of (pairs_of hs))
   distinct_keys = subst (IsDistinct eq) (keys-bare hs) kept.distinct
 
-  pub IsValid-kept : {S : Type 0} {m : LinkedMap K V S} → m.pairs ≡ pairs_of hs → m.capacity ≡ capacity → IsValid eq m
-  IsValid-kept pairs same =
+  pub IsValid-kept : {S : Type 0} {m : LinkedMap K V S} → m.pairs ≡ pairs_of hs → m.capacity ≡ capacity
+      → m.cursor ≡ cursor_at visit (bare hs) → IsValid eq m
+  IsValid-kept pairs same cursor =
       let of_bare = length-bare hs in let of_pairs = length-pairs_of hs in
       let len = ap length pairs in
       record {
         distinct = subst (λ ps. IsDistinct eq (keys_of ps)) (sym pairs) distinct_keys;
         within = omega (arith, len, same, of_pairs, of_bare, kept.within);
         limit = omega (arith, same, kept.limit);
+        reach = omega (
+          arith,
+          len,
+          of_pairs,
+          of_bare,
+          kept.in_reach,
+          ap (λ c. c.bookmark) cursor,
+          ap (λ c. c.unvisited) cursor,
+        );
       }
 
 -- as its callers see it
 pub IsValid-view : {K V S H : Type 0} {eq : K → K → Bool} {hash : K → ℕ} (m : Inside K V S H)
-    {seen : LinkedMap K V S} {visit : VisitState} → map_of m.table (beside m) ≡ seen
-    → IsKept eq hash (bare m.table.held) m.table.capacity visit → IsValid eq seen
-IsValid-view {eq = eq} m is kept = subst (IsValid eq) is (IsValid-kept m.table.held kept refl refl)
+    {seen : LinkedMap K V S} → map_of m.table (beside m) ≡ seen
+    → IsKept eq hash (bare m.table.held) m.table.capacity (beside m).visit → IsValid eq seen
+IsValid-view {eq = eq} m is kept = subst (IsValid eq) is (IsValid-kept m.table.held kept refl refl refl)
 
 -- with other values in the same nodes, other pairs are seen, and nothing else
 pub map_of-revalued : {K V S : Type 0} (s : TableState (K × V)) (hs : List (Held (K × V)))

@@ -1,6 +1,6 @@
 -- A node that is moved behind the others.
-use Rattle.std.proofs.Common.{◌≡◌, ℕ, suc, ◌+◌, ◌-◌, ◌<◌, ◌≤◌, Bool, true, false, ◌||◌, cond, List, [], ◌∷◌, ◌++◌, map, length, slice_get}
-use Rattle.std.proofs.Common.{remove, Some, None, sym, ap, ap₂, ◌∙◌, subst, arith, length-append}
+use Rattle.std.proofs.Common.{◌≡◌, ℕ, suc, ◌+◌, ◌-◌, ◌<◌, ◌≤◌, inr, Bool, true, false, ◌||◌, cond, List, [], ◌∷◌, ◌++◌, map, length, slice_get}
+use Rattle.std.proofs.Common.{remove, Some, None, refl, sym, ap, ap₂, ◌∙◌, subst, arith, length-append}
 use Rattle.std.specs.List.{list_any, IsDistinct}
 use Rattle.std.specs.Cmp.{IsEquivalence}
 use Rattle.std.proofs.lemmas.List.{map-append}
@@ -8,21 +8,21 @@ use Rattle.std.proofs.lemmas.Map.Keys.{IsDistinct-head, IsDistinct-tail}
 use denote.RawPtr.{Ptr}
 use Rattle.lhm_ring.proofs.lists.Apart.{IsFresh, same_ptr-reflexive, same_ptr-symmetric, IsFresh-middle}
 use Rattle.lhm_ring.proofs.lists.ForAll.{AllByRecursion-right}
-use Rattle.linked_hash_map.specs.Nodes.{VisitState, Lies, pairs_of, bare, bare_node, before, bookmark_at, IsKept}
+use Rattle.linked_hash_map.specs.Nodes.{VisitState, no_visit, Lies, pairs_of, bare, bare_node, before, bookmark_at, IsKept}
 use Rattle.linked_hash_map.proofs.lists.Distinct.{none_from_all}
-use Rattle.linked_hash_map.proofs.nodes.HeldPairs.{length-bare, pairs_of-append}
+use Rattle.linked_hash_map.proofs.nodes.HeldPairs.{length-bare, before-bare, pairs_of-append}
 use Rattle.linked_hash_map.proofs.nodes.CutNodes.{CutAt, CutAt-before, slice_get-held, pairs_of-removed}
 use Rattle.linked_hash_map.proofs.nodes.Outside.{IsElsewhere, to_visit_at, to_visit_of, to_visit-bare, before_held, to_visit-out, bare-cut}
 use Rattle.linked_hash_map.proofs.nodes.Kept.{IsKept-same}
 use Rattle.linked_hash_map.proofs.nodes.Outside.{IsKept-cut, IsElsewhere-cut}
 use Rattle.linked_hash_map.proofs.nodes.TakenNode.{IsKept-out}
 use Rattle.linked_hash_map.proofs.nodes.PushedPair.{IsKept-append, bookmark_at-append, to_visit-append}
-use Rattle.linked_hash_map.proofs.nodes.Current.{IsKept-current}
+use Rattle.linked_hash_map.proofs.nodes.Current.{IsKept-current, IsKept-visited}
 use Rattle.lhm_ring.specs.Nodes.{same_ptr, IsApart}
 use Rattle.lhm_ring.specs.Ring.{Held, AtHeld}
 
 -- among keys that differ, one differs from the others
-list_any-others : {K : Type 0} {eq : K → K → Bool} → IsEquivalence eq
+pub list_any-others : {K : Type 0} {eq : K → K → Bool} → IsEquivalence eq
     → (xs : List K) (x : K) (ys : List K) → IsDistinct eq (xs ++ x ∷ ys)
     → list_any (eq x) (xs ++ ys) ≡ false
 list_any-others {K} {eq} laws [] x ys h = none_from_all (eq x) ys (IsDistinct-head eq x ys h)
@@ -144,3 +144,10 @@ module _ {K V : Type 0} (hs ks : List (Held (K × V))) {p : Ptr}
         let behind = behind-back (bare h.before) (bare_node h.node) (bare h.after)
         (IsKept-cut cut_moved kept) (IsElsewhere-cut cut_moved visit elsewhere) in
         omega (arith, index, of_bare, cut, same_bookmark, behind)
+
+  -- and no pair is to be visited, nor is there a current one
+  pub IsKept-back : {eq : K → K → Bool} → IsEquivalence eq → {hash : K → ℕ} {capacity n : ℕ} {visit : VisitState}
+      → IsKept eq hash (bare hs) capacity visit → n ≡ capacity → IsKept eq hash (bare ks) n no_visit
+  IsKept-back laws kept same =
+      let at = before-bare p hs in let long = length-bare hs in
+      IsKept-visited (IsKept-moved (IsKept-visited kept (Some p) (omega (arith, at, long, lies))) (inr (omega arith)) laws refl same) None tt

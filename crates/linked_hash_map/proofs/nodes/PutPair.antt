@@ -64,7 +64,7 @@ module _ {K V : Type 0} {p : Ptr} {mode : Mode} {hs ks : List (Held (K × V))}
   pub touched_cut : CutAt p ks
   touched_cut = cut_by hs ks p moved.lies mode moved.touched
 
-  slice_get-touched : (pair : K × V) → slice_get (pairs_of hs) (before p hs) ≡ Some pair
+  pub slice_get-touched : (pair : K × V) → slice_get (pairs_of hs) (before p hs) ≡ Some pair
       → slice_get (pairs_of ks) (before p ks) ≡ Some pair
   slice_get-touched = slice_get_by hs ks p moved.lies mode moved.touched
 
@@ -129,15 +129,15 @@ module _ {K V : Type 0} {eq : K → K → Bool} (laws : IsEquivalence eq) {hash 
     (hs ks : List (Held (K × V))) {capacity : ℕ} {visit : VisitState} {p : Ptr}
     (kept : IsKept eq hash (bare hs) capacity visit) (is : visit.current ≡ Some p)
     (elsewhere : IsElsewhere (before p hs) visit (bare hs)) where
-  IsKept-touched : (mode : Mode) → IsTouched mode p hs ks → {n : ℕ} → n ≡ capacity → IsKept eq hash (bare ks) n visit
+  pub IsKept-touched : (mode : Mode) → IsTouched mode p hs ks → {n : ℕ} → n ≡ capacity → IsKept eq hash (bare ks) n visit
   IsKept-touched Touch moved = IsKept-moved hs ks moved.0 (before-current hs kept is) kept elsewhere laws is
   IsKept-touched Keep same = λ capacity. IsKept-same (ap bare same) capacity kept
 
-  to_visit-touched : (mode : Mode) → IsTouched mode p hs ks → to_visit_of visit ks ≡ to_visit_of visit hs
+  pub to_visit-touched : (mode : Mode) → IsTouched mode p hs ks → to_visit_of visit ks ≡ to_visit_of visit hs
   to_visit-touched Touch moved = to_visit-moved hs ks moved.0 (before-current hs kept is) kept elsewhere
   to_visit-touched Keep same = ap (to_visit_of visit) same
 
-  elsewhere-touched : (mode : Mode) → IsTouched mode p hs ks → IsElsewhere (before p ks) visit (bare ks)
+  pub elsewhere-touched : (mode : Mode) → IsTouched mode p hs ks → IsElsewhere (before p ks) visit (bare ks)
   elsewhere-touched Touch moved = inr (behind-moved hs ks moved.0 (before-current hs kept is) kept elsewhere moved.1)
   elsewhere-touched Keep same = subst (λ (ns : List (Held (K × V))). IsElsewhere (before p ns) visit (bare ns)) (sym same) elsewhere
 

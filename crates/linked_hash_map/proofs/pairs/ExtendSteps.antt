@@ -1,15 +1,17 @@
 -- What `extend` and `extend_refs` have inserted, one step after another.
-use Rattle.std.proofs.Common.{◌≡◌, ◌+◌, ◌≤◌, ℕ, max, Bool, List, [], ◌∷◌, ◌++◌, length, map, Option, Some, None, sym, ap, ◌∙◌, subst, arith}
+use Rattle.std.proofs.Common.{◌≡◌, ◌+◌, ◌≤◌, ℕ, max, Bool, List, [], ◌∷◌, ◌++◌, length, map, Option, Some, None, OnSome, IfNone}
+use Rattle.std.proofs.Common.{IsSome, refl, sym, ap, ◌∙◌, subst, arith, length-append}
 use Rattle.std.specs.List.{IsDistinct}
 use Rattle.std.specs.Map.{keys_of}
 use Rattle.std.specs.Iterator.{Count, IsFinite, size, MakesProgress, YieldsThen}
 use Rattle.std.specs.Cmp.{IsEquivalence}
-use Rattle.std.proofs.lemmas.List.{map-append, length-map}
+use Rattle.std.proofs.lemmas.List.{map-append, map-id, length-map}
 use Rattle.linked_hash_map.specs.Changes.{KeepsSettings}
 use Rattle.linked_hash_map.specs.LinkedMap.{LinkedMap}
-use Rattle.linked_hash_map.specs.Counts.{rechained_raised}
-use Rattle.linked_hash_map.specs.Inserts.{InsertsUntil}
-use Rattle.linked_hash_map.specs.Pairs.{find, put}
+use Rattle.linked_hash_map.specs.Counts.{rechained_raised, made_raised}
+use Rattle.linked_hash_map.specs.Inserts.{InsertsUntil, LeavesVisit, ExtendsWith}
+use Rattle.linked_hash_map.specs.Cursor.{to_visit}
+use Rattle.linked_hash_map.specs.Pairs.{find, value_at, put}
 use Rattle.linked_hash_map.specs.Validity.{IsValid}
 use Rattle.linked_hash_map.proofs.pairs.Inserts.{HasInserted, HasInserted-none, HasInserted-put, AreWithinBound, AreWithinBound-next}
 use Rattle.linked_hash_map.proofs.runs.Extends.{find-insert_each_absent}
@@ -23,6 +25,23 @@ pub record IsExtended {I X K V S : Type 0} (eq : K → K → Bool) (shows : X �
   pub inserted : HasInserted eq old (map shows came) new
   pub valid : IsValid eq new
   pub bound : AreWithinBound remaining start now (length came)
+  pub visit : LeavesVisit (length came) old new
+
+-- one more insertion, of a present key or of a new one
+LeavesVisit-put : {K V S : Type 0} {n : ℕ} {old before after : LinkedMap K V S}
+    → LeavesVisit n old before → length before.pairs ≤ length old.pairs + n → (value found : Option V)
+    → value ≡ found → OnSome value (to_visit after ≡ []) → IfNone value (to_visit after ≡ to_visit before)
+    → (IsSome found → length after.pairs ≡ length before.pairs)
+    → (found ≡ None → length after.pairs ≡ length before.pairs + 1) → LeavesVisit (n + 1) old after
+LeavesVisit-put visit most (Some v) found is ends stands as_many more =
+    let long = as_many (subst IsSome is refl) in
+    record { stands = λ longer. absurd (omega (arith, most, long, longer)); ended = λ shorter. ends }
+LeavesVisit-put visit most None found is ends stands as_many more =
+    let long = more (sym is) in
+    record {
+      stands = λ longer. stands ∙ visit.stands (omega (arith, long, longer));
+      ended = λ shorter. stands ∙ visit.ended (omega (arith, long, shorter));
+    }
 
 module _ {I X K V S : Type 0} {eq : K → K → Bool} (laws : IsEquivalence eq) {shows : X → K × V}
     {remaining : I → Count} {old : LinkedMap K V S} {start : I} where
@@ -33,6 +52,7 @@ module _ {I X K V S : Type 0} {eq : K → K → Bool} (laws : IsEquivalence eq) 
         inserted = HasInserted-none laws old valid;
         valid = valid;
         bound = record { finite = finite; fewer = omega arith };
+        visit = record { stands = λ longer. refl; ended = λ shorter. absurd (omega (arith, shorter)) };
       }
 
   -- one more comes
@@ -40,20 +60,34 @@ module _ {I X K V S : Type 0} {eq : K → K → Bool} (laws : IsEquivalence eq) 
       (distinct : IsDistinct eq (keys_of old.pairs))
       (so_far : IsExtended eq shows remaining old start now came before)
       (goes : MakesProgress can remaining now (Some item) later) where
+    -- as many pairs as came, at most, are new
+    most : length before.pairs ≤ length old.pairs + length came
+    most =
+        let shown = length-map came shows in
+        let longest = length-insert_each_most laws old.mode old.pairs (map shows came) distinct in
+        omega (arith, shown, longest, ap length so_far.inserted.pairs)
+
     pub IsExtended-put : {after : LinkedMap K V S}
         → after.pairs ≡ put eq before.mode before.pairs (shows item).0 (shows item).1
         → after.capacity ≡ max before.capacity (length after.pairs)
         → after.rechained
         ≡ rechained_raised before.rechained (length before.pairs) before.capacity after.capacity
-        → KeepsSettings before after → IsValid eq after
+        → after.made ≡ made_raised before.made before.capacity after.capacity
+        → KeepsSettings before after → IsValid eq after → (value : Option V)
+        → value ≡ value_at eq before.pairs (shows item).0 → OnSome value (to_visit after ≡ [])
+        → IfNone value (to_visit after ≡ to_visit before)
+        → (IsSome (value_at eq before.pairs (shows item).0) → length after.pairs ≡ length before.pairs)
+        → (value_at eq before.pairs (shows item).0 ≡ None → length after.pairs ≡ length before.pairs + 1)
         → IsExtended eq shows remaining old start later (came ++ item ∷ []) after
-    IsExtended-put {after} pairs capacity rechained settings valid = record {
+    IsExtended-put {after} pairs capacity rechained made settings valid value is ends stands as_many more = record {
       inserted = subst (λ items. HasInserted eq old items after)
           (sym (map-append shows came (item ∷ [])))
           (HasInserted-put laws (shows item).0 (shows item).1 distinct so_far.inserted
-          pairs capacity rechained settings);
+          pairs capacity rechained made settings);
       valid = valid;
       bound = AreWithinBound-next can remaining came item so_far.bound goes;
+      visit = subst (λ n. LeavesVisit n old after) (sym (length-append came (item ∷ [])))
+          (LeavesVisit-put so_far.visit most value (value_at eq before.pairs (shows item).0) is ends stands as_many more);
     }
 
     -- the key of an item that is refused was absent at the start
@@ -65,32 +99,41 @@ module _ {I X K V S : Type 0} {eq : K → K → Bool} (laws : IsEquivalence eq) 
     -- a map with room for all items is not full as one comes
     pub room-IsExtended : (n : ℕ) → size (remaining start) ≤ n
         → length before.pairs ≡ before.capacity → length old.pairs + n ≤ old.capacity → ⊥
-    room-IsExtended n most full fits =
-        let step = goes.on so_far.bound.finite in let shown = length-map came shows in
-        let longest = length-insert_each_most laws old.mode old.pairs (map shows came) distinct in
-        omega (
-          arith,
-          most,
-          step.2,
-          so_far.bound.fewer,
-          shown,
-          longest,
-          ap length so_far.inserted.pairs,
-          so_far.inserted.capacity,
-          full,
-          fits,
-        )
+    room-IsExtended n given full fits =
+        let step = goes.on so_far.bound.finite in
+        omega (arith, given, step.2, so_far.bound.fewer, most, so_far.inserted.capacity, full, fits)
 
-    -- up to an item that is refused
+    -- up to an item that is refused, with what is left to be visited
     pub InsertsUntil-IsExtended : {T : Type 0} {becomes : T → I → Type 0}
         {steps : I → Option X → I → Type 0} {source : T} → becomes source start
         → YieldsThen steps start came (Some item) later → {after : LinkedMap K V S} → after ≡ before
         → {key : K} {value : V} → key ≡ (shows item).0 → value ≡ (shows item).1
-        → InsertsUntil becomes steps source eq shows old.mode old.pairs after.pairs key value
-    InsertsUntil-IsExtended made gives unchanged key value = record {
-      given = came;
-      item = item;
-      gives = record { iterator = start; left = later; made = made; gives = gives };
-      shown = λ i. (sym key i, sym value i);
-      pairs = ap (λ m. m.pairs) unchanged ∙ so_far.inserted.pairs;
-    }
+        → (inserts : InsertsUntil becomes steps source eq shows old.mode old.pairs after.pairs key value)
+        × LeavesVisit (length inserts.given) old after
+    InsertsUntil-IsExtended made gives unchanged key value = (
+      record {
+        given = came;
+        item = item;
+        gives = record { iterator = start; left = later; made = made; gives = gives };
+        shown = λ i. (sym key i, sym value i);
+        pairs = ap (λ m. m.pairs) unchanged ∙ so_far.inserted.pairs;
+      },
+      subst (LeavesVisit (length came) old) (sym unchanged) so_far.visit,
+    )
+
+-- the items that came so far went in
+module _ {I X K V S : Type 0} {eq : K → K → Bool} {shows : X → K × V} {remaining : I → Count}
+    {old new : LinkedMap K V S} {start now : I} {came : List X} where
+  pub ExtendsWith-IsExtended : IsExtended eq shows remaining old start now came new → ExtendsWith eq old (map shows came) new
+  ExtendsWith-IsExtended so_far = record {
+    pairs = so_far.inserted.pairs;
+    capacity = so_far.inserted.capacity;
+    settings = so_far.inserted.settings;
+    valid = so_far.valid;
+  }
+
+pub ExtendsWith-pairs : {I K V S : Type 0} {eq : K → K → Bool} {remaining : I → Count}
+    {old new : LinkedMap K V S} {start now : I} {came : List (K × V)}
+    → IsExtended eq (λ pair. pair) remaining old start now came new → ExtendsWith eq old came new
+ExtendsWith-pairs {eq = eq} {old = old} {new = new} {came = came} so_far =
+    subst (λ items. ExtendsWith eq old items new) (map-id came) (ExtendsWith-IsExtended so_far)

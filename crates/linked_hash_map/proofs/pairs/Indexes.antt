@@ -1,14 +1,14 @@
 -- Calls by key on a list of pairs with different keys, at the index of the key.
 use Rattle.std.proofs.Common.{◌≡◌, ℕ, zero, suc, ◌+◌, ◌-◌, ◌<◌, Bool, true, false, cond, not, List}
 use Rattle.std.proofs.Common.{[], ◌∷◌, ◌++◌, length, remove, slice_get, Some, None, is_some}
-use Rattle.std.proofs.Common.{option_map, refl, sym, ap, ap₂, ◌∙◌, subst, true≢false, arith}
+use Rattle.std.proofs.Common.{option_to_list, option_map, refl, sym, ap, ap₂, ◌∙◌, subst, true≢false, arith}
 use Rattle.std.specs.List.{list_any, IsDistinct, AllByRecursion}
 use Rattle.std.specs.Map.{keys_of, lookup_entry}
 use Rattle.std.specs.Cmp.{IsEquivalence}
 use Rattle.std.proofs.lemmas.Map.Keys.{IsDistinct-head, IsDistinct-tail}
 use Rattle.std.proofs.Math.Nat.{le_of_suc-le-suc}
 use Rattle.lhm_ring.proofs.lists.Options.{Some-injective}
-use Rattle.linked_hash_map.specs.Pairs.{key_or, find, value_at, without, to_back, set_value}
+use Rattle.linked_hash_map.specs.Pairs.{key_or, find, value_at, without, to_back, to_back_as_is, to_front, set_value}
 use Rattle.linked_hash_map.specs.Indexes.{IsIndex, pair_at, set_value_at}
 use Rattle.linked_hash_map.proofs.log.LiveKeys.{same_test}
 use Rattle.linked_hash_map.proofs.lists.Distinct.{none_from_all}
@@ -66,7 +66,7 @@ all_at P (first ∷ pairs) (suc i) pair h all = all_at P pairs i pair h all.1
 
 module _ {K V : Type 0} {eq : K → K → Bool} (laws : IsEquivalence eq) (k : K) where
   -- if the first pair is that of the key, the others are not
-  others_differ : (first : K × V) (pairs : List (K × V)) → IsDistinct eq (keys_of (first ∷ pairs))
+  pub others_differ : (first : K × V) (pairs : List (K × V)) → IsDistinct eq (keys_of (first ∷ pairs))
       → eq k first.0 ≡ true → lookup_entry (eq k) pairs ≡ None
   others_differ first pairs distinct same = lookup_entry-none (eq k) pairs
       (ap (λ test. list_any test (keys_of pairs)) (same_test laws k first.0 same)
@@ -170,6 +170,12 @@ module _ {K V : Type 0} {eq : K → K → Bool} (laws : IsEquivalence eq) {pairs
 
     pub to_back-index : (v : V) → to_back eq pairs k v ≡ remove pairs i ++ (pair.0, v) ∷ []
     to_back-index v = ap₂ (λ ps o. ps ++ (key_or k o, v) ∷ []) without-index find-index
+
+    pub to_back_as_is-index : to_back_as_is eq pairs k ≡ remove pairs i ++ pair ∷ []
+    to_back_as_is-index = ap₂ (λ ps o. ps ++ option_to_list o) without-index find-index
+
+    pub to_front-index : to_front eq pairs k ≡ pair ∷ remove pairs i
+    to_front-index = ap₂ (λ ps o. option_to_list o ++ ps) without-index find-index
 
   pub value_at-slice_get : value_at eq pairs k ≡ option_map (λ p. p.1) (slice_get pairs i)
   value_at-slice_get = ap (option_map (λ p. p.1)) (find-index index.there ∙ sym index.there)

@@ -5,6 +5,8 @@ use Rattle.std.specs.Map.Iter.{TakesFirst, TakesLast, ShowsInOrder, ShowsInRever
 use Rattle.std.specs.Map.Iter.{LendsValuesInOrder, LendsValuesInReverse}
 use Rattle.std.proofs.lemmas.List.{map-append}
 use Rattle.std.proofs.iter.runs.Sources.{from_front, from_back, as_is, as_is_back}
+use Rattle.std.specs.Iterator.Runs.{YieldsMutRefsInOrder, YieldsMutRefsInReverse}
+use Rattle.linked_hash_map.specs.MutableValues.{values_left, LendsFirstValue, LendsLastValue}
 use Rattle.linked_hash_map.specs.Pairs.{KeysStand}
 
 -- an iterator that is seen as the list of what it has left
@@ -32,6 +34,14 @@ module _ {S K X : Type 0} (rest : S → List (K × X)) where
   lends_in_reverse =
       from_back (LendsLast rest) (λ x. x.1.now) (λ s. values_of (rest s)) (λ s t h. ap (λ l. length (values_of l)) h.0)
       (λ s x t h. ap values_of h ∙ map-append (λ pair. pair.1) (rest t) ((x.0.now, x.1.now) ∷ []))
+
+-- the iterator that lends the values alone
+module _ {K V : Type 0} where
+  pub lends_values_in_order : YieldsMutRefsInOrder (LendsFirstValue {K = K} {V = V}) values_left
+  lends_values_in_order = from_front LendsFirstValue (λ v. v.now) values_left (λ s t h. ap length h.0) (λ s v t h. h)
+
+  pub lends_values_in_reverse : YieldsMutRefsInReverse (LendsLastValue {K = K} {V = V}) values_left
+  lends_values_in_reverse = from_back LendsLastValue (λ v. v.now) values_left (λ s t h. ap length h.0) (λ s v t h. h)
 
 -- a step leaves less
 module _ {K V : Type 0} where

@@ -29,8 +29,12 @@ module _ {T : Type 0} where
   ids_of-sessions_of [] = refl
   ids_of-sessions_of (pair ∷ ps) = ap (λ ids. pair.0 ∷ ids) (ids_of-sessions_of ps)
 
-  -- by this a table whose sessions are kept is valid
-  pub ruleset kept_sessions = (ids_of-sessions_of)
+  pub length-sessions_of : (ps : List (ℕ × Weighted T)) → length (sessions_of ps) ≡ length ps
+  length-sessions_of [] = refl
+  length-sessions_of (pair ∷ ps) = ap suc (length-sessions_of ps)
+
+  -- by these a table whose sessions are kept is valid
+  pub ruleset kept_sessions = (ids_of-sessions_of, length-sessions_of)
 
   pub sessions_of-without : (ps : List (ℕ × Weighted T)) (id : ℕ) → sessions_of (pairs.without nat_eq ps id) ≡ without (sessions_of ps) id
   sessions_of-without [] id = refl
@@ -122,17 +126,19 @@ module _ {T : Type 0} where
       ∙ ap (option_map (λ (w : Weighted T). w.payload)) (value_at-to_back_apart nat_eq_equiv ps id other weighted apart)
       ∙ sym (payload_of-sessions_of ps other)
 
-  pub length-sessions_of : (ps : List (ℕ × Weighted T)) → length (sessions_of ps) ≡ length ps
-  length-sessions_of [] = refl
-  length-sessions_of (pair ∷ ps) = ap suc (length-sessions_of ps)
-
   -- what holds of a table that is kept so
   module _ {S : Type 0} {m : LinkedMap ℕ (Weighted T) S} {total limit : ℕ} (kept : IsKeptWithin m total limit) where
     pub distinct-sessions_of : IsDistinct nat_eq (ids_of (sessions_of m.pairs))
     distinct-sessions_of = subst (IsDistinct nat_eq) (sym (ids_of-sessions_of m.pairs)) kept.valid.distinct
 
-    pub IsValidTable-kept : IsValidTable (session_table (sessions_of m.pairs) limit)
-    IsValidTable-kept = record { distinct = distinct-sessions_of; within = let sum = kept.sum in let within = kept.within in omega arith }
+    pub IsValidTable-kept : IsValidTable (session_table (sessions_of m.pairs) limit m.capacity)
+    IsValidTable-kept =
+        record {
+          distinct = distinct-sessions_of;
+          within = let sum = kept.sum in let within = kept.within in omega arith;
+          room = let room = kept.valid.within in omega (arith, length-sessions_of m.pairs);
+          few = kept.valid.limit;
+        }
 
     pub total_weight-others : (id : ℕ) → total_weight (without (sessions_of m.pairs) id) + weight_of (sessions_of m.pairs) id ≡ total
     total_weight-others id = total_weight-without (sessions_of m.pairs) id distinct-sessions_of ∙ sym kept.sum
@@ -172,7 +178,7 @@ module _ {T : Type 0} where
         let others = total_weight-others kept id in
         let after = total_weight-with_last (sessions_of m.pairs) id (weight_of (sessions_of m.pairs) id) payload in
         record {
-          valid = IsValid-put nat_eq_equiv Touch id now kept.valid refl (omega arith) (omega arith);
+          valid = IsValid-put nat_eq_equiv Touch id now kept.valid refl (omega arith) (omega arith) (omega arith);
           mode = kept.mode;
           sum = omega (arith, ap total_weight (sessions_of-refreshed payload));
           within = kept.within;

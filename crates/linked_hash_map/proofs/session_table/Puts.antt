@@ -1,6 +1,7 @@
 -- What a put does to the pairs of a table's map.
-use Rattle.std.proofs.Common.{◌≡◌, ℕ, zero, suc, ◌+◌, ◌-◌, ◌<◌, ◌≤◌, Bool, true, false, cond, List, [], ◌∷◌, ◌++◌, length, drop, nat_eq}
+use Rattle.std.proofs.Common.{◌≡◌, ℕ, zero, suc, ◌+◌, ◌-◌, ◌<◌, ◌≤◌, Bool, true, false, cond, not, List, [], ◌∷◌, ◌++◌, length, drop, nat_eq}
 use Rattle.std.proofs.Common.{Option, Some, None, is_some, option_map, true≢false, refl, sym, ap, ◌∙◌, arith, length-append, length-drop}
+use Rattle.std.specs.Prelude.{max}
 use Rattle.std.specs.Cmp.{IsEquivalence, nat_eq_equiv}
 use Rattle.std.specs.List.{IsDistinct}
 use Rattle.std.specs.Map.{keys_of}
@@ -11,7 +12,7 @@ use Rattle.linked_hash_map.specs.Pairs as pairs
 use Rattle.linked_hash_map.specs.SessionTables.{Session, total_weight, session_of, payload_of, without, with_last, fit}
 use Rattle.linked_hash_map.specs.SessionsKept.{sessions_of}
 use Rattle.linked_hash_map.specs.declared.sessions.storage.Weighted.{Weighted}
-use Rattle.linked_hash_map.proofs.Callers.Keys.{distinct-to_back, find-drop, without-absent}
+use Rattle.linked_hash_map.proofs.Callers.Keys.{distinct-to_back, find-drop, length-to_back_present, without-absent}
 use Rattle.linked_hash_map.proofs.Callers.Lookups.{find-without_here, value_at-to_back_apart}
 use Rattle.linked_hash_map.proofs.Callers.Turns.{find-others}
 use Rattle.linked_hash_map.proofs.log.LiveKeys.{none_is}
@@ -94,6 +95,39 @@ module _ {T : Type 0} where
   pub length-with_last : (sessions : List (Session T)) (id weight : ℕ) (payload : T)
       → length (with_last sessions id weight payload) ≡ length (without sessions id) + 1
   length-with_last sessions id weight payload = length-append (without sessions id) ((id, weight, payload) ∷ [])
+
+  -- there is room for as many as are left, and for no more if it was enough
+  pub capacity-put : (is_new : Bool) (count : ℕ) (ps : List (ℕ × Weighted T)) (id weight : ℕ) (payload : T) {old now : ℕ}
+      → length ps ≤ old → IsDistinct nat_eq (keys_of ps)
+      → is_some (session_of (sessions_of ps) id) ≡ not is_new
+      → count ≤ length (without (sessions_of ps) id)
+      → (count ≡ 0 → is_new ≡ true → now ≡ max old (length ps + 1))
+      → ((count ≡ 0 → is_new ≡ false) → now ≡ old)
+      → now ≡ max old (length (drop count (with_last (sessions_of ps) id weight payload)))
+  capacity-put true zero ps id weight payload within distinct new enough raised same =
+      let all = length-with_last (sessions_of ps) id weight payload in
+      let grown = raised refl refl in
+      omega (arith, all, length-without_new ps id (find-new ps id new))
+  capacity-put true (suc count) ps id weight payload within distinct new enough raised same =
+      let all = length-with_last (sessions_of ps) id weight payload in
+      let stays = same (λ zero. absurd (omega (arith, zero))) in
+      omega (
+        arith,
+        all,
+        length-drop (suc count) (with_last (sessions_of ps) id weight payload),
+        length-without_new ps id (find-new ps id new),
+      )
+  capacity-put false count ps id weight payload within distinct present enough raised same =
+      let weighted : Weighted T = record { weight = weight; payload = payload } in
+      let found : IsSome (pairs.find nat_eq ps id) = sym (is_some-session_of ps id) ∙ present in
+      let stays = same (λ zero. refl) in
+      omega (
+        arith,
+        length-drop count (with_last (sessions_of ps) id weight payload),
+        ap length (sessions_of-to_back ps id weighted),
+        length-sessions_of (pairs.to_back nat_eq ps id weighted),
+        length-to_back_present nat_eq_equiv ps id weighted distinct found,
+      )
 
   -- the new session stays, with those that fit beside it
   pub fit-with_last : (limit weight id : ℕ) (payload : T) (sessions left : List (Session T))

@@ -3,12 +3,12 @@ use Rattle.std.proofs.Common.{◌≡◌, ℕ, ◌+◌, ◌≤◌, Bool, true, fa
 use Rattle.std.specs.Borrow.{MutBor}
 use Rattle.std.specs.List.{FoldsTo}
 use Rattle.std.specs.Map.Calls.{CallableOnEachPair, SomeCallAtPair, RetainsPairs}
-use denote.Param.Always.{always_mut, mut_next}
 use denote.Param.Members.{Mut}
+use Rattle.std.proofs.lemmas.List.{map-append}
 use Rattle.linked_hash_map.specs.Retains.{IsSublist}
 use Rattle.linked_hash_map.specs.SessionTables.{Session, total_weight}
 use Rattle.linked_hash_map.specs.SessionsKept.{sessions_of}
-use Rattle.linked_hash_map.specs.SessionRetains.{weights_of, CalledAtSession, RetainsSessions}
+use Rattle.linked_hash_map.specs.SessionRetains.{weights_of, TakesSession, CalledAtSession, SomeCallAtSession, CallableOnEachSession, RetainsSessions}
 use Rattle.linked_hash_map.specs.declared.sessions.storage.Weighted.{Weighted}
 use Rattle.linked_hash_map.proofs.nodes.Retained.{first-retained}
 use Rattle.linked_hash_map.proofs.session_table.Lists.{total_weight-cons}
@@ -40,11 +40,6 @@ module _ {F T : Type 0} (g : Mut F (ℕ × (ℕ × (MutBor T × Unit {0}))) (Boo
             omega (arith, rest, all, some, stays)
         | false ↦ λ is. let some = ap total_weight is in omega (arith, rest, all, some)
       ]) r.kept_is
-
-  -- a closure that may always be called may be called again after each call
-  pub always-called : (f : F) (session : Session T) (b : Bool) (payload : T) (f' : F)
-      → CalledAtSession g f session b payload f' → always_mut g f → always_mut g f'
-  always-called f session b payload f' call always = mut_next g _ _ _ _ _ call.called refl always
 
 -- the weight of the first of the sessions that pairs stand for, and of the others
 pub total_weight-next : {T : Type 0} (pairs : List (ℕ × Weighted T)) (pair : ℕ × Weighted T)
@@ -85,26 +80,34 @@ module _ {C F T : Type 0} (calls : C → ℕ → Weighted T → Bool → Weighte
             (sessions_of of.rest));
       }
 
+  calls-sessions : (c : C) (pairs : List (ℕ × Weighted T)) (c' : C)
+      → FoldsTo (SomeCallAtPair calls) c pairs c'
+      → FoldsTo (SomeCallAtSession g) (inner c) (sessions_of pairs) (inner c')
+  calls-sessions c [] c' end = ap inner end
+  calls-sessions c (pair ∷ pairs) c' steps = (
+    inner steps.0,
+    (steps.1.0, steps.1.1.payload, (says c pair.0 pair.1 steps.1.0 steps.1.1 steps.0 steps.1.2).0),
+    calls-sessions steps.0 pairs c' steps.2,
+  )
+
+  -- it may be called at each pair if the other may be called at each session
+  pub callable-sessions : (Takes : C → ℕ → Weighted T → Type 0)
+      → ((c : C) (id : ℕ) (weighted : Weighted T)
+      → TakesSession g (inner c) (id, weighted.weight, weighted.payload) → Takes c id weighted)
+      → (c : C) (pairs : List (ℕ × Weighted T))
+      → CallableOnEachSession g (inner c) (sessions_of pairs)
+      → CallableOnEachPair calls Takes c pairs
+  callable-sessions Takes takes c pairs callable =
+      record {
+        at = λ before after c' id weighted is steps.
+            takes c' id weighted (callable.at (sessions_of before) (sessions_of after)
+            (id, weighted.weight, weighted.payload) (inner c')
+            (ap sessions_of is ∙ map-append (λ (pair : ℕ × Weighted T). (pair.0, pair.1.weight, pair.1.payload)) before ((id, weighted) ∷ after))
+            (calls-sessions c before c' steps));
+      }
+
   pub lighter-retained : (c : C) (pairs kept : List (ℕ × Weighted T))
       → RetainsPairs calls c pairs kept
       → total_weight (sessions_of kept) ≤ total_weight (sessions_of pairs)
   lighter-retained c pairs kept r = total_weight-retained g (inner c) (sessions_of pairs)
       (sessions_of kept) (sessions-retained c pairs kept r)
-
--- what holds of a closure after each of its calls lets it be called at each pair
-module _ {C K X : Type 0} (calls : C → K → X → Bool → X → C → Type 0) (Ready : C → Type 0)
-    (still : (c : C) (k : K) (v : X) (b : Bool) (w : X) (c' : C) → calls c k v b w c' → Ready c
-    → Ready c') where
-  ready_after : (pairs : List (K × X)) (c c' : C) → FoldsTo (SomeCallAtPair calls) c pairs c' → Ready c → Ready c'
-  ready_after [] c c' end ready = subst Ready end ready
-  ready_after (pair ∷ pairs) c c' steps ready = ready_after pairs steps.0 c' steps.2
-      (still c pair.0 pair.1 steps.1.0 steps.1.1 steps.0 steps.1.2 ready)
-
-  pub callable-ready : (Takes : C → K → X → Type 0)
-      → ((c : C) (k : K) (v : X) → Ready c → Takes c k v) → (c : C) (pairs : List (K × X)) → Ready c
-      → CallableOnEachPair calls Takes c pairs
-  callable-ready Takes takes c pairs ready =
-      record {
-        at = λ before after c' k v is steps.
-            takes c' k v (ready_after before c c' steps ready);
-      }

@@ -66,7 +66,8 @@ impl<K: Eq + Hash, V, S: BuildHasher> LinkedHashMap<K, V, S> {
     }
 
     /// Begins a visit of every pair, front to back, and returns the map, in O(1).
-    /// [`next_entry`](LinkedHashMap::next_entry) returns the entries. Later keys are not visited.
+    /// [`next_entry`](LinkedHashMap::next_entry) returns the entries. A pair that goes in later, as
+    /// by a vacant entry, is not visited, and leaves the visit.
     ///
     /// Another visit, by this call or by `entries`, ends it, and so does each call, except an
     /// entry's, that may remove or move a pair: in both modes `insert`, the extensions, `entry`,

@@ -1,11 +1,12 @@
 //! The call `entry`, and the methods of `Entry`.
 ghost use Rattle.std.specs.Prelude.{◌≡◌, ◌<◌, length, is_some, Some, None, unwrap_or, IsTrue, IfOk, IfErr, OnOk, OnErr};
-ghost use Rattle.std.specs.Borrow.{sem, MutBor};
+ghost use Rattle.std.specs.Borrow.{sem, Bor, MutBor};
 ghost use Rattle.std.specs.Map.Calls.{ModifiesValue};
 ghost use Rattle.std.specs.Option.{UnwrapsOrElse};
+ghost use Rattle.std.specs.Fn.{FnOnceReturnsAt};
 ghost use Rattle.linked_hash_map.specs.Pairs.{key_or, find, value_at, without, set_or_push, set_if_some, put, ActsAs};
-ghost use Rattle.linked_hash_map.specs.Cursor.{without_cursor};
-ghost use Rattle.linked_hash_map.specs.Changes.{Keeps};
+ghost use Rattle.linked_hash_map.specs.Cursor.{to_visit, without_cursor};
+ghost use Rattle.linked_hash_map.specs.Changes.{Keeps, set_or_pushed};
 ghost use Rattle.linked_hash_map.specs.Updates.{Updates};
 ghost use Rattle.linked_hash_map.specs.Validity.{IsValid};
 ghost use Rattle.linked_hash_map.specs.Entry.{entry_map_ref, entry_map, is_occupied, entry_key, entry_value, lends_entry};
@@ -154,6 +155,10 @@ impl<'a, K: Eq + Hash, V, S: BuildHasher> Entry<'a, K, V, S> {
         ensures full { OnErr result
             (length (entry_map self.entry).pairs ≡ (entry_map self.entry).capacity) }
         ensures valid { IsValid K.eq (entry_map self.entry) }
+        // A law of the map once a value is written, for the proofs of callers. A new pair is not to
+        // be visited, and those that are stay so.
+        ensures to_visit { (v : V) → to_visit (set_or_pushed K.eq (entry_map self.entry)
+            (entry_key self.entry) v) ≡ to_visit (entry_map self.entry) }
     {
         match self {
             Entry::Occupied(entry) => Ok(entry.into_mut()),
@@ -187,12 +192,55 @@ impl<'a, K: Eq + Hash, V, S: BuildHasher> Entry<'a, K, V, S> {
         ensures full { OnErr result
             (length (entry_map self.entry).pairs ≡ (entry_map self.entry).capacity) }
         ensures valid { IsValid K.eq (entry_map self.entry) }
+        // A law, as that of `or_insert`.
+        ensures to_visit { (v : V) → to_visit (set_or_pushed K.eq (entry_map self.entry)
+            (entry_key self.entry) v) ≡ to_visit (entry_map self.entry) }
     {
         let vacant = match self {
             Entry::Occupied(occupied) => return Ok(occupied.into_mut()),
             Entry::Vacant(vacant) => vacant,
         };
         let value = f();
+        vacant.insert(value)
+    }
+
+    /// Does what `or_insert_with` does, with an `f` that is given the key.
+    ///
+    /// # Examples
+    ///
+    /// ```rust
+    /// let mut map = LinkedHashMap::new(rt.alloc());
+    /// let lent = map.entry(7_u64).or_insert_with_key(|key| *key / 2)?;
+    /// assert_eq!(rt; *lent, 3);
+    /// ```
+    pub fn or_insert_with_key<F: FnOnce(&K) -> V + Drop>(
+        self,
+        f: F,
+    ) -> Result<&'a mut V, Refused<K, V>>
+        requires { entry_value self ≡ None
+            → (key : Bor K) → key.now ≡ entry_key self → F.pre f key }
+        ensures* writes_back { sem 𝓛
+            (lends_entry K.row V.row S.row S.Hasher.row K.Hash S.BuildHasher S.Hasher.Hasher
+            self.entry result) }
+        ensures value { IfOk result (λ lent.
+            UnwrapsOrElse (entry_value self.entry)
+            (FnOnceReturnsAt F.FnOnce f (entry_key self.entry)) lent.now) }
+        ensures limit { OnOk result
+            (entry_value self.entry ≡ None → length (entry_map self.entry).pairs < LIMIT) }
+
+        ensures key_back { IfErr result (λ refused. refused.key ≡ entry_key self.entry) }
+        ensures value_back { IfErr result (λ refused.
+            FnOnceReturnsAt F.FnOnce f (entry_key self.entry) refused.value) }
+        ensures absent { OnErr result (entry_value self.entry ≡ None) }
+        ensures full { OnErr result
+            (length (entry_map self.entry).pairs ≡ (entry_map self.entry).capacity) }
+        ensures valid { IsValid K.eq (entry_map self.entry) }
+    {
+        let vacant = match self {
+            Entry::Occupied(entry) => return Ok(entry.into_mut()),
+            Entry::Vacant(vacant) => vacant,
+        };
+        let value = f(vacant.key());
         vacant.insert(value)
     }
 
@@ -223,6 +271,9 @@ impl<'a, K: Eq + Hash, V, S: BuildHasher> Entry<'a, K, V, S> {
         ensures full { OnErr result
             (length (entry_map self.entry).pairs ≡ (entry_map self.entry).capacity) }
         ensures valid { IsValid K.eq (entry_map self.entry) }
+        // A law, as that of `or_insert`.
+        ensures to_visit { (v : V) → to_visit (set_or_pushed K.eq (entry_map self.entry)
+            (entry_key self.entry) v) ≡ to_visit (entry_map self.entry) }
     {
         match self {
             Entry::Occupied(occupied) => Ok(occupied.into_mut()),

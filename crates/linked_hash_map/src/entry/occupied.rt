@@ -1,7 +1,7 @@
 //! The methods of `OccupiedEntry`.
 ghost use Rattle.std.specs.Prelude.{◌≡◌, ◌+◌, length, Some, None};
 ghost use Rattle.std.specs.Borrow.{sem};
-ghost use Rattle.linked_hash_map.specs.Pairs.{without, put, set_value};
+ghost use Rattle.linked_hash_map.specs.Pairs.{find, without, put, set_value, to_back_as_is, to_front};
 ghost use Rattle.linked_hash_map.specs.Cursor.{to_visit};
 ghost use Rattle.linked_hash_map.specs.Changes.{Keeps};
 ghost use Rattle.linked_hash_map.specs.Updates.{Updates};
@@ -110,6 +110,70 @@ impl<'a, K: Eq + Hash, V, S: BuildHasher> OccupiedEntry<'a, K, V, S> {
         self.map.insert_current(value)
     }
 
+    /// Moves the pair to the back, in both modes, in O(1). It stays that of the entry. Hashes no
+    /// key.
+    ///
+    /// # Examples
+    ///
+    /// ```rust
+    /// let mut map = LinkedHashMap::new(rt.alloc());
+    /// map.insert('x', 1)?;
+    /// map.insert('y', 2)?;
+    /// if let Entry::Occupied(mut entry) = map.entry('x') {
+    ///     entry.move_to_back();
+    /// }
+    /// assert_eq!(rt; map.back(), Some((&'x', &1)));
+    /// ```
+    pub fn move_to_back(&mut self)
+        ensures same_map { (occupied_map_ref self.new).ghost_name
+            ≡ (occupied_map_ref self.old).ghost_name }
+        ensures key { occupied_key self.new ≡ occupied_key self.old }
+        ensures value { occupied_value self.new ≡ occupied_value self.old }
+        ensures pairs { (occupied_map self.new).pairs
+            ≡ to_back_as_is K.eq (occupied_map self.old).pairs (occupied_key self.old) }
+        ensures keeps { Keeps (occupied_map self.old) (occupied_map self.new) }
+        ensures to_visit { to_visit (occupied_map self.new) ≡ to_visit (occupied_map self.old) }
+        ensures valid { IsValid K.eq (occupied_map self.old) }
+        ensures stays_valid { IsValid K.eq (occupied_map self.new) }
+        // A consequence of `pairs`, for the proofs of callers.
+        ensures finds { (q : K) → find K.eq (occupied_map self.new).pairs q
+            ≡ find K.eq (occupied_map self.old).pairs q }
+    {
+        self.map.move_current_to_back();
+    }
+
+    /// Moves the pair to the front, in both modes, in O(1). It stays that of the entry. Hashes no
+    /// key.
+    ///
+    /// # Examples
+    ///
+    /// ```rust
+    /// let mut map = LinkedHashMap::new(rt.alloc());
+    /// map.insert('x', 1)?;
+    /// map.insert('y', 2)?;
+    /// if let Entry::Occupied(mut entry) = map.entry('y') {
+    ///     entry.move_to_front();
+    /// }
+    /// assert_eq!(rt; map.front(), Some((&'y', &2)));
+    /// ```
+    pub fn move_to_front(&mut self)
+        ensures same_map { (occupied_map_ref self.new).ghost_name
+            ≡ (occupied_map_ref self.old).ghost_name }
+        ensures key { occupied_key self.new ≡ occupied_key self.old }
+        ensures value { occupied_value self.new ≡ occupied_value self.old }
+        ensures pairs { (occupied_map self.new).pairs
+            ≡ to_front K.eq (occupied_map self.old).pairs (occupied_key self.old) }
+        ensures keeps { Keeps (occupied_map self.old) (occupied_map self.new) }
+        ensures to_visit { to_visit (occupied_map self.new) ≡ to_visit (occupied_map self.old) }
+        ensures valid { IsValid K.eq (occupied_map self.old) }
+        ensures stays_valid { IsValid K.eq (occupied_map self.new) }
+        // A consequence of `pairs`, for the proofs of callers.
+        ensures finds { (q : K) → find K.eq (occupied_map self.new).pairs q
+            ≡ find K.eq (occupied_map self.old).pairs q }
+    {
+        self.map.move_current_to_front();
+    }
+
     /// Removes the pair, drops the stored key and returns the value. The others keep their order.
     pub fn remove(self) -> V
     where
@@ -126,7 +190,36 @@ impl<'a, K: Eq + Hash, V, S: BuildHasher> OccupiedEntry<'a, K, V, S> {
             (occupied_key self.entry) None }
         ensures fewer { length self.exit.0.now.pairs + 1 ≡ length (occupied_map self.entry).pairs }
     {
-        let (_key, value) = self.map.remove_current();
+        let (_key, value) = self.remove_entry();
         value
+    }
+
+    /// Removes the pair and returns the stored key and the value. The others keep their order.
+    ///
+    /// # Examples
+    ///
+    /// ```rust
+    /// let mut map = LinkedHashMap::new(rt.alloc());
+    /// map.insert('x', 1)?;
+    /// if let Entry::Occupied(entry) = map.entry('x') {
+    ///     assert_eq!(rt; entry.remove_entry(), ('x', 1));
+    /// }
+    /// assert!(rt; map.is_empty());
+    /// ```
+    pub fn remove_entry(self) -> (K, V)
+        ensures key { result.0 ≡ occupied_key self.entry }
+        ensures value { result.1 ≡ occupied_value self.entry }
+        ensures pairs { self.exit.0.now.pairs
+            ≡ without K.eq (occupied_map self.entry).pairs (occupied_key self.entry) }
+        ensures keeps { Keeps (occupied_map self.entry) self.exit.0.now }
+        ensures to_visit { to_visit self.exit.0.now ≡ to_visit (occupied_map self.entry) }
+        ensures valid { IsValid K.eq (occupied_map self.entry) }
+        ensures stays_valid { IsValid K.eq self.exit.0.now }
+        // Consequences of `pairs`, for the proofs of callers.
+        ensures updates { Updates K.eq (occupied_map self.entry).pairs self.exit.0.now.pairs
+            (occupied_key self.entry) None }
+        ensures fewer { length self.exit.0.now.pairs + 1 ≡ length (occupied_map self.entry).pairs }
+    {
+        self.map.remove_current()
     }
 }

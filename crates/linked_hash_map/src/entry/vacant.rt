@@ -2,6 +2,8 @@
 ghost use Rattle.std.specs.Prelude.{◌≡◌, ◌<◌, [], ◌∷◌, ◌++◌, length, Some, None, IfOk, IfErr, OnOk, OnErr};
 ghost use Rattle.std.specs.Borrow.{sem};
 ghost use Rattle.linked_hash_map.specs.Pairs.{find};
+ghost use Rattle.linked_hash_map.specs.Cursor.{to_visit};
+ghost use Rattle.linked_hash_map.specs.Changes.{pushed};
 ghost use Rattle.linked_hash_map.specs.Updates.{Updates};
 ghost use Rattle.linked_hash_map.specs.Validity.{IsValid};
 ghost use Rattle.linked_hash_map.specs.Entry.{vacant_map, vacant_key, lends_pushed};
@@ -28,6 +30,29 @@ impl<'a, K: Eq + Hash, V, S: BuildHasher> VacantEntry<'a, K, V, S> {
         ensures { result.now ≡ vacant_key self.now }
     {
         &self.key
+    }
+
+    /// Returns the key, in O(1). The map stays as it is.
+    ///
+    /// # Examples
+    ///
+    /// ```rust
+    /// let mut map: LinkedHashMap<char, u64> = LinkedHashMap::new(rt.alloc());
+    /// if let Entry::Vacant(entry) = map.entry('x') {
+    ///     assert_eq!(rt; entry.into_key(), 'x');
+    /// }
+    /// assert!(rt; map.is_empty());
+    /// ```
+    pub fn into_key(self) -> K
+        ensures key { result ≡ vacant_key self.entry }
+        ensures unchanged { self.exit.0.now ≡ vacant_map self.entry }
+    {
+        let VacantEntry {
+            map: _,
+            key,
+            hash: _,
+        } = self;
+        key
     }
 
     /// Inserts the key and a value at the back, and returns a mutable reference to the value. It
@@ -59,7 +84,10 @@ impl<'a, K: Eq + Hash, V, S: BuildHasher> VacantEntry<'a, K, V, S> {
             (length (vacant_map self.entry).pairs ≡ (vacant_map self.entry).capacity) }
         ensures valid { IsValid K.eq (vacant_map self.entry) }
 
-        // A law of the map once a value is written, for the proofs of callers.
+        // Laws of the map once a value is written, for the proofs of callers. The pair is not to be
+        // visited, and those that are stay so.
+        ensures to_visit { (v : V) → to_visit (pushed (vacant_map self.entry)
+            (vacant_key self.entry) v) ≡ to_visit (vacant_map self.entry) }
         ensures updates { (v : V) → OnOk result
             (Updates K.eq (vacant_map self.entry).pairs
             ((vacant_map self.entry).pairs ++ (vacant_key self.entry, v) ∷ [])

@@ -26,7 +26,7 @@ pub enum IterMut<'a, K, V> {
 /// The pairs that are left of an [`IterMut`].
 #[derive(Drop)]
 pub struct Lent<'a, K, V> {
-    nodes: table::Lent<'a, K, V>,
+    pub(super) nodes: table::Lent<'a, K, V>,
 }
 
 impl<'a, K, V> IterMut<'a, K, V> {

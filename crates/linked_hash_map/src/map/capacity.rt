@@ -3,7 +3,7 @@ ghost use Rattle.std.specs.Prelude.{◌≡◌, ◌+◌, ◌*◌, ◌<◌, ◌≤
 ghost use Rattle.linked_hash_map.specs.Cursor.{to_visit};
 ghost use Rattle.linked_hash_map.specs.Changes.{KeepsSettings};
 ghost use Rattle.linked_hash_map.specs.Validity.{IsValid};
-ghost use Rattle.linked_hash_map.specs.Counts.{buckets, rechained_raised, rechained_fitted};
+ghost use Rattle.linked_hash_map.specs.Counts.{buckets, rechained_raised, rechained_fitted, made_raised, made_fitted};
 
 use super::{LIMIT, LinkedHashMap};
 use crate::error::{NoRoom, ReserveError};
@@ -32,6 +32,8 @@ impl<K: Eq + Hash, V, S: BuildHasher> LinkedHashMap<K, V, S> {
         ensures rechained { OnOk result
             (self.new.rechained ≡ rechained_raised self.old.rechained (length self.old.pairs)
             self.old.capacity self.new.capacity) }
+        ensures made { OnOk result
+            (self.new.made ≡ made_raised self.old.made self.old.capacity self.new.capacity) }
         ensures to_visit { to_visit self.new ≡ to_visit self.old }
         ensures valid { IsValid K.eq self.old }
         ensures stays_valid { IsValid K.eq self.new }
@@ -80,6 +82,8 @@ impl<K: Eq + Hash, V, S: BuildHasher> LinkedHashMap<K, V, S> {
         ensures capacity { OnOk result (self.new.capacity ≡ length self.old.pairs) }
         ensures rechained { OnOk result (self.new.rechained
             ≡ rechained_fitted self.old.rechained (length self.old.pairs) self.old.capacity) }
+        ensures made { OnOk result (self.new.made
+            ≡ made_fitted self.old.made (length self.old.pairs) self.old.capacity) }
         ensures to_visit { to_visit self.new ≡ to_visit self.old }
         ensures valid { IsValid K.eq self.old }
         ensures stays_valid { IsValid K.eq self.new }
@@ -87,6 +91,8 @@ impl<K: Eq + Hash, V, S: BuildHasher> LinkedHashMap<K, V, S> {
         ensures unchanged { OnErr result (self.new ≡ self.old) }
         ensures some { OnErr result (0 < length self.old.pairs) }
         ensures spare { OnErr result (length self.old.pairs < self.old.capacity) }
+        ensures falls { OnErr result
+            (buckets (length self.old.pairs) < buckets self.old.capacity) }
     {
         let behind = self.visit.behind(&self.table);
         match self.table.shrink_to_fit() {

@@ -2,7 +2,7 @@
 ghost use Rattle.std.specs.Prelude.{◌≡◌, ◌<◌, [], length, option_map, None, ◌∷◌, map, remove, slice_get, Some, IfSome, IfNone, IsTrue, IsFalse};
 ghost use Rattle.std.specs.Map.{keys_of};
 ghost use Rattle.std.specs.Borrow.{sem};
-ghost use Rattle.linked_hash_map.specs.Pairs.{find, put};
+ghost use Rattle.linked_hash_map.specs.Pairs.{find, put, to_back_as_is, to_front};
 ghost use Rattle.linked_hash_map.specs.Cursor.{to_visit, without_cursor, IsOutside};
 ghost use Rattle.linked_hash_map.specs.Changes.{Keeps};
 ghost use Rattle.linked_hash_map.specs.Validity.{IsValid};
@@ -290,6 +290,44 @@ impl<K: Eq + Hash, V, S: BuildHasher> LinkedHashMap<K, V, S> {
         let at = self.visit.current().unwrap();
         touch(&mut self.table, at, self.mode);
         mem::replace(self.table.value_mut(at), value)
+    }
+
+    /// Moves the current pair to the back.
+    pub(crate) fn move_current_to_back(&mut self)
+        requires within { self.old.cursor.current < length self.old.pairs }
+        requires outside { IsOutside self.old.cursor.current self.old }
+        ensures pairs { (key : K) → IsIndex K.eq self.old.pairs key self.old.cursor.current →
+            self.new.pairs ≡ to_back_as_is K.eq self.old.pairs key }
+        ensures pair { (pair : K × V) → slice_get self.old.pairs self.old.cursor.current ≡ Some pair
+            → slice_get self.new.pairs self.new.cursor.current ≡ Some pair }
+        ensures len { length self.new.pairs ≡ length self.old.pairs }
+        ensures keeps { Keeps self.old self.new }
+        ensures to_visit { to_visit self.new ≡ to_visit self.old }
+        ensures outside { IsOutside self.new.cursor.current self.new }
+        ensures valid { IsValid K.eq self.old }
+        ensures stays_valid { IsValid K.eq self.new }
+    {
+        let at = self.visit.current().unwrap();
+        self.table.move_to_back(at);
+    }
+
+    /// Moves the current pair to the front.
+    pub(crate) fn move_current_to_front(&mut self)
+        requires within { self.old.cursor.current < length self.old.pairs }
+        requires outside { IsOutside self.old.cursor.current self.old }
+        ensures pairs { (key : K) → IsIndex K.eq self.old.pairs key self.old.cursor.current →
+            self.new.pairs ≡ to_front K.eq self.old.pairs key }
+        ensures pair { (pair : K × V) → slice_get self.old.pairs self.old.cursor.current ≡ Some pair
+            → slice_get self.new.pairs self.new.cursor.current ≡ Some pair }
+        ensures len { length self.new.pairs ≡ length self.old.pairs }
+        ensures keeps { Keeps self.old self.new }
+        ensures to_visit { to_visit self.new ≡ to_visit self.old }
+        ensures outside { IsOutside self.new.cursor.current self.new }
+        ensures valid { IsValid K.eq self.old }
+        ensures stays_valid { IsValid K.eq self.new }
+    {
+        let at = self.visit.current().unwrap();
+        self.table.move_to_front(at);
     }
 
     /// Removes and returns the current pair. None is then current.

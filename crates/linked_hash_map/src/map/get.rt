@@ -1,15 +1,17 @@
 //! Lookups, and indexing by a key that is present.
-ghost use Rattle.std.specs.Prelude.{◌≡◌, ◌≤◌, option_copied, option_map, is_some, IfNone, OnSome, Some, IsSome};
+ghost use Rattle.std.specs.Prelude.{◌≡◌, ◌≤◌, length, option_copied, option_map, is_some, IfNone, IfSome, OnSome, Some, IsSome};
 ghost use Rattle.std.specs.Map.Iter.{deref_pair};
 ghost use Rattle.std.specs.Borrow.{sem};
 ghost use Rattle.std.specs.Option.{option_copied_mut};
-ghost use Rattle.linked_hash_map.specs.Pairs.{find, value_at, to_back, set_value, first, last};
-ghost use Rattle.linked_hash_map.specs.Updates.{Updates};
+ghost use Rattle.linked_hash_map.specs.Changes.{refreshed_by};
+ghost use Rattle.linked_hash_map.specs.Pairs.{find, value_at, to_back_by, set_value, first, last, set_first, set_last};
+ghost use Rattle.linked_hash_map.specs.Updates.{Updates, UpdatesBy};
 ghost use Rattle.linked_hash_map.specs.Validity.{IsValid};
 ghost use Rattle.linked_hash_map.specs.Hashers.{hash_by};
 ghost use Rattle.linked_hash_map.specs.Counts.{same, beside};
 
 use super::LinkedHashMap;
+use equivalent::Equivalent;
 use std::hash::{BuildHasher, Hash};
 use std::ops::{Index, IndexMut};
 
@@ -34,7 +36,7 @@ pub struct Probe {
 }
 
 impl<K: Eq + Hash, V, S: BuildHasher> LinkedHashMap<K, V, S> {
-    ghost use Rattle.linked_hash_map.specs.Lends.{lends_value, lends_refreshed};
+    ghost use Rattle.linked_hash_map.specs.Lends.{lends_value, lends_refreshed, lends_first, lends_last};
 
     /// Returns the value of a key, if present, in O(1). Hashes the key once.
     ///
@@ -46,12 +48,30 @@ impl<K: Eq + Hash, V, S: BuildHasher> LinkedHashMap<K, V, S> {
     /// assert_eq!(rt; map.get(&'x'), Some(&1));
     /// assert_eq!(rt; map.get(&'y'), None);
     /// ```
-    pub fn get(&self, key: &K) -> Option<&V>
-        ensures { option_copied result ≡ value_at K.eq self.now.pairs key.now }
+    pub fn get<Q: Equivalent<K>>(&self, key: Q) -> Option<&V>
+        ensures { option_copied result ≡ value_at Q.equivalent self.now.pairs key }
     {
         let hash = self.hasher.hash_one(key);
         let at = self.table.position(hash, key)?;
         Some(self.table.value(at))
+    }
+
+    /// Returns the stored key and the value of a key, if present, in O(1). Hashes the key once.
+    ///
+    /// # Examples
+    ///
+    /// ```rust
+    /// let mut map = LinkedHashMap::new(rt.alloc());
+    /// map.insert('x', 1)?;
+    /// assert_eq!(rt; map.get_key_value(&'x'), Some((&'x', &1)));
+    /// assert_eq!(rt; map.get_key_value(&'y'), None);
+    /// ```
+    pub fn get_key_value<Q: Equivalent<K>>(&self, key: Q) -> Option<(&K, &V)>
+        ensures { option_map deref_pair result ≡ find Q.equivalent self.now.pairs key }
+    {
+        let hash = self.hasher.hash_one(key);
+        let found = self.table.position(hash, key)?;
+        Some((self.table.key(found), self.table.value(found)))
     }
 
     /// Returns a mutable reference to the value of a key, if present, in O(1). Hashes the key once.
@@ -66,17 +86,19 @@ impl<K: Eq + Hash, V, S: BuildHasher> LinkedHashMap<K, V, S> {
     /// }
     /// assert_eq!(rt; map.get(&'x'), Some(&3));
     /// ```
-    pub fn get_mut(&mut self, key: &K) -> Option<&mut V>
+    pub fn get_mut<Q: Equivalent<K>>(&mut self, key: Q) -> Option<&mut V>
         ensures* writes_back { sem 𝓛
             (lends_value K.row V.row S.row S.Hasher.row K.Hash S.BuildHasher S.Hasher.Hasher
-            self.entry key.now result) }
-        ensures value { option_copied_mut result ≡ value_at K.eq self.old.pairs key.now }
+            self.entry Q.equivalent key result) }
+        ensures value { option_copied_mut result ≡ value_at Q.equivalent self.old.pairs key }
         ensures valid { IsValid K.eq self.old }
 
-        // A law of the map once a value is written, for the proofs of callers.
+        // Laws of the map once a value is written, for the proofs of callers.
         ensures updates { (v : V) → OnSome result
-            (Updates K.eq self.old.pairs (set_value K.eq self.old.pairs key.now v) key.now
-            (Some v)) }
+            (UpdatesBy K.eq self.old.pairs (set_value Q.equivalent self.old.pairs key v)
+            (Q.equivalent key) (Some v)) }
+        ensures stays_valid { (v : V) → IsValid K.eq
+            (record self.old { pairs = set_value Q.equivalent self.old.pairs key v }) }
     {
         let hash = self.hasher.hash_one(key);
         match self.table.position(hash, key) {
@@ -100,16 +122,25 @@ impl<K: Eq + Hash, V, S: BuildHasher> LinkedHashMap<K, V, S> {
     /// assert_eq!(rt; map.back(), Some((&'x', &3)));
     /// ```
     #[inline]
-    pub fn get_refresh(&mut self, key: &K) -> Option<&mut V>
+    pub fn get_refresh<Q: Equivalent<K>>(&mut self, key: Q) -> Option<&mut V>
         ensures* writes_back { sem 𝓛
             (lends_refreshed K.row V.row S.row S.Hasher.row K.Hash S.BuildHasher S.Hasher.Hasher
-            self.entry key.now result) }
-        ensures value { option_copied_mut result ≡ value_at K.eq self.old.pairs key.now }
+            self.entry Q.equivalent Q.as_key key result) }
+        ensures value { option_copied_mut result ≡ value_at Q.equivalent self.old.pairs key }
         ensures valid { IsValid K.eq self.old }
 
-        // A law of the map once a value is written, for the proofs of callers.
-        ensures updates { (v : V)
-            → Updates K.eq self.old.pairs (to_back K.eq self.old.pairs key.now v) key.now (Some v) }
+        // Laws of the map once a value is written, for the proofs of callers.
+        ensures updates { (v : V) → OnSome result
+            (UpdatesBy K.eq self.old.pairs (to_back_by Q.equivalent Q.as_key self.old.pairs key v)
+            (Q.equivalent key) (Some v)) }
+        ensures back { (v : V) → OnSome result
+            (last (to_back_by Q.equivalent Q.as_key self.old.pairs key v)
+            ≡ option_map (λ pair. (pair.0, v)) (find Q.equivalent self.old.pairs key)) }
+        ensures as_many { (v : V) → OnSome result
+            (length (to_back_by Q.equivalent Q.as_key self.old.pairs key v)
+            ≡ length self.old.pairs) }
+        ensures stays_valid { (v : V) → OnSome result
+            (IsValid K.eq (refreshed_by Q.equivalent Q.as_key self.old key v)) }
     {
         let hash = self.hasher.hash_one(key);
         match self.table.position(hash, key) {
@@ -185,8 +216,8 @@ impl<K: Eq + Hash, V, S: BuildHasher> LinkedHashMap<K, V, S> {
     /// assert!(rt; map.contains_key(&'x'));
     /// assert!(rt; !map.contains_key(&'y'));
     /// ```
-    pub fn contains_key(&self, key: &K) -> bool
-        ensures { result ≡ is_some (find K.eq self.now.pairs key.now) }
+    pub fn contains_key<Q: Equivalent<K>>(&self, key: Q) -> bool
+        ensures { result ≡ is_some (find Q.equivalent self.now.pairs key) }
     {
         self.get(key).is_some()
     }
@@ -223,6 +254,76 @@ impl<K: Eq + Hash, V, S: BuildHasher> LinkedHashMap<K, V, S> {
     {
         let at = self.table.last()?;
         Some((self.table.key(at), self.table.value(at)))
+    }
+
+    /// Returns a mutable reference to the value of the front pair, if any, in O(1). Hashes no key;
+    /// `front` shows that of the pair.
+    ///
+    /// # Examples
+    ///
+    /// ```rust
+    /// let mut map = LinkedHashMap::new(rt.alloc());
+    /// map.insert('x', 1)?;
+    /// map.insert('y', 2)?;
+    /// if let Some(value) = map.front_mut() {
+    ///     *value = 3;
+    /// }
+    /// assert_eq!(rt; map.front(), Some((&'x', &3)));
+    /// ```
+    pub fn front_mut(&mut self) -> Option<&mut V>
+        ensures* writes_back { sem 𝓛
+            (lends_first K.row V.row S.row S.Hasher.row K.Hash S.BuildHasher S.Hasher.Hasher
+            self.entry result) }
+        ensures value { option_copied_mut result
+            ≡ option_map (λ pair. pair.1) (first self.old.pairs) }
+        ensures valid { IsValid K.eq self.old }
+
+        // Laws of the map once a value is written, for the proofs of callers.
+        ensures stays_valid { (v : V) → IsValid K.eq (record self.old {
+          pairs = set_first self.old.pairs v;
+        }) }
+        ensures updates { (v : V) → IfSome (first self.old.pairs) (λ pair.
+            Updates K.eq self.old.pairs (set_first self.old.pairs v) pair.0 (Some v)) }
+    {
+        match self.table.first() {
+            Some(front) => Some(self.table.value_mut(front)),
+            None => None,
+        }
+    }
+
+    /// Returns a mutable reference to the value of the back pair, if any, in O(1). Hashes no key;
+    /// `back` shows that of the pair.
+    ///
+    /// # Examples
+    ///
+    /// ```rust
+    /// let mut map = LinkedHashMap::new(rt.alloc());
+    /// map.insert('x', 1)?;
+    /// map.insert('y', 2)?;
+    /// if let Some(value) = map.back_mut() {
+    ///     *value = 3;
+    /// }
+    /// assert_eq!(rt; map.back(), Some((&'y', &3)));
+    /// ```
+    pub fn back_mut(&mut self) -> Option<&mut V>
+        ensures* writes_back { sem 𝓛
+            (lends_last K.row V.row S.row S.Hasher.row K.Hash S.BuildHasher S.Hasher.Hasher
+            self.entry result) }
+        ensures value { option_copied_mut result
+            ≡ option_map (λ pair. pair.1) (last self.old.pairs) }
+        ensures valid { IsValid K.eq self.old }
+
+        // Laws of the map once a value is written, for the proofs of callers.
+        ensures stays_valid { (v : V) → IsValid K.eq (record self.old {
+          pairs = set_last self.old.pairs v;
+        }) }
+        ensures updates { (v : V) → IfSome (last self.old.pairs) (λ pair.
+            Updates K.eq self.old.pairs (set_last self.old.pairs v) pair.0 (Some v)) }
+    {
+        match self.table.last() {
+            Some(back) => Some(self.table.value_mut(back)),
+            None => None,
+        }
     }
 }
 
@@ -277,6 +378,8 @@ impl<'q, K: Eq + Hash, V, S: BuildHasher> IndexMut<&'q K> for LinkedHashMap<K, V
         ensures updates { (v : V)
             → Updates K.eq self.old.pairs (set_value K.eq self.old.pairs key.now v) key.now
             (Some v) }
+        ensures stays_valid { (v : V) → IsValid K.eq
+            (record self.old { pairs = set_value K.eq self.old.pairs key.now v }) }
     {
         match self.get_mut(key) {
             Some(value) => value,

@@ -6,7 +6,7 @@ ghost use Rattle.linked_hash_map.specs.Cursor.{to_visit};
 ghost use Rattle.linked_hash_map.specs.Changes.{Keeps, KeepsSettings};
 ghost use Rattle.linked_hash_map.specs.Validity.{IsValid};
 ghost use Rattle.linked_hash_map.specs.Hashers.{hash_by};
-ghost use Rattle.linked_hash_map.specs.Counts.{rechained_raised};
+ghost use Rattle.linked_hash_map.specs.Counts.{rechained_raised, made_raised};
 ghost use Rattle.linked_hash_map.specs.Touches.{IsTouched};
 ghost use Rattle.linked_hash_map.specs.Updates.{Updates};
 ghost use Rattle.lhm_ring.specs.Pointer.{pointer_of};
@@ -63,6 +63,8 @@ impl<K: Eq + Hash, V, S: BuildHasher> LinkedHashMap<K, V, S> {
         ensures rechained { OnOk result
             (self.new.rechained ≡ rechained_raised self.old.rechained (length self.old.pairs)
             self.old.capacity self.new.capacity) }
+        ensures made { OnOk result
+            (self.new.made ≡ made_raised self.old.made self.old.capacity self.new.capacity) }
         ensures settings { KeepsSettings self.old self.new }
         ensures ends_visit { IfOk result (λ old. OnSome old (to_visit self.new ≡ [])) }
         ensures to_visit { IfOk result (λ old. IfNone old (to_visit self.new ≡ to_visit self.old)) }
@@ -99,6 +101,44 @@ impl<K: Eq + Hash, V, S: BuildHasher> LinkedHashMap<K, V, S> {
         Ok(None)
     }
 
+    /// Inserts a pair as [`insert`](LinkedHashMap::insert) does, if the key is present or there is
+    /// room for one more pair: so it allocates nothing and is not refused. It is O(1).
+    ///
+    /// # Examples
+    ///
+    /// ```rust
+    /// let mut map = LinkedHashMap::with_capacity(rt.alloc(), 1)?;
+    /// if map.len() < map.capacity() {
+    ///     assert_eq!(rt; map.insert_within_capacity('x', 1), None);
+    /// }
+    /// assert_eq!(rt; map.get(&'x'), Some(&1));
+    /// ```
+    pub fn insert_within_capacity(&mut self, key: K, value: V) -> Option<V>
+    where
+        K: Drop,
+        requires { find K.eq self.old.pairs key ≡ None → length self.old.pairs < self.old.capacity }
+        ensures old { result ≡ value_at K.eq self.old.pairs key }
+        ensures pairs { self.new.pairs ≡ put K.eq self.old.mode self.old.pairs key value }
+        ensures keeps { Keeps self.old self.new }
+        ensures ends_visit { OnSome result (to_visit self.new ≡ []) }
+        ensures to_visit { IfNone result (to_visit self.new ≡ to_visit self.old) }
+        ensures valid { IsValid K.eq self.old }
+        ensures stays_valid { IsValid K.eq self.new }
+        // Consequences of `pairs`, for the proofs of callers.
+        ensures updates { Updates K.eq self.old.pairs self.new.pairs key (Some value) }
+        ensures pushed { value_at K.eq self.old.pairs key ≡ None
+            → self.new.pairs ≡ self.old.pairs ++ (key, value) ∷ [] }
+        ensures more { value_at K.eq self.old.pairs key ≡ None
+            → length self.new.pairs ≡ length self.old.pairs + 1 }
+        ensures as_many { IsSome (value_at K.eq self.old.pairs key)
+            → length self.new.pairs ≡ length self.old.pairs }
+    {
+        match self.insert(key, value) {
+            Ok(old) => old,
+            Err(_) => unreachable!(),
+        }
+    }
+
     /// Raises a full capacity by one, and returns whether there is room for one more pair.
     #[inline]
     pub(crate) fn make_room(&mut self) -> bool
@@ -110,6 +150,8 @@ impl<K: Eq + Hash, V, S: BuildHasher> LinkedHashMap<K, V, S> {
         ensures rechained { IsTrue result
             → self.new.rechained ≡ rechained_raised self.old.rechained (length self.old.pairs)
             self.old.capacity self.new.capacity }
+        ensures nodes { IsTrue result
+            → self.new.made ≡ made_raised self.old.made self.old.capacity self.new.capacity }
         ensures refused { IsFalse result → self.new ≡ self.old }
         ensures full { IsFalse result → length self.old.pairs ≡ self.old.capacity }
         ensures valid { IsValid K.eq self.old }

@@ -7,12 +7,13 @@ ghost use Rattle.linked_hash_map.specs.Pairs.{find, value_at, without, first, la
 ghost use Rattle.linked_hash_map.specs.Cursor.{to_visit};
 ghost use Rattle.linked_hash_map.specs.Changes.{Keeps, drained};
 ghost use Rattle.linked_hash_map.specs.Retains.{IsSublist};
-ghost use Rattle.linked_hash_map.specs.Updates.{Updates};
+ghost use Rattle.linked_hash_map.specs.Updates.{Updates, UpdatesBy};
 ghost use Rattle.linked_hash_map.specs.Validity.{IsValid};
 ghost use Rattle.linked_hash_map.specs.Hashers.{hash_by};
 
 use super::LinkedHashMap;
 use crate::drain::Drain;
+use equivalent::Equivalent;
 use std::hash::{BuildHasher, Hash};
 
 impl<K: Eq + Hash, V, S: BuildHasher> LinkedHashMap<K, V, S> {
@@ -34,39 +35,53 @@ impl<K: Eq + Hash, V, S: BuildHasher> LinkedHashMap<K, V, S> {
     /// assert_eq!(rt; (map.len(), map.capacity()), (1, 2));
     /// ```
     #[inline]
-    pub fn remove(&mut self, key: &K) -> Option<V>
+    pub fn remove<Q: Equivalent<K>>(&mut self, key: Q) -> Option<V>
     where
         K: Drop,
-        ensures value { result ≡ value_at K.eq self.old.pairs key.now }
-        ensures pairs { self.new.pairs ≡ without K.eq self.old.pairs key.now }
+        ensures value { result ≡ value_at Q.equivalent self.old.pairs key }
+        ensures pairs { self.new.pairs ≡ without Q.equivalent self.old.pairs key }
         ensures keeps { Keeps self.old self.new }
         ensures ends_visit { OnSome result (to_visit self.new ≡ []) }
         ensures to_visit { IfNone result (to_visit self.new ≡ to_visit self.old) }
         ensures valid { IsValid K.eq self.old }
         ensures stays_valid { IsValid K.eq self.new }
         // Consequences of `value` and `pairs`, for the proofs of callers.
-        ensures updates { Updates K.eq self.old.pairs self.new.pairs key.now None }
+        ensures updates { UpdatesBy K.eq self.old.pairs self.new.pairs (Q.equivalent key) None }
+        ensures fewer { OnSome result (length self.new.pairs + 1 ≡ length self.old.pairs) }
+        ensures same { IfNone result (self.new.pairs ≡ self.old.pairs) }
+    {
+        let (_stored, value) = self.remove_entry(key)?;
+        Some(value)
+    }
+
+    /// Removes and returns the pair of a key, if present, in O(1). The others keep their order.
+    /// Hashes the key once.
+    ///
+    /// # Examples
+    ///
+    /// ```rust
+    /// let mut map = LinkedHashMap::new(rt.alloc());
+    /// map.insert('x', 1)?;
+    /// map.insert('y', 2)?;
+    /// assert_eq!(rt; map.remove_entry(&'x'), Some(('x', 1)));
+    /// assert_eq!(rt; map.remove_entry(&'x'), None);
+    /// assert_eq!(rt; (map.len(), map.capacity()), (1, 2));
+    /// ```
+    #[inline]
+    pub fn remove_entry<Q: Equivalent<K>>(&mut self, key: Q) -> Option<(K, V)>
+        ensures pair { result ≡ find Q.equivalent self.old.pairs key }
+        ensures pairs { self.new.pairs ≡ without Q.equivalent self.old.pairs key }
+        ensures keeps { Keeps self.old self.new }
+        ensures ends_visit { OnSome result (to_visit self.new ≡ []) }
+        ensures to_visit { IfNone result (to_visit self.new ≡ to_visit self.old) }
+        ensures valid { IsValid K.eq self.old }
+        ensures stays_valid { IsValid K.eq self.new }
+        // Consequences of `pair` and `pairs`, for the proofs of callers.
+        ensures updates { UpdatesBy K.eq self.old.pairs self.new.pairs (Q.equivalent key) None }
         ensures fewer { OnSome result (length self.new.pairs + 1 ≡ length self.old.pairs) }
         ensures same { IfNone result (self.new.pairs ≡ self.old.pairs) }
     {
         let hash = self.hasher.hash_one(key);
-        let (_stored, value) = self.remove_hashed(hash, key)?;
-        Some(value)
-    }
-
-    /// Removes and returns the pair of a key, if present, and then ends a visit.
-    #[inline]
-    pub(crate) fn remove_hashed(&mut self, hash: u64, key: &K) -> Option<(K, V)>
-        requires { hash ≡ hash_by S.Hasher.finish S.Hasher.write S.build_hasher K.hash_input
-            self.old.hasher key.now }
-        ensures value { option_map (λ pair. pair.1) result ≡ value_at K.eq self.old.pairs key.now }
-        ensures pairs { self.new.pairs ≡ without K.eq self.old.pairs key.now }
-        ensures ends_visit { OnSome result (to_visit self.new ≡ []) }
-        ensures to_visit { IfNone result (to_visit self.new ≡ to_visit self.old) }
-        ensures keeps { Keeps self.old self.new }
-        ensures valid { IsValid K.eq self.old }
-        ensures stays_valid { IsValid K.eq self.new }
-    {
         let pair = self.table.remove(hash, key)?;
         self.visit.active = false;
         Some(pair)

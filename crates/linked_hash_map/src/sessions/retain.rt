@@ -1,7 +1,7 @@
 //! `retain`.
 ghost use Rattle.std.specs.Prelude.{◌≡◌, ◌≤◌, length};
 ghost use Rattle.linked_hash_map.specs.Retains.{IsSublist};
-ghost use Rattle.linked_hash_map.specs.SessionRetains.{weights_of, CalledAtSession, RetainsSessions};
+ghost use Rattle.linked_hash_map.specs.SessionRetains.{weights_of, TakesSession, CalledAtSession, CallableOnEachSession, RetainsSessions};
 ghost use Rattle.linked_hash_map.specs.SessionTables.{total_weight, IsValidTable};
 
 use super::Sessions;
@@ -31,18 +31,20 @@ impl<T> Sessions<T> {
     pub fn retain<F: FnMut(u64, u64, &mut T) -> bool>(&mut self, mut keep: F)
     where
         T: Drop,
-        requires { F.IsAlwaysCallable keep }
+        requires { CallableOnEachSession F.FnMut keep self.old.sessions }
         ensures sessions { RetainsSessions F.FnMut keep self.old.sessions self.new.sessions }
         ensures weights { IsSublist (weights_of self.new.sessions) (weights_of self.old.sessions) }
         ensures len { length self.new.sessions ≤ length self.old.sessions }
         ensures lighter { total_weight self.new.sessions ≤ total_weight self.old.sessions }
         ensures limit { self.new.limit ≡ self.old.limit }
+        ensures capacity { self.new.capacity ≡ self.old.capacity }
         ensures valid { IsValidTable self.old }
         ensures stays_valid { IsValidTable self.new }
     {
         self.map.retain(
             |id: &u64, weighted: &mut Weighted<T>|
-                requires { F.IsAlwaysCallable keep }
+                requires { TakesSession F.FnMut keep
+                    (id.now, weighted.old.weight, weighted.old.payload) }
                 ensures called { CalledAtSession F.FnMut keep.entry
                     (id.now, weighted.old.weight, weighted.old.payload) result weighted.new.payload
                     keep.exit }

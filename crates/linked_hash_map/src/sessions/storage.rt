@@ -1,5 +1,5 @@
 //! How the sessions of a table are stored. No function here drops a payload.
-ghost use Rattle.std.specs.Prelude.{◌≡◌, ◌+◌, ◌<◌, ◌≤◌, ◌++◌, [], length, drop, nat_eq, not, is_some, None, option_map, IsTrue, IfOk, OnOk, OnErr, vec_len, vec_capacity};
+ghost use Rattle.std.specs.Prelude.{◌≡◌, ◌+◌, ◌<◌, ◌≤◌, ◌++◌, [], length, drop, nat_eq, not, is_some, max, None, option_map, IsTrue, IsFalse, IfOk, OnOk, OnErr, vec_len, vec_capacity};
 ghost use Rattle.linked_hash_map.specs.Pairs as pairs;
 ghost use Rattle.linked_hash_map.specs.SessionTables.{session_of, payload_of, total_weight, without, with_last, fit};
 ghost use Rattle.linked_hash_map.specs.Validity.{IsValid};
@@ -17,9 +17,17 @@ pub(super) struct Weighted<T> {
     pub(super) payload: T,
 }
 
-/// How many sessions a put removes, and what the others weigh.
+/// How many sessions have to go, and what the others weigh.
 #[derive(Drop)]
 pub(super) struct Leaving {
+    pub(super) count: usize,
+    pub(super) staying: u64,
+}
+
+/// Whether the id of a put is new, how many sessions go, and what the others weigh.
+#[derive(Drop)]
+pub(super) struct PutPlan {
+    pub(super) is_new: bool,
     pub(super) count: usize,
     pub(super) staying: u64,
 }
@@ -64,6 +72,34 @@ pub(super) fn find_leaving<T>(
     Leaving { count, staying }
 }
 
+/// Returns what a put of an id does, if `weight_left` is the limit less the weight. The sessions
+/// weigh `total`.
+pub(super) fn plan_put<T>(
+    map: &LinkedHashMap<u64, Weighted<T>>,
+    total: u64,
+    id: u64,
+    weight_left: u64,
+) -> PutPlan
+    requires valid { IsValid nat_eq map.now }
+    requires sum { total ≡ total_weight (sessions_of map.now.pairs) }
+    ensures is_new { is_some (session_of (sessions_of map.now.pairs) id) ≡ not result.is_new }
+    ensures stay { drop result.count (without (sessions_of map.now.pairs) id)
+        ≡ fit weight_left (without (sessions_of map.now.pairs) id) }
+    ensures staying { result.staying
+        ≡ total_weight (fit weight_left (without (sessions_of map.now.pairs) id)) }
+    ensures within { result.count ≤ length (without (sessions_of map.now.pairs) id) }
+{
+    let replaced = weight_at(map, id);
+    let is_new = replaced.is_none();
+    let others = total - replaced.unwrap_or(0);
+    let leaving = find_leaving(map, id, others, weight_left);
+    PutPlan {
+        is_new,
+        count: leaving.count,
+        staying: leaving.staying,
+    }
+}
+
 /// Returns the sum of the weights of all sessions, in O(n).
 pub(super) fn total_of<T>(map: &LinkedHashMap<u64, Weighted<T>>) -> u64
     requires { total_weight (sessions_of map.now.pairs) ≤ u64.MAX }
@@ -74,6 +110,35 @@ pub(super) fn total_of<T>(map: &LinkedHashMap<u64, Weighted<T>>) -> u64
         total += weighted.weight;
     }
     total
+}
+
+/// Makes room for one more session if its id is new and none goes.
+pub(super) fn make_room<T>(
+    map: &mut LinkedHashMap<u64, Weighted<T>>,
+    is_new: bool,
+    count: usize,
+) -> Result<(), NoRoom>
+    requires { IsValid nat_eq map.old }
+    ensures pairs { map.new.pairs ≡ map.old.pairs }
+    ensures mode { map.new.mode ≡ map.old.mode }
+    ensures stays_valid { IsValid nat_eq map.new }
+    ensures raised { OnOk result (count ≡ 0 → IsTrue is_new
+        → map.new.capacity ≡ max map.old.capacity (length map.old.pairs + 1)) }
+    ensures same_room { OnOk result ((count ≡ 0 → IsFalse is_new)
+        → map.new.capacity ≡ map.old.capacity) }
+
+    ensures unchanged { OnErr result (map.new ≡ map.old) }
+    ensures none { OnErr result (count ≡ 0) }
+    ensures new { OnErr result (IsTrue is_new) }
+    ensures full { OnErr result (length map.old.pairs ≡ map.old.capacity) }
+{
+    if count > 0 || !is_new {
+        return Ok(());
+    }
+    match map.reserve(1) {
+        Ok(()) => Ok(()),
+        Err(_error) => Err(NoRoom),
+    }
 }
 
 /// Makes all allocations of a put: a vector for the sessions to remove, or, for none and a new id,
@@ -90,11 +155,14 @@ pub(super) fn allocate_for_put<T>(
     ensures stays_valid { IsValid nat_eq map.new }
     ensures empty { IfOk result (λ gone. gone.items ≡ []) }
     ensures exact { IfOk result (λ gone. vec_capacity gone ≡ count) }
-    ensures room { OnOk result
-        (count ≡ 0 → IsTrue is_new → length map.old.pairs < map.new.capacity) }
+    ensures raised { OnOk result (count ≡ 0 → IsTrue is_new
+        → map.new.capacity ≡ max map.old.capacity (length map.old.pairs + 1)) }
+    ensures same_room { OnOk result ((count ≡ 0 → IsFalse is_new)
+        → map.new.capacity ≡ map.old.capacity) }
 
     ensures unchanged { OnErr result (map.new ≡ map.old) }
     ensures new { OnErr result (count ≡ 0 → IsTrue is_new) }
+    ensures full { OnErr result (count ≡ 0 → length map.old.pairs ≡ map.old.capacity) }
 {
     if count > 0 {
         return match Vec::with_capacity(alloc, count) {
@@ -102,12 +170,9 @@ pub(super) fn allocate_for_put<T>(
             Err(_error) => Err(NoRoom),
         };
     }
-    if !is_new {
-        return Ok(Vec::new(alloc));
-    }
-    match map.reserve(1) {
+    match make_room(map, is_new, count) {
         Ok(()) => Ok(Vec::new(alloc)),
-        Err(_error) => Err(NoRoom),
+        Err(NoRoom) => Err(NoRoom),
     }
 }
 
@@ -131,6 +196,7 @@ pub(super) fn store<T>(
         ≡ gone.old.items ++ with_last (sessions_of map.old.pairs) session.0 session.1 session.2 }
     ensures same_space { vec_capacity gone.new ≡ vec_capacity gone.old }
     ensures old { result ≡ payload_of (sessions_of map.old.pairs) session.0 }
+    ensures capacity { map.new.capacity ≡ map.old.capacity }
     ensures mode { map.new.mode ≡ Touch }
     ensures stays_valid { IsValid nat_eq map.new }
 {
@@ -183,6 +249,7 @@ pub(super) fn insert_newest<T>(
     ensures sessions { sessions_of map.new.pairs
         ≡ with_last (sessions_of map.old.pairs) id weight payload }
     ensures old { result ≡ payload_of (sessions_of map.old.pairs) id }
+    ensures capacity { map.new.capacity ≡ map.old.capacity }
     ensures mode { map.new.mode ≡ Touch }
     ensures stays_valid { IsValid nat_eq map.new }
 {

@@ -27,6 +27,6 @@ const VALUE: u64 = 128;
 const OWNED: u64 = 256;
 
 /// Checks which bits were dropped so far, each once.
-fn assert_dropped(rt: &impl Abort, tally: &Tally, bits: u64) {
+pub fn assert_dropped(rt: &impl Abort, tally: &Tally, bits: u64) {
     check_eq!(rt; tally.dropped(), Some(bits));
 }

@@ -92,6 +92,11 @@ fn check_increased_or_seven(
     check_eq!(rt; *given!(rt; entry.or_insert(7)), value);
 }
 
+/// Inserts half of a key unless it is present, and checks the value then.
+fn check_or_half(rt: &impl Abort, map: &mut LinkedHashMap<u64, u64>, key: u64, value: u64) {
+    check_eq!(rt; *given!(rt; map.entry(key).or_insert_with_key(|key| *key / 2)), value);
+}
+
 #[test]
 fn sets_through_an_entry(rt: HostRuntime) {
     let mut map = map_of(&rt, rt.alloc(), &[(1, 10), (2, 20)]);
@@ -115,6 +120,8 @@ fn makes_a_value_where_there_is_none(rt: HostRuntime) {
     assert_pairs(&rt, &map, &[(2, 7), (3, 0)]);
     assert_sizes(&rt, &map, 2, 2);
     check_or_seven(&rt, &mut map, 3, 0, false);
+    check_or_half(&rt, &mut map, 8, 4);
+    check_or_half(&rt, &mut map, 2, 7);
 }
 
 #[test]
@@ -235,4 +242,7 @@ fn takes_entries_apart(rt: HostRuntime) {
     insert_by_entry(&rt, &mut map, 3, 30);
     remove_by_entry(&rt, &mut map, 2, 20);
     assert_pairs(&rt, &map, &[(1, 5), (3, 30)]);
+    check_eq!(rt; occupied(&rt, &mut map, 1).remove_entry(), (1, 5));
+    check_eq!(rt; vacant(&rt, &mut map, 4).into_key(), 4);
+    assert_pairs(&rt, &map, &[(3, 30)]);
 }

@@ -50,6 +50,13 @@ fn assert_owned(rt: &impl Abort, alloc: Global, mut map: LinkedHashMap<u64, u64>
     assert_iterator(rt, map.drain(), word, &owned);
     assert_sizes(rt, &map, 0, 3);
     assert_iterator(rt, map_of(rt, alloc, &owned).into_iter(), word, &owned);
+    assert_iterator(rt, map_of(rt, alloc, &owned).into_keys(), word, &[1, 2, 3]);
+    assert_iterator(
+        rt,
+        map_of(rt, alloc, &owned).into_values(),
+        word,
+        &[10, 20, 30],
+    );
 }
 
 /// Checks each iterator by each word of five calls.
@@ -144,6 +151,20 @@ fn write_keys(map: &mut LinkedHashMap<u64, u64>) {
     }
 }
 
+/// Writes the first value and the last.
+fn write_values(rt: &impl Abort, map: &mut LinkedHashMap<u64, u64>) {
+    let mut values = map.values_mut();
+    check_eq!(rt; (values.len(), values.size_hint()), (3, (3, Some(3))));
+    if let Some(value) = values.next() {
+        *value = 5;
+    }
+    if let Some(value) = values.next_back() {
+        *value = 7;
+    }
+    check_eq!(rt; values.next(), Some(&mut 2));
+    check!(rt; values.next_back().is_none());
+}
+
 #[test]
 fn writes_values_by_iterators_and_loops(rt: HostRuntime) {
     let mut map = map_of(&rt, rt.alloc(), &[(1, 10), (2, 20), (3, 30)]);
@@ -153,6 +174,8 @@ fn writes_values_by_iterators_and_loops(rt: HostRuntime) {
     assert_pairs(&rt, &map, &[(1, 17), (2, 20), (3, 33)]);
     write_keys(&mut map);
     assert_pairs(&rt, &map, &[(1, 1), (2, 2), (3, 3)]);
+    write_values(&rt, &mut map);
+    assert_pairs(&rt, &map, &[(1, 5), (2, 2), (3, 7)]);
 }
 
 /// Checks the next key and the next value.

@@ -4,7 +4,8 @@ use super::support::calls::{
 };
 use super::support::checks::{check, check_eq, given};
 use super::{assert_pairs, map_of};
-use linked_hash_map::LinkedHashMap;
+use linked_hash_map::replay::{Command, replay};
+use linked_hash_map::{Entry, LinkedHashMap};
 use std::alloc::Global;
 use std::fmt::Debug;
 use std::hash::Hash;
@@ -118,31 +119,100 @@ fn visits_no_moved_pair_again(rt: HostRuntime) {
     assert_pairs(&rt, &map, &[(1, 11), (2, 21), (3, 31)]);
 }
 
-/// Checks how many pairs an extension by one leaves to visit, and which pairs there are then.
-fn check_extended(
+/// The ways to insert a pair.
+const INSERTIONS: [Insertion; 8] = [
+    Insertion::Insert,
+    Insertion::EntryInsert,
+    Insertion::OrInsert,
+    Insertion::OrInsertWith,
+    Insertion::OrDefault,
+    Insertion::Extend,
+    Insertion::ExtendRefs,
+    Insertion::Replay,
+];
+
+#[derive(Clone, Copy, Debug, PartialEq)]
+enum Insertion {
+    Insert,
+    EntryInsert,
+    OrInsert,
+    OrInsertWith,
+    OrDefault,
+    Extend,
+    ExtendRefs,
+    Replay,
+}
+
+/// Inserts a key with the value 0, which is the default.
+fn insert_zero(
     rt: &impl Abort,
     alloc: Global,
-    pair: (u64, u64),
-    unvisited: usize,
-    expected: &[(u64, u64)],
+    map: &mut LinkedHashMap<u64, u64>,
+    insertion: Insertion,
+    key: u64,
 ) {
-    let mut map = map_of(rt, alloc, &[(1, 10), (2, 20), (3, 30)]);
+    match insertion {
+        Insertion::Insert => {
+            given!(rt; map.insert(key, 0));
+        }
+        Insertion::EntryInsert => match map.entry(key) {
+            Entry::Occupied(mut entry) => {
+                entry.insert(0);
+            }
+            Entry::Vacant(entry) => {
+                given!(rt; entry.insert(0));
+            }
+        },
+        Insertion::OrInsert => {
+            given!(rt; map.entry(key).or_insert(0));
+        }
+        Insertion::OrInsertWith => {
+            given!(rt; map.entry(key).or_insert_with(|| 0));
+        }
+        Insertion::OrDefault => {
+            given!(rt; map.entry(key).or_default());
+        }
+        Insertion::Extend => given!(rt; map.extend([(key, 0)])),
+        Insertion::ExtendRefs => given!(rt; map.extend_refs([(&key, &0)])),
+        Insertion::Replay => {
+            let commands = given!(rt; vec![in alloc; Command::Insert(key, 0)]);
+            given!(rt; replay(map, commands));
+        }
+    }
+}
+
+/// Checks how many pairs are left to visit once a key went in, in each way, after the first of
+/// three pairs.
+fn check_unvisited_after(rt: &impl Abort, alloc: Global, key: u64, unvisited: usize) {
+    for insertion in INSERTIONS {
+        let mut map = map_of(rt, alloc, &[(1, 10), (2, 20), (3, 30)]);
+        let entries = map.visit();
+        visit(rt, entries, 1, 10);
+        insert_zero(rt, alloc, entries, insertion, key);
+        check_eq!(rt; (insertion, entries.unvisited()), (insertion, unvisited));
+    }
+}
+
+#[test]
+fn inserting_a_new_key_leaves_a_visit(rt: HostRuntime) {
+    check_unvisited_after(&rt, rt.alloc(), 4, 2);
+}
+
+#[test]
+fn inserting_a_present_key_ends_a_visit(rt: HostRuntime) {
+    check_unvisited_after(&rt, rt.alloc(), 3, 0);
+}
+
+#[test]
+fn visits_no_new_pair(rt: HostRuntime) {
+    let mut map = map_of(&rt, rt.alloc(), &[(1, 10), (2, 20), (3, 30)]);
     let entries = map.visit();
-    visit(rt, entries, 1, 10);
-    given!(rt; entries.extend([pair]));
-    assert_unvisited(rt, entries, unvisited);
-    assert_pairs(rt, &map, expected);
-}
-
-#[test]
-fn an_extension_by_a_present_key_ends_a_visit(rt: HostRuntime) {
-    check_extended(&rt, rt.alloc(), (3, 31), 0, &[(1, 10), (2, 20), (3, 31)]);
-}
-
-#[test]
-fn an_extension_by_a_new_key_leaves_a_visit(rt: HostRuntime) {
-    let pairs = [(1, 10), (2, 20), (3, 30), (4, 40)];
-    check_extended(&rt, rt.alloc(), (4, 40), 2, &pairs);
+    visit(&rt, entries, 1, 10);
+    insert_zero(&rt, rt.alloc(), entries, Insertion::EntryInsert, 4);
+    visit(&rt, entries, 2, 20);
+    visit(&rt, entries, 3, 30);
+    assert_ended(&rt, entries);
+    assert_pairs(&rt, &map, &[(1, 10), (2, 20), (3, 30), (4, 0)]);
 }
 
 /// Lowers the capacity in a visit of a map that has room for so many pairs more, which gives it

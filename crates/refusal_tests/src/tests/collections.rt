@@ -73,6 +73,27 @@ fn collect(
 }
 
 #[test]
+fn refused_collection_by_the_trait_gives_no_map(rt: HostRuntime) {
+    // The growth: the counted value.
+    collect_by_the_trait(&rt, rt.alloc(), counted_value(rt.alloc()));
+}
+
+fn collect_by_the_trait(
+    rt: &(impl Abort + Print + AllocGlobal),
+    alloc: Global,
+    made: Result<Rc<u8>, AllocError>,
+) {
+    if let Ok(counted) = made {
+        // The growths: buckets, a filter, a list of chunks and a chunk; buckets, a filter and a
+        // chunk, twice.
+        let items = three_of(rt, &counted);
+        let made = <SharedMap as FromIterator<(u64, Rc<u8>)>>::from_iter(alloc, items);
+        let made = made.map_err(|_| ReserveError::NoRoom);
+        say_if_given(rt, is_collected(rt, &counted, made, 3), 12);
+    }
+}
+
+#[test]
 fn refused_collection_without_a_hint_gives_no_map(rt: HostRuntime) {
     // The growth: the counted value.
     collect_without_a_hint(&rt, rt.alloc(), counted_value(rt.alloc()));

@@ -65,22 +65,38 @@ fn assert_extended(rt: &impl Abort, map: &Map, extended: Extended, left: usize) 
 }
 
 #[test]
-fn refused_extension_by_references_keeps_what_went_in(rt: HostRuntime) {
-    // The growths: buckets, a filter, a list of chunks and a chunk.
-    extend_refs(&rt, with_room(rt.alloc(), 1));
+fn refused_extension_of_four_items_keeps_what_went_in(rt: HostRuntime) {
+    // The growths, twice: buckets, a filter, a list of chunks and a chunk; buckets, a filter and a
+    // chunk, twice.
+    let by_value = extend_by_four(&rt, with_room(rt.alloc(), 1));
+    let by_reference = extend_by_four_references(&rt, with_room(rt.alloc(), 1));
+    say_if_given(&rt, by_value & by_reference, 21);
 }
 
-fn extend_refs(rt: &(impl Abort + Print + AllocGlobal), made: Result<Map, ReserveError>) {
-    if let Ok(mut map) = made {
-        let mut items = [(&1, &10), (&1, &11), (&2, &20), (&3, &30)].into_iter();
-        // The growths: buckets, a filter and a chunk, twice.
-        let extended = map.extend_refs(items.by_ref());
-        assert_extended_by_references(rt, &map, extended, items.len());
-        say_if_given(rt, map.len() == 3, 11);
-    }
+/// Extends a map that has room for one pair by four items, of which two have one key. Tells whether
+/// no growth was refused.
+fn extend_by_four(rt: &impl Abort, made: Result<Map, ReserveError>) -> bool {
+    let Ok(mut map) = made else {
+        return false;
+    };
+    let mut items = [(1, 10), (1, 11), (2, 20), (3, 30)].into_iter();
+    let extended = map.extend(items.by_ref());
+    assert_extended_by_four(rt, &map, extended, items.len());
+    map.len() == 3
 }
 
-fn assert_extended_by_references(rt: &impl Abort, map: &Map, extended: Extended, left: usize) {
+/// The same by references.
+fn extend_by_four_references(rt: &impl Abort, made: Result<Map, ReserveError>) -> bool {
+    let Ok(mut map) = made else {
+        return false;
+    };
+    let mut items = [(&1, &10), (&1, &11), (&2, &20), (&3, &30)].into_iter();
+    let extended = map.extend_refs(items.by_ref());
+    assert_extended_by_four(rt, &map, extended, items.len());
+    map.len() == 3
+}
+
+fn assert_extended_by_four(rt: &impl Abort, map: &Map, extended: Extended, left: usize) {
     let (wanted, pairs, rechained): (_, &[(u8, u64)], _) = match map.len() {
         1 => ((Err(Refused { key: 2, value: 20 }), 1), &[(1, 11)], 0),
         2 => (

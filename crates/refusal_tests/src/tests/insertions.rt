@@ -182,9 +182,9 @@ fn insert_or_change(rt: &(impl Abort + Print + AllocGlobal), map: &mut Map) {
 fn change_one(rt: &impl Abort, map: &mut Map) {
     assert_map(rt, map, &[(1, 10)], 1, 0);
     check_insert(rt, map, 1, 11, Some(10));
-    check_pop_front(rt, map, Some((1, 11)));
+    check_remove(rt, map, 1, Some(11));
     insert_new(rt, map, &[(2, 20)]);
-    check_remove(rt, map, 2, Some(20));
+    check_pop_front(rt, map, Some((2, 20)));
     insert_new(rt, map, &[(3, 30)]);
     assert_map(rt, map, &[(3, 30)], 1, 0);
 }
@@ -300,18 +300,24 @@ fn put_by_closure(rt: &impl Abort, made: Result<Map, ReserveError>) -> bool {
         return false;
     };
     let put = put_counted(rt, &mut map);
-    check_second(rt, &mut map, put, 30)
+    check_second(rt, &mut map, put, 7)
 }
 
+/// Puts in a pair of key 2 by a closure that counts its calls. The same closure is not called for
+/// key 1, which is present.
 fn put_counted(rt: &impl Abort, map: &mut Map) -> Put {
     let calls = Cell::new(0u64);
-    let put = map.entry(2).or_insert_with(|| {
-        calls.set(calls.get().saturating_add(1));
-        30
-    });
-    let put = put.map(|lent| *lent);
-    check_eq!(rt; calls.get(), 1);
+    let put = insert_seven(map, 2, &calls);
+    check_eq!(rt; (insert_seven(map, 1, &calls), calls.get()), (Ok(10), 1));
     put
+}
+
+fn insert_seven(map: &mut Map, key: u8, calls: &Cell<u64>) -> Put {
+    let put = map.entry(key).or_insert_with(|| {
+        calls.set(calls.get().saturating_add(1));
+        7
+    });
+    put.map(|lent| *lent)
 }
 
 /// Checks that a value went in for key 2 at full capacity beside (1, 10), or came back. Tells

@@ -172,3 +172,98 @@ fn put_light(rt: &(impl Abort + Print + AllocGlobal), table: &mut Table) {
         assert_sessions(rt, table, &[(3, 8, "d")], 8);
     }
 }
+
+/// Puts a session and hands those that go to a closure, and checks which these are.
+fn put_handing(
+    rt: &impl Abort,
+    table: &mut Table,
+    (id, weight, payload): Session,
+    gone: &[Session],
+) {
+    let mut expected = gone.iter();
+    let put = table.put_with(id, weight, payload, |id, weight, payload| {
+        check_eq!(rt; Some(&(id, weight, payload)), expected.next());
+    });
+    check_eq!(rt; (put.is_ok(), expected.next()), (true, None));
+}
+
+/// The growths: four of a table with room for two.
+#[test]
+fn refused_growth_is_not_asked_for_below_the_capacity(rt: HostRuntime) {
+    if let Ok(mut table) = Sessions::with_capacity(rt.alloc(), 10, 2) {
+        put_within(&rt, &mut table);
+        say_given(&rt, 5);
+    }
+}
+
+/// Puts sessions within the room of a table of none, also such as send others away.
+fn put_within(rt: &impl Abort, table: &mut Table) {
+    check_eq!(rt; table.reserve(2), Ok(()));
+    check!(rt; is_put(rt, table, 1, 4, "a"));
+    put_handing(rt, table, (2, 4, "b"), &[]);
+    put_handing(rt, table, (1, 6, "c"), &[]);
+    put_handing(rt, table, (3, 9, "d"), &[(2, 4, "b"), (1, 6, "c")]);
+    put_handing(rt, table, (3, 4, "e"), &[]);
+    assert_sessions(rt, table, &[(3, 4, "e")], 4);
+    check_eq!(rt; table.capacity(), 2);
+}
+
+#[test]
+fn refused_put_with_changes_nothing(rt: HostRuntime) {
+    let mut table = Sessions::new(rt.alloc(), 10);
+    if is_put_with(&rt, &mut table, (1, 4, "a")) {
+        put_second_with(&rt, &mut table);
+    } else {
+        assert_sessions(&rt, &table, &[], 0);
+    }
+}
+
+/// Puts a session that sends none away, and tells whether it was given. If it was refused, it
+/// checks so as `assert_refused` does.
+fn is_put_with(rt: &impl Abort, table: &mut Table, (id, weight, payload): Session) -> bool {
+    let put = table.put_with(id, weight, payload, |_id, _weight, _payload| {
+        check!(rt; false);
+    });
+    match put {
+        Ok(old) => {
+            check_eq!(rt; old, None);
+            true
+        }
+        Err(refused) => {
+            assert_refused(rt, refused, payload);
+            false
+        }
+    }
+}
+
+fn put_second_with(rt: &(impl Abort + Print + AllocGlobal), table: &mut Table) {
+    if is_put_with(rt, table, (2, 4, "b")) {
+        // A session goes, so no memory is asked for.
+        put_handing(rt, table, (3, 4, "c"), &[(1, 4, "a")]);
+        assert_sessions(rt, table, &[(2, 4, "b"), (3, 4, "c")], 8);
+        say_given(rt, 8);
+    } else {
+        assert_sessions(rt, table, &[(1, 4, "a")], 4);
+        check_eq!(rt; table.capacity(), 1);
+    }
+}
+
+/// The growths of each session that none goes for: buckets, a filter and a chunk of one node, of
+/// one and of two; the first chunk has a list of chunks too.
+#[test]
+fn refused_put_asks_for_one_session_more(rt: HostRuntime) {
+    let mut table = Sessions::new(rt.alloc(), 10);
+    if put_two(&rt, &mut table) {
+        put_two_more(&rt, &mut table);
+    }
+}
+
+fn put_two_more(rt: &(impl Abort + Print + AllocGlobal), table: &mut Table) {
+    if is_put(rt, table, 3, 1, "c") {
+        check!(rt; is_put(rt, table, 4, 1, "d"));
+        check_eq!(rt; table.capacity(), 4);
+        say_given(rt, 11);
+    } else {
+        check_eq!(rt; table.capacity(), 2);
+    }
+}

@@ -63,6 +63,8 @@ fn follows_the_worked_row(rt: HostRuntime) {
     check!(rt; is_ring(&ring, &[(7, 'a', 1), (7, 'b', 2), (9, 'c', 3)], 0));
     ring.move_to_back(a);
     check!(rt; is_ring(&ring, &[(7, 'b', 2), (9, 'c', 3), (7, 'a', 1)], 0));
+    ring.move_to_front(c);
+    check!(rt; is_ring(&ring, &[(9, 'c', 3), (7, 'b', 2), (7, 'a', 1)], 0));
     check_eq!(rt; ring.unlink(c), (9, 'c', 3));
     check!(rt; is_ring(&ring, &[(7, 'b', 2), (7, 'a', 1)], 1));
     drain_two(&rt, ring.splice_all());

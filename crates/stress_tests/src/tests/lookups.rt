@@ -16,6 +16,10 @@ fn count_get<'a>(map: &CountingMap<'a>, key: &Counting<'a>) -> (Option<u64>, usi
     (map.get(key).copied(), key.compared.replace(0))
 }
 
+fn count_get_key_value<'a>(map: &CountingMap<'a>, key: &Counting<'a>) -> (bool, usize) {
+    (map.get_key_value(key).is_some(), key.compared.replace(0))
+}
+
 fn count_get_mut<'a>(map: &mut CountingMap<'a>, key: &Counting<'a>) -> (Option<u64>, usize) {
     (map.get_mut(key).copied(), key.compared.replace(0))
 }
@@ -52,6 +56,7 @@ fn assert_counted<'a>(rt: &impl Abort, map: &mut CountingMap<'a>, key: &Counting
     let value = value.copied();
     check_eq!(rt; key.compared.replace(0), probe.compared);
     check_eq!(rt; count_get(map, key), (value, probe.compared));
+    check_eq!(rt; count_get_key_value(map, key), (value.is_some(), probe.compared));
     check_eq!(rt; count_get_mut(map, key), (value, probe.compared));
     check_eq!(rt; count_contains_key(map, key), (value.is_some(), probe.compared));
     probe

@@ -1,6 +1,6 @@
 //! Tables of sessions.
 
-use super::support::checks::{check_eq, given};
+use super::support::checks::{check, check_eq, given};
 use linked_hash_map::sessions::{PutReason, PutRefused, Sessions};
 use std::alloc::Global;
 use std::process::Abort;
@@ -44,17 +44,52 @@ fn assert_put(
     check_eq!(rt; (put.old, put.gone.as_slice()), (old, gone));
 }
 
+/// Puts a session with a closure, and checks the payload that its id had, and which sessions the
+/// closure is called with, in order.
+fn assert_put_with(
+    rt: &impl Abort,
+    table: &mut Sessions<&'static str>,
+    (id, weight, payload): Session,
+    old: Option<&'static str>,
+    gone: &[Session],
+) {
+    let mut expected = gone.iter();
+    let put = table.put_with(id, weight, payload, |id, weight, payload| {
+        check_eq!(rt; Some(&(id, weight, payload)), expected.next());
+    });
+    check_eq!(rt; (put, expected.next()), (Ok(old), None));
+}
+
 /// Checks that a session above the limit is refused, and that its payload comes back.
 fn assert_too_heavy(
     rt: &impl Abort,
     table: &mut Sessions<&'static str>,
     (id, weight, payload): Session,
 ) {
-    let refused = PutRefused {
+    check_eq!(rt; table.put(id, weight, payload), Err(too_heavy(payload)));
+    let put = table.put_with(id, weight, payload, |_id, _weight, _payload| {
+        check!(rt; false);
+    });
+    check_eq!(rt; put, Err(too_heavy(payload)));
+}
+
+/// The error of a put above the limit.
+fn too_heavy(payload: &'static str) -> PutRefused<&'static str> {
+    PutRefused {
         reason: PutReason::TooHeavy,
         payload,
-    };
-    check_eq!(rt; table.put(id, weight, payload), Err(refused));
+    }
+}
+
+/// Puts one session after the other with a closure, and checks what comes of each.
+fn assert_steps_with(rt: &impl Abort, table: &mut Sessions<&'static str>, steps: &[Step]) {
+    for (session, outcome, left, total) in steps {
+        match outcome {
+            Some((old, gone)) => assert_put_with(rt, table, *session, *old, gone),
+            None => assert_too_heavy(rt, table, *session),
+        }
+        assert_sessions(rt, table, left, *total);
+    }
 }
 
 /// Puts one session after the other, and checks what comes of each.
@@ -73,6 +108,9 @@ fn assert_steps_of_new(rt: &impl Abort, alloc: Global, limit: u64, steps: &[Step
     let mut table = Sessions::new(alloc, limit);
     check_eq!(rt; (table.len(), table.total()), (0, 0));
     assert_steps(rt, &mut table, steps);
+    let mut other = Sessions::new(alloc, limit);
+    assert_steps_with(rt, &mut other, steps);
+    check_eq!(rt; other.capacity(), table.capacity());
 }
 
 static OLDEST_GO: [Step; 6] = [

@@ -63,6 +63,15 @@ fn or_insert_with(rt: HostRuntime) -> Result<(), Fail> {
     Ok(())
 }
 
+/// The example of `or_insert_with_key`.
+#[test]
+fn or_insert_with_key(rt: HostRuntime) -> Result<(), Fail> {
+    let mut map = LinkedHashMap::new(rt.alloc());
+    let lent = map.entry(7_u64).or_insert_with_key(|key| *key / 2)?;
+    assert_eq!(rt; *lent, 3);
+    Ok(())
+}
+
 /// The example of `or_default`.
 #[test]
 fn or_default(rt: HostRuntime) -> Result<(), Fail> {
@@ -108,6 +117,55 @@ fn insert(rt: HostRuntime) -> Result<(), Fail> {
         assert_eq!(rt; entry.insert(3), 1);
     }
     assert_eq!(rt; map.back(), Some((&'x', &3)));
+    Ok(())
+}
+
+/// The example of `OccupiedEntry::move_to_back`.
+#[test]
+fn move_to_back(rt: HostRuntime) -> Result<(), Fail> {
+    let mut map = LinkedHashMap::new(rt.alloc());
+    map.insert('x', 1)?;
+    map.insert('y', 2)?;
+    if let Entry::Occupied(mut entry) = map.entry('x') {
+        entry.move_to_back();
+    }
+    assert_eq!(rt; map.back(), Some((&'x', &1)));
+    Ok(())
+}
+
+/// The example of `OccupiedEntry::move_to_front`.
+#[test]
+fn move_to_front(rt: HostRuntime) -> Result<(), Fail> {
+    let mut map = LinkedHashMap::new(rt.alloc());
+    map.insert('x', 1)?;
+    map.insert('y', 2)?;
+    if let Entry::Occupied(mut entry) = map.entry('y') {
+        entry.move_to_front();
+    }
+    assert_eq!(rt; map.front(), Some((&'y', &2)));
+    Ok(())
+}
+
+/// The example of `OccupiedEntry::remove_entry`.
+#[test]
+fn remove_entry(rt: HostRuntime) -> Result<(), Fail> {
+    let mut map = LinkedHashMap::new(rt.alloc());
+    map.insert('x', 1)?;
+    if let Entry::Occupied(entry) = map.entry('x') {
+        assert_eq!(rt; entry.remove_entry(), ('x', 1));
+    }
+    assert!(rt; map.is_empty());
+    Ok(())
+}
+
+/// The example of `VacantEntry::into_key`.
+#[test]
+fn into_key(rt: HostRuntime) -> Result<(), Fail> {
+    let mut map: LinkedHashMap<char, u64> = LinkedHashMap::new(rt.alloc());
+    if let Entry::Vacant(entry) = map.entry('x') {
+        assert_eq!(rt; entry.into_key(), 'x');
+    }
+    assert!(rt; map.is_empty());
     Ok(())
 }
 

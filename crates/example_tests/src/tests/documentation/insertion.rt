@@ -1,5 +1,7 @@
 //! Inserting pairs.
 use linked_hash_map::{LinkedHashMap, Mode};
+use std::collections::HashMap;
+use std::mem::try_take;
 use std::test::Fail;
 
 /// The example of `insert`.
@@ -10,6 +12,17 @@ fn insert(rt: HostRuntime) -> Result<(), Fail> {
     assert_eq!(rt; map.insert('y', 2)?, None);
     assert_eq!(rt; map.insert('x', 3)?, Some(1));
     assert_eq!(rt; map.back(), Some((&'x', &3)));
+    Ok(())
+}
+
+/// The example of `insert_within_capacity`.
+#[test]
+fn insert_within_capacity(rt: HostRuntime) -> Result<(), Fail> {
+    let mut map = LinkedHashMap::with_capacity(rt.alloc(), 1)?;
+    if map.len() < map.capacity() {
+        assert_eq!(rt; map.insert_within_capacity('x', 1), None);
+    }
+    assert_eq!(rt; map.get(&'x'), Some(&1));
     Ok(())
 }
 
@@ -77,5 +90,51 @@ fn mode(rt: HostRuntime) -> Result<(), Fail> {
     let mut map: LinkedHashMap<char, u64> = LinkedHashMap::new(rt.alloc());
     map.set_mode(Mode::Keep);
     assert_eq!(rt; map.mode(), Mode::Keep);
+    Ok(())
+}
+
+/// The example of `Extend`.
+#[test]
+fn extend_by_the_trait(rt: HostRuntime) -> Result<(), Fail> {
+    let mut map = LinkedHashMap::new(rt.alloc());
+    Extend::extend(&mut map, [('x', 1), ('y', 2), ('x', 3)])?;
+    assert_eq!(rt; map.back(), Some((&'x', &3)));
+    Ok(())
+}
+
+/// The example of `Extend` by references.
+#[test]
+fn extend_refs_by_the_trait(rt: HostRuntime) -> Result<(), Fail> {
+    let mut map = LinkedHashMap::new(rt.alloc());
+    Extend::extend(&mut map, [(&'x', &1), (&'y', &2)])?;
+    assert_eq!(rt; map.back(), Some((&'y', &2)));
+    Ok(())
+}
+
+/// The example of `FromIterator`.
+#[test]
+fn collect(rt: HostRuntime) -> Result<(), Fail> {
+    let pairs = [('x', 1), ('y', 2), ('x', 3)];
+    let map: LinkedHashMap<char, u64> = pairs.into_iter().collect(rt.alloc())?;
+    assert_eq!(rt; (map.len(), map.back()), (2, Some((&'x', &3))));
+    Ok(())
+}
+
+/// The example of `Emptied`.
+#[test]
+fn take(rt: HostRuntime) -> Result<(), Fail> {
+    let mut map = LinkedHashMap::new(rt.alloc());
+    map.insert('x', 1)?;
+    let taken = try_take(&mut map)?;
+    assert_eq!(rt; (taken.len(), map.len()), (1, 0));
+    Ok(())
+}
+
+/// The example of `MadeWith`.
+#[test]
+fn made_with(rt: HostRuntime) -> Result<(), Fail> {
+    let mut maps: HashMap<char, LinkedHashMap<char, u64>> = HashMap::new(rt.alloc());
+    maps.entry('a')?.or_default().insert('x', 1)?;
+    assert_eq!(rt; maps.len(), 1);
     Ok(())
 }

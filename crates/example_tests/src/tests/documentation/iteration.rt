@@ -95,6 +95,47 @@ fn into_iter(rt: HostRuntime) -> Result<(), Fail> {
     Ok(())
 }
 
+/// The example of `into_keys`.
+#[test]
+fn into_keys(rt: HostRuntime) -> Result<(), Fail> {
+    let mut map = LinkedHashMap::new(rt.alloc());
+    map.insert('x', 1)?;
+    map.insert('y', 2)?;
+    let mut keys = map.into_keys();
+    assert_eq!(rt; keys.next(), Some('x'));
+    assert_eq!(rt; keys.next(), Some('y'));
+    assert_eq!(rt; keys.next(), None);
+    Ok(())
+}
+
+/// The example of `into_values`.
+#[test]
+fn into_values(rt: HostRuntime) -> Result<(), Fail> {
+    let mut map = LinkedHashMap::new(rt.alloc());
+    map.insert('x', 1)?;
+    map.insert('y', 2)?;
+    let mut values = map.into_values();
+    assert_eq!(rt; values.next_back(), Some(2));
+    assert_eq!(rt; values.next_back(), Some(1));
+    assert_eq!(rt; values.next_back(), None);
+    Ok(())
+}
+
+/// The example of `values_mut`.
+#[test]
+fn values_mut(rt: HostRuntime) -> Result<(), Fail> {
+    let mut map = LinkedHashMap::new(rt.alloc());
+    map.insert('x', 1)?;
+    map.insert('y', 2)?;
+    let mut values = map.values_mut();
+    if let Some(value) = values.next_back() {
+        *value = 3;
+    }
+    assert_eq!(rt; values.len(), 1);
+    assert_eq!(rt; map.get(&'y'), Some(&3));
+    Ok(())
+}
+
 /// The example of a loop over a map itself.
 #[test]
 fn loop_over_a_map(rt: HostRuntime) -> Result<(), Fail> {

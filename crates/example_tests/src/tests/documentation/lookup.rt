@@ -22,6 +22,25 @@ fn get(rt: HostRuntime) -> Result<(), Fail> {
     Ok(())
 }
 
+/// The example of `get_key_value`.
+#[test]
+fn get_key_value(rt: HostRuntime) -> Result<(), Fail> {
+    let mut map = LinkedHashMap::new(rt.alloc());
+    map.insert('x', 1)?;
+    assert_eq!(rt; map.get_key_value(&'x'), Some((&'x', &1)));
+    assert_eq!(rt; map.get_key_value(&'y'), None);
+    Ok(())
+}
+
+/// The example of `Equivalent`.
+#[test]
+fn equivalent(rt: HostRuntime) -> Result<(), Fail> {
+    let mut ages = LinkedHashMap::new(rt.alloc());
+    ages.insert(String::from_str(rt.alloc(), "Zoe")?, 31)?;
+    assert_eq!(rt; ages.get("Zoe"), Some(&31));
+    Ok(())
+}
+
 /// The example of `Index`.
 #[test]
 fn index(rt: HostRuntime) -> Result<(), Fail> {
@@ -67,6 +86,32 @@ fn get_refresh(rt: HostRuntime) -> Result<(), Fail> {
         *value = 3;
     }
     assert_eq!(rt; map.back(), Some((&'x', &3)));
+    Ok(())
+}
+
+/// The example of `front_mut`.
+#[test]
+fn front_mut(rt: HostRuntime) -> Result<(), Fail> {
+    let mut map = LinkedHashMap::new(rt.alloc());
+    map.insert('x', 1)?;
+    map.insert('y', 2)?;
+    if let Some(value) = map.front_mut() {
+        *value = 3;
+    }
+    assert_eq!(rt; map.front(), Some((&'x', &3)));
+    Ok(())
+}
+
+/// The example of `back_mut`.
+#[test]
+fn back_mut(rt: HostRuntime) -> Result<(), Fail> {
+    let mut map = LinkedHashMap::new(rt.alloc());
+    map.insert('x', 1)?;
+    map.insert('y', 2)?;
+    if let Some(value) = map.back_mut() {
+        *value = 3;
+    }
+    assert_eq!(rt; map.back(), Some((&'y', &3)));
     Ok(())
 }
 

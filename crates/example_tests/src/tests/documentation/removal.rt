@@ -14,6 +14,18 @@ fn remove(rt: HostRuntime) -> Result<(), Fail> {
     Ok(())
 }
 
+/// The example of `remove_entry`.
+#[test]
+fn remove_entry(rt: HostRuntime) -> Result<(), Fail> {
+    let mut map = LinkedHashMap::new(rt.alloc());
+    map.insert('x', 1)?;
+    map.insert('y', 2)?;
+    assert_eq!(rt; map.remove_entry(&'x'), Some(('x', 1)));
+    assert_eq!(rt; map.remove_entry(&'x'), None);
+    assert_eq!(rt; (map.len(), map.capacity()), (1, 2));
+    Ok(())
+}
+
 /// The example of `pop_front`.
 #[test]
 fn pop_front(rt: HostRuntime) -> Result<(), Fail> {

@@ -48,6 +48,50 @@ fn new(rt: HostRuntime) -> Result<(), Fail> {
     Ok(())
 }
 
+/// The example of `Sessions::with_capacity`.
+#[test]
+fn table_with_capacity(rt: HostRuntime) -> Result<(), Fail> {
+    let table: Sessions<char> = Sessions::with_capacity(rt.alloc(), 10, 5)?;
+    assert_eq!(rt; (table.len(), table.capacity()), (0, 5));
+    Ok(())
+}
+
+/// The example of `Sessions::reserve`.
+#[test]
+fn reserve_sessions(rt: HostRuntime) -> Result<(), Fail> {
+    let mut table = Sessions::new(rt.alloc(), 10);
+    table.put(1, 4, "a")?;
+    table.reserve(4)?;
+    assert_eq!(rt; table.capacity(), 5);
+    Ok(())
+}
+
+/// The example of `Sessions::capacity`.
+#[test]
+fn capacity_of_sessions(rt: HostRuntime) -> Result<(), Fail> {
+    let mut table = Sessions::with_capacity(rt.alloc(), 10, 1)?;
+    table.put(1, 4, "a")?;
+    assert_eq!(rt; table.capacity(), 1);
+    table.put(2, 4, "b")?;
+    assert_eq!(rt; table.capacity(), 2);
+    Ok(())
+}
+
+/// The example of `put_with`.
+#[test]
+fn put_with(rt: HostRuntime) -> Result<(), Fail> {
+    let mut table = Sessions::with_capacity(rt.alloc(), 10, 2)?;
+    table.put(1, 4, "a")?;
+    table.put(2, 4, "b")?;
+    let mut freed = 0;
+    let old = table.put_with(3, 4, "c", |_id, weight, _payload| {
+        freed = weight;
+    })?;
+    assert_eq!(rt; (old, freed), (None, 4));
+    assert_eq!(rt; table.iter().next(), Some((2, 4, &"b")));
+    Ok(())
+}
+
 /// The example of `put`.
 #[test]
 fn put(rt: HostRuntime) -> Result<(), Fail> {

@@ -1,4 +1,6 @@
 //! Readers and writers over memory, which move a few bytes at once and fail when they are told to.
+//! Their contracts tell their bytes, so what is proved of `run` holds of it with them.
+ghost use Rattle.std.specs.Prelude.{Some, ◌<◌, take};
 
 use std::alloc::Global;
 use std::io;
@@ -56,6 +58,7 @@ pub struct Source<'a> {
     left: &'a [u8],
     pub most: usize,
     pub calls: Calls,
+    ghost some: { 0 < most },
 }
 
 impl<'a> Source<'a> {
@@ -70,6 +73,8 @@ impl<'a> Source<'a> {
 }
 
 impl Read for Source<'_> {
+    ghost remaining = { λ source. Some source.left.now };
+
     fn read(&mut self, buf: &mut [u8]) -> io::Result<usize> {
         self.calls.count()?;
         let n = self.left.len().min(buf.len()).min(self.most);
@@ -123,6 +128,8 @@ impl Sink {
 }
 
 impl Write for Sink {
+    ghost contents = { λ sink. Some (take sink.len sink.buffer) };
+
     fn write(&mut self, buf: &[u8]) -> io::Result<usize> {
         self.calls.count()?;
         if self.len > self.buffer.len() {
@@ -163,6 +170,8 @@ impl Output {
 }
 
 impl Write for Output {
+    ghost contents = { λ output. Some output.bytes.items };
+
     fn write(&mut self, buf: &[u8]) -> io::Result<usize> {
         self.calls.count()?;
         let n = buf.len().min(self.most);

@@ -188,8 +188,10 @@ fn hashes_each_item_of_a_collection_once(rt: HostRuntime) {
         built: 0,
         ..lookups(3, 1)
     };
-    let items = items(&rt, &counts);
-    check_calls!(rt; counts, DefaultMap::from_iter(rt.alloc(), items).is_ok(), wanted);
+    let (one, other) = (items(&rt, &counts), items(&rt, &counts));
+    check_calls!(rt; counts, DefaultMap::from_iter(rt.alloc(), one).is_ok(), wanted);
+    let other = other.into_iter();
+    check_calls!(rt; counts, other.collect::<DefaultMap>(rt.alloc()).is_ok(), wanted);
 }
 
 /// What a clone of a map of `len` pairs calls: each key and the builder are cloned, and each clone

@@ -23,6 +23,10 @@ fn or_insert_with(rt: &impl Abort, map: &mut CallMap, key: &Key, wanted: Calls) 
     check_calls!(rt; key.counts, map.entry(key.again(rt)).or_insert_with(|| 1).is_ok(), wanted);
 }
 
+fn or_insert_with_key(rt: &impl Abort, map: &mut CallMap, key: &Key, wanted: Calls) {
+    check_calls!(rt; key.counts, map.entry(key.again(rt)).or_insert_with_key(|_| 1).is_ok(), wanted);
+}
+
 fn or_default(rt: &impl Abort, map: &mut CallMap, key: &Key, wanted: Calls) {
     check_calls!(rt; key.counts, map.entry(key.again(rt)).or_default().is_ok(), wanted);
 }
@@ -35,6 +39,14 @@ fn insert_vacant(rt: &impl Abort, map: &mut CallMap, key: &Key) -> bool {
     }
 }
 
+/// Takes a key out of its vacant entry.
+fn take_key(rt: &impl Abort, map: &mut CallMap, key: &Key) -> bool {
+    match map.entry(key.again(rt)) {
+        Entry::Vacant(entry) => entry.into_key().number == key.number,
+        Entry::Occupied(_entry) => false,
+    }
+}
+
 /// Makes the calls of an occupied entry that leave its pair.
 fn use_occupied(rt: &impl Abort, map: &mut CallMap, key: &Key) -> u64 {
     match map.entry(key.again(rt)) {
@@ -43,6 +55,8 @@ fn use_occupied(rt: &impl Abort, map: &mut CallMap, key: &Key) -> u64 {
             let number = entry.key().number;
             *entry.get_mut() = number;
             let old = entry.insert(1);
+            entry.move_to_front();
+            entry.move_to_back();
             *entry.into_mut() = old;
             old
         }
@@ -60,6 +74,14 @@ fn remove_occupied(rt: &impl Abort, map: &mut CallMap, key: &Key) -> bool {
     }
 }
 
+/// Takes the pair of a key out by its occupied entry.
+fn take_pair(rt: &impl Abort, map: &mut CallMap, key: &Key) -> bool {
+    match map.entry(key.again(rt)) {
+        Entry::Vacant(_entry) => false,
+        Entry::Occupied(entry) => entry.remove_entry().0.number == key.number,
+    }
+}
+
 /// Removes the pair of a present key.
 fn remove_by_entry(rt: &impl Abort, map: &mut CallMap, key: &Key) {
     let wanted = lookup_of(rt, map, key);
@@ -69,9 +91,12 @@ fn remove_by_entry(rt: &impl Abort, map: &mut CallMap, key: &Key) {
 /// Inserts an absent key by each call, and removes it again.
 fn enter_absent(rt: &impl Abort, map: &mut CallMap, key: &Key, wanted: Calls) {
     enter(rt, map, key, wanted);
+    check_calls!(rt; key.counts, take_key(rt, map, key), wanted);
     or_insert(rt, map, key, wanted);
     remove_by_entry(rt, map, key);
     or_insert_with(rt, map, key, wanted);
+    remove_by_entry(rt, map, key);
+    or_insert_with_key(rt, map, key, wanted);
     remove_by_entry(rt, map, key);
     or_default(rt, map, key, wanted);
     remove_by_entry(rt, map, key);
@@ -85,9 +110,13 @@ fn enter_present(rt: &impl Abort, map: &mut CallMap, key: &Key) {
     enter(rt, map, key, wanted);
     or_insert(rt, map, key, wanted);
     or_insert_with(rt, map, key, wanted);
+    or_insert_with_key(rt, map, key, wanted);
     or_default(rt, map, key, wanted);
     check_calls!(rt; key.counts, use_occupied(rt, map, key), wanted);
     remove_by_entry(rt, map, key);
+    check!(rt; insert_vacant(rt, map, key));
+    let wanted = lookup_of(rt, map, key);
+    check_calls!(rt; key.counts, take_pair(rt, map, key), wanted);
     check!(rt; insert_vacant(rt, map, key));
 }
 

@@ -11,18 +11,42 @@ use std::process::Abort;
 fn look_up(rt: &impl Abort, map: &mut CallMap, key: &Key, wanted: Calls) {
     check_calls!(rt; key.counts, map.get_counted(key), wanted);
     check_calls!(rt; key.counts, map.get(key), wanted);
+    check_calls!(rt; key.counts, map.get_key_value(key), wanted);
     check_calls!(rt; key.counts, map.contains_key(key), wanted);
     check_calls!(rt; key.counts, map.get_mut(key), wanted);
     check_calls!(rt; key.counts, map.get_refresh(key), wanted);
+    check_calls!(rt; key.counts, map.move_to_front(key), wanted);
+    check_calls!(rt; key.counts, map.move_to_back(key), wanted);
 }
 
-/// Looks an absent key up, inserts it, and removes it.
+/// Inserts a key for which there is room.
+fn insert_with_room(rt: &impl Abort, map: &mut CallMap, key: &Key) -> Option<u64> {
+    if map.len() < map.capacity() {
+        map.insert_within_capacity(key.again(rt), 1)
+    } else {
+        None
+    }
+}
+
+/// Inserts a key that is present: two lookups with the one that shows so.
+fn insert_present(rt: &impl Abort, map: &mut CallMap, key: &Key) -> Option<u64> {
+    if map.contains_key(key) {
+        map.insert_within_capacity(key.again(rt), 1)
+    } else {
+        None
+    }
+}
+
+/// Looks an absent key up, inserts it by each call, and removes it.
 fn look_up_absent(rt: &impl Abort, map: &mut CallMap, key: &Key, wanted: Calls) {
     look_up(rt, map, key, wanted);
     check_calls!(rt; key.counts, map.remove(key), wanted);
+    check_calls!(rt; key.counts, map.remove_entry(key), wanted);
     check_calls!(rt; key.counts, map.insert(key.again(rt), 1).is_ok(), wanted);
     let present = lookup_of(rt, map, key);
     check_calls!(rt; key.counts, map.remove(key), present);
+    check_calls!(rt; key.counts, insert_with_room(rt, map, key), wanted);
+    check!(rt; map.remove(key).is_some());
 }
 
 /// Indexes by a key that is present: two lookups with the one that shows so.
@@ -53,6 +77,7 @@ fn look_up_present(rt: &impl Abort, map: &mut CallMap, key: &Key) {
     check_calls!(rt; key.counts, index(map, key), twice(wanted));
     check_calls!(rt; key.counts, index_mut(map, key), twice(wanted));
     check_calls!(rt; key.counts, map.insert(key.again(rt), 1).is_ok(), wanted);
+    check_calls!(rt; key.counts, insert_present(rt, map, key), twice(wanted));
     map.set_mode(Mode::Keep);
     check_calls!(rt; key.counts, map.insert(key.again(rt), 1).is_ok(), wanted);
     map.set_mode(Mode::Touch);
@@ -62,6 +87,9 @@ fn look_up_present(rt: &impl Abort, map: &mut CallMap, key: &Key) {
 fn remove_present(rt: &impl Abort, map: &mut CallMap, key: &Key) {
     let wanted = lookup_of(rt, map, key);
     check_calls!(rt; key.counts, map.remove(key), wanted);
+    check!(rt; map.insert(key.again(rt), 1).is_ok());
+    let wanted = lookup_of(rt, map, key);
+    check_calls!(rt; key.counts, map.remove_entry(key), wanted);
     check!(rt; map.insert(key.again(rt), 1).is_ok());
 }
 

@@ -65,7 +65,13 @@ fn change(rt: &impl Abort, map: &mut CallMap, counts: &Rc<Counts>) {
     check_calls!(rt; counts, map.shrink_to_fit(), NONE);
     check_calls!(rt; counts, map.iter_mut().next(), NONE);
     check_calls!(rt; counts, map.iter_mut().next_back(), NONE);
+    check_calls!(rt; counts, map.front_mut(), NONE);
+    check_calls!(rt; counts, map.back_mut(), NONE);
+    check_calls!(rt; counts, map.values_mut().next(), NONE);
+    check_calls!(rt; counts, map.values_mut().next_back(), NONE);
     check_calls!(rt; counts, visit_all(map), NONE);
+    check_calls!(rt; counts, map.rotate_left(map.len() / 3), NONE);
+    check_calls!(rt; counts, map.rotate_left(map.len()), NONE);
 }
 
 /// Returns what an iterator says of how many items are left.
@@ -79,6 +85,7 @@ fn ask_sizes(rt: &impl Abort, mut map: CallMap, counts: &Rc<Counts>) {
     check_calls!(rt; counts, sizes(&map.keys()), NONE);
     check_calls!(rt; counts, sizes(&map.values()), NONE);
     check_calls!(rt; counts, sizes(&map.iter_mut()), NONE);
+    check_calls!(rt; counts, sizes(&map.values_mut()), NONE);
     let pairs = map.into_iter();
     check_calls!(rt; counts, sizes(&pairs), NONE);
 }
@@ -98,6 +105,14 @@ fn consume(rt: &impl Abort, alloc: Global, kind: &Kind, counts: &Rc<Counts>) {
     check_calls!(rt; counts, map.into_iter().next(), NONE);
     let map = map_of_kind(rt, alloc, kind, counts);
     check_calls!(rt; counts, map.into_iter().next_back(), NONE);
+    let map = map_of_kind(rt, alloc, kind, counts);
+    let mut keys = map.into_keys();
+    check_calls!(rt; counts, sizes(&keys), NONE);
+    check_calls!(rt; counts, (keys.next(), keys.next_back()), NONE);
+    let map = map_of_kind(rt, alloc, kind, counts);
+    let mut values = map.into_values();
+    check_calls!(rt; counts, sizes(&values), NONE);
+    check_calls!(rt; counts, (values.next(), values.next_back()), NONE);
     let mut map = map_of_kind(rt, alloc, kind, counts);
     check_calls!(rt; counts, map.drain().next_back(), NONE);
     let mut map = map_of_kind(rt, alloc, kind, counts);

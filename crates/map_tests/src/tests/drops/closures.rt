@@ -47,6 +47,36 @@ fn drops_a_closure_that_is_not_called(rt: HostRuntime) {
     assert_dropped(&rt, &tally, 511);
 }
 
+/// Inserts what a closure makes that is given the key and owns `owned` too.
+fn or_insert_with_key<'a>(
+    rt: &impl Abort,
+    map: &mut CountedMap<'a>,
+    key: Counted<'a>,
+    value: Counted<'a>,
+    owned: Counted<'a>,
+) {
+    let put = map.entry(key).or_insert_with_key(move |_key| {
+        drop(owned);
+        value
+    });
+    check!(rt; put.is_ok());
+}
+
+/// The closure is called for an absent key, and dropped with its value for a present one.
+#[test]
+fn drops_a_closure_that_is_given_the_key(rt: HostRuntime) {
+    let tally = Tally::new();
+    let mut map = counted_map_of(&rt, rt.alloc(), &tally, &PAIRS);
+    let (key, value) = (tally.thing(4, KEY), tally.thing(4, VALUE));
+    or_insert_with_key(&rt, &mut map, key, value, tally.thing(0, OWNED));
+    assert_dropped(&rt, &tally, OWNED);
+    let (key, value) = (tally.thing(1, 512), tally.thing(1, 1024));
+    or_insert_with_key(&rt, &mut map, key, value, tally.thing(0, 2048));
+    assert_dropped(&rt, &tally, OWNED | 512 | 1024 | 2048);
+    drop(map);
+    assert_dropped(&rt, &tally, 4095);
+}
+
 /// Writes a value by a closure, which owns the value, and drops the value that was there.
 fn and_modify<'m, 'a>(
     map: &'m mut CountedMap<'a>,
@@ -139,4 +169,39 @@ fn drops_the_closure_that_has_no_session_to_keep(rt: HostRuntime) {
     assert_dropped(&rt, &tally, OWNED);
     drop(table);
     assert_dropped(&rt, &tally, OWNED);
+}
+
+/// Puts a session of this weight with a closure, which owns a payload.
+fn put_owning<'a>(
+    rt: &impl Abort,
+    tally: &'a Tally,
+    table: &mut Sessions<Counted<'a>>,
+    weight: u64,
+    owned: Counted<'a>,
+) {
+    let put = table.put_with(3, weight, tally.thing(3, 4), move |_id, _weight, payload| {
+        check!(rt; payload != owned);
+    });
+    drop(put);
+}
+
+#[test]
+fn drops_the_closure_that_sessions_are_handed_to(rt: HostRuntime) {
+    let tally = Tally::new();
+    let mut table = Sessions::new(rt.alloc(), 10);
+    put_two(&rt, &tally, &mut table);
+    put_owning(&rt, &tally, &mut table, 4, tally.thing(9, OWNED));
+    assert_dropped(&rt, &tally, 1 | OWNED);
+    drop(table);
+    assert_dropped(&rt, &tally, 7 | OWNED);
+}
+
+#[test]
+fn drops_the_closure_of_a_put_that_is_too_heavy(rt: HostRuntime) {
+    let tally = Tally::new();
+    let mut table = Sessions::new(rt.alloc(), 10);
+    put_owning(&rt, &tally, &mut table, 11, tally.thing(9, OWNED));
+    assert_dropped(&rt, &tally, 4 | OWNED);
+    drop(table);
+    assert_dropped(&rt, &tally, 4 | OWNED);
 }

@@ -94,6 +94,8 @@ fn insert_and_remove<'a>(rt: &impl Abort, tally: &'a Tally, map: &mut CountedMap
     let old = entry.insert(tally.thing(1, VALUE));
     assert_dropped(rt, tally, KEY);
     drop(old);
+    entry.move_to_front();
+    entry.move_to_back();
     assert_dropped(rt, tally, KEY | 2);
     let value = entry.remove();
     assert_dropped(rt, tally, KEY | 2 | 1);
@@ -147,6 +149,61 @@ fn drops_nothing_that_a_vacant_entry_inserts(rt: HostRuntime) {
     let mut map = counted_map_of(&rt, rt.alloc(), &tally, &PAIRS);
     check!(rt; vacant(&rt, &mut map, tally.thing(4, KEY)).insert(tally.thing(4, VALUE)).is_ok());
     assert_dropped(&rt, &tally, 0);
+    drop(map);
+    assert_dropped(&rt, &tally, 63 | KEY | VALUE);
+}
+
+/// Inserts a pair if there is room for one more, and returns the old value.
+fn insert_with_room<'a>(
+    map: &mut CountedMap<'a>,
+    key: Counted<'a>,
+    value: Counted<'a>,
+) -> Option<Counted<'a>> {
+    if map.len() < map.capacity() {
+        map.insert_within_capacity(key, value)
+    } else {
+        None
+    }
+}
+
+/// Inserts a present key, which drops the key that is handed in, and hands the old value out, and
+/// an absent one, which drops nothing.
+fn insert_within<'a>(rt: &impl Abort, tally: &'a Tally, map: &mut CountedMap<'a>) {
+    check!(rt; map.reserve(1).is_ok());
+    let old = insert_with_room(map, tally.thing(1, KEY), tally.thing(1, VALUE));
+    assert_dropped(rt, tally, KEY);
+    drop(old);
+    assert_dropped(rt, tally, KEY | 2);
+    check!(rt; insert_with_room(map, tally.thing(4, 256), tally.thing(4, 512)).is_none());
+    assert_dropped(rt, tally, KEY | 2);
+}
+
+#[test]
+fn drops_the_key_that_is_inserted_within_the_capacity(rt: HostRuntime) {
+    let tally = Tally::new();
+    let mut map = counted_map_of(&rt, rt.alloc(), &tally, &PAIRS);
+    insert_within(&rt, &tally, &mut map);
+    drop(map);
+    assert_dropped(&rt, &tally, 1023);
+}
+
+/// Takes the key of a vacant entry, and the pair of an occupied one. Both are handed out.
+fn take_out<'a>(rt: &impl Abort, tally: &'a Tally, map: &mut CountedMap<'a>) {
+    let key = vacant(rt, map, tally.thing(4, VALUE)).into_key();
+    assert_dropped(rt, tally, 0);
+    drop(key);
+    assert_dropped(rt, tally, VALUE);
+    let pair = occupied(rt, map, tally.thing(1, KEY)).remove_entry();
+    assert_dropped(rt, tally, KEY | VALUE);
+    drop(pair);
+    assert_dropped(rt, tally, KEY | VALUE | 1 | 2);
+}
+
+#[test]
+fn drops_nothing_that_entries_hand_out(rt: HostRuntime) {
+    let tally = Tally::new();
+    let mut map = counted_map_of(&rt, rt.alloc(), &tally, &PAIRS);
+    take_out(&rt, &tally, &mut map);
     drop(map);
     assert_dropped(&rt, &tally, 63 | KEY | VALUE);
 }

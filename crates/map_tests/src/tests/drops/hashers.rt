@@ -5,6 +5,7 @@ use crate::tests::support::checks::{check, check_eq, given};
 use crate::tests::support::counted_builder::{CountedBuilder, counted_builder};
 use crate::tests::support::tally::Tally;
 use linked_hash_map::{LIMIT, LinkedHashMap, ReserveError};
+use std::alloc::Global;
 use std::process::Abort;
 
 /// The bit of a builder.
@@ -70,4 +71,15 @@ fn drops_the_hasher_of_a_map_that_is_taken_apart(rt: HostRuntime) {
     check_eq!(rt; pairs.next(), None);
     drop(pairs);
     assert_dropped(&rt, &tally, BUILDER);
+    take_apart(&rt, rt.alloc(), &tally);
+}
+
+/// Takes two more maps apart, each with a builder of its own.
+fn take_apart(rt: &impl Abort, alloc: Global, tally: &Tally) {
+    let map: BuiltMap<'_> = LinkedHashMap::with_hasher(alloc, counted_builder(tally, 2));
+    check_eq!(rt; map.into_keys().next(), None);
+    assert_dropped(rt, tally, BUILDER | 2);
+    let map: BuiltMap<'_> = LinkedHashMap::with_hasher(alloc, counted_builder(tally, 4));
+    check_eq!(rt; map.into_values().next(), None);
+    assert_dropped(rt, tally, BUILDER | 2 | 4);
 }

@@ -1,7 +1,7 @@
 //! Pairs that an iterator hands out, or does not.
 
 use super::{KEY, PAIRS, VALUE, assert_dropped};
-use crate::tests::support::checks::check_eq;
+use crate::tests::support::checks::{check, check_eq};
 use crate::tests::support::counted_map::{CountedMap, counted_map_of};
 use crate::tests::support::tally::Tally;
 use std::mem::{forget, replace};
@@ -29,12 +29,50 @@ fn pop_pairs(rt: &impl Abort, tally: &Tally, map: &mut CountedMap<'_>) {
     assert_dropped(rt, tally, 63);
 }
 
+/// Takes a pair out by its key, and looks for it again. The pair is handed out.
+fn remove_entries<'a>(rt: &impl Abort, tally: &'a Tally, map: &mut CountedMap<'a>) {
+    let key = tally.thing(2, KEY);
+    let pair = map.remove_entry(&key);
+    check!(rt; map.remove_entry(&key).is_none());
+    assert_dropped(rt, tally, 0);
+    drop(pair);
+    assert_dropped(rt, tally, 4 | 8);
+    drop(key);
+}
+
 #[test]
 fn drops_a_pair_once_it_is_taken_out(rt: HostRuntime) {
     let tally = Tally::new();
     let mut map = counted_map_of(&rt, rt.alloc(), &tally, &PAIRS);
+    remove_entries(&rt, &tally, &mut map);
     pop_pairs(&rt, &tally, &mut map);
     drop(map);
+    assert_dropped(&rt, &tally, 63 | KEY);
+}
+
+/// Takes the first key out and the last, and the rest is dropped with the iterator. The values of
+/// the two are dropped at once.
+#[test]
+fn drops_the_values_of_keys_that_are_taken_out(rt: HostRuntime) {
+    let tally = Tally::new();
+    let mut keys = counted_map_of(&rt, rt.alloc(), &tally, &PAIRS).into_keys();
+    let taken = (keys.next(), keys.next_back());
+    assert_dropped(&rt, &tally, 2 | 32);
+    drop(taken);
+    assert_dropped(&rt, &tally, 1 | 2 | 16 | 32);
+    drop(keys);
+    assert_dropped(&rt, &tally, 63);
+}
+
+#[test]
+fn drops_the_keys_of_values_that_are_taken_out(rt: HostRuntime) {
+    let tally = Tally::new();
+    let mut values = counted_map_of(&rt, rt.alloc(), &tally, &PAIRS).into_values();
+    let taken = (values.next(), values.next_back());
+    assert_dropped(&rt, &tally, 1 | 16);
+    drop(taken);
+    assert_dropped(&rt, &tally, 1 | 2 | 16 | 32);
+    drop(values);
     assert_dropped(&rt, &tally, 63);
 }
 
@@ -45,6 +83,8 @@ fn borrow_all<'a>(rt: &impl Abort, tally: &'a Tally, map: &CountedMap<'a>) {
     let (key, absent) = (tally.thing(1, KEY), tally.thing(4, 1024));
     check_eq!(rt; (map.contains_key(&key), map.contains_key(&absent)), (true, false));
     check_eq!(rt; (map.get(&key).is_some(), map.get(&absent).is_some()), (true, false));
+    check!(rt; map.get_key_value(&key).is_some());
+    check!(rt; map.get_key_value(&absent).is_none());
     check_eq!(rt; (map.front().is_some(), map.back().is_some(), *map == *map), (true, true, true));
     assert_dropped(rt, tally, 0);
 }
@@ -58,6 +98,10 @@ fn borrow_mutably<'a>(rt: &impl Abort, tally: &'a Tally, map: &mut CountedMap<'a
         (map.get_refresh(&key).is_some(), map.get_refresh(&absent).is_some()),
         (true, false)
     );
+    check_eq!(rt; (map.move_to_front(&key), map.move_to_front(&absent)), (true, false));
+    check_eq!(rt; (map.move_to_back(&key), map.move_to_back(&absent)), (true, false));
+    map.rotate_left(map.len());
+    check_eq!(rt; (map.front_mut().is_some(), map.back_mut().is_some()), (true, true));
     assert_dropped(rt, tally, KEY | 1024);
 }
 

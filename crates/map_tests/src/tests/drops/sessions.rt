@@ -58,3 +58,37 @@ fn drops_each_payload_once(rt: HostRuntime) {
     drop(table);
     assert_dropped(&rt, &tally, 31);
 }
+
+/// Puts a session with a closure that drops those that go, drops what the put returns, and checks
+/// which bits were dropped before and after.
+fn put_with<'a>(
+    rt: &impl Abort,
+    tally: &'a Tally,
+    table: &mut Table<'a>,
+    (id, weight, bit): (u64, u64, u64),
+    (before, after): (u64, u64),
+) {
+    assert_dropped(rt, tally, before);
+    let put = table.put_with(id, weight, tally.thing(id, bit), |_id, _weight, payload| {
+        drop(payload);
+    });
+    drop(put);
+    assert_dropped(rt, tally, after);
+}
+
+#[test]
+fn drops_each_payload_that_a_closure_is_handed(rt: HostRuntime) {
+    let tally = Tally::new();
+    let mut table = Sessions::new(rt.alloc(), 10);
+    check_eq!(rt; table.reserve(3), Ok(()));
+    put_with(&rt, &tally, &mut table, (1, 4, 1), (0, 0));
+    put_with(&rt, &tally, &mut table, (2, 4, 2), (0, 0));
+    // The payload that it had.
+    put_with(&rt, &tally, &mut table, (2, 5, 4), (0, 2));
+    // The first session.
+    put_with(&rt, &tally, &mut table, (3, 4, 8), (2, 3));
+    // The payload that is too heavy.
+    put_with(&rt, &tally, &mut table, (3, 11, 16), (3, 19));
+    drop(table);
+    assert_dropped(&rt, &tally, 31);
+}

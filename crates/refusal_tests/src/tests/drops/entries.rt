@@ -2,6 +2,7 @@
 
 use super::{CountedMap, assert_dropped};
 use crate::tests::say_if_given;
+use crate::tests::support::checks::check;
 use crate::tests::support::tally::{Counted, Tally};
 use linked_hash_map::{Entry, LinkedHashMap, Refused};
 use std::process::Abort;
@@ -10,20 +11,22 @@ use std::process::Abort;
 fn refused_entries_drop_nothing(rt: HostRuntime) {
     let tally = Tally::new();
     let given = insert_by_entries(&rt, &tally, LinkedHashMap::new(rt.alloc()));
-    say_if_given(&rt, given, 11);
+    say_if_given(&rt, given, 14);
 }
 
-/// Inserts three keys into an empty map, each by another call, and tells whether each growth was
+/// Inserts five keys into an empty map, each by another call, and tells whether each growth was
 /// given.
 fn insert_by_entries<'a>(rt: &impl Abort, tally: &'a Tally, mut map: CountedMap<'a>) -> bool {
     // The growths: buckets, a filter, a list of chunks and a chunk; buckets, a filter and a chunk,
-    // twice.
+    // twice; none; buckets, a filter and a chunk.
     let refused = or_insert(rt, tally, &mut map);
     let refused = insert_vacant(rt, tally, &mut map, refused);
     let refused = or_insert_with(rt, tally, &mut map, refused);
+    check!(rt; map.insert(tally.thing(5, 1024), tally.thing(5, 2048)).is_ok());
+    let refused = or_insert_with_key(rt, tally, &mut map, refused);
     drop(map);
-    assert_dropped(rt, tally, 127);
-    refused == 64
+    assert_dropped(rt, tally, 4095);
+    refused == 64 | 512
 }
 
 /// Drops what an entry returns, and returns the bits of all that was dropped: those of the pair
@@ -78,4 +81,20 @@ fn or_insert_with<'a>(
         value
     });
     drop_put(rt, tally, put, dropped | 64, 16 | 32)
+}
+
+fn or_insert_with_key<'a>(
+    rt: &impl Abort,
+    tally: &'a Tally,
+    map: &mut CountedMap<'a>,
+    dropped: u64,
+) -> u64 {
+    let (value, owned) = (tally.thing(4, 256), tally.thing(0, 512));
+    let put = map
+        .entry(tally.thing(4, 128))
+        .or_insert_with_key(move |_key| {
+            drop(owned);
+            value
+        });
+    drop_put(rt, tally, put, dropped | 512, 128 | 256)
 }

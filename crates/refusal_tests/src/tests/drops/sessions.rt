@@ -54,3 +54,28 @@ fn drop_put<'a>(
     assert_dropped(rt, tally, dropped | gone);
     dropped | gone
 }
+
+#[test]
+fn refused_put_with_drops_no_payload(rt: HostRuntime) {
+    let tally = Tally::new();
+    let given = put_two_with(&rt, &tally, Sessions::new(rt.alloc(), 10));
+    say_if_given(&rt, given, 5);
+}
+
+/// Puts two sessions, of which the second sends the first away, and tells whether each growth was
+/// given.
+fn put_two_with<'a>(rt: &impl Abort, tally: &'a Tally, mut table: Table<'a>) -> bool {
+    // The growths: buckets, a filter, a list of chunks and a chunk, for the second put only if the
+    // first was refused.
+    let first = table.put_with(1, 6, tally.thing(1, 1), |_id, _weight, _payload| {});
+    assert_dropped(rt, tally, 0);
+    let given = first.is_ok();
+    drop(first);
+    assert_dropped(rt, tally, !given as u64);
+    let second = table.put_with(2, 6, tally.thing(2, 2), |_id, _weight, _payload| {});
+    assert_dropped(rt, tally, 1);
+    drop(second);
+    drop(table);
+    assert_dropped(rt, tally, 3);
+    given
+}

@@ -16,6 +16,15 @@ pub fn check_insert(rt: &impl Abort, map: &mut Map, key: u8, value: u64, old: Op
     check_eq!(rt; map.insert(key, value), Ok(old));
 }
 
+/// Inserts a pair if there is room for one more, and returns the old value.
+pub fn insert_with_room(map: &mut Map, key: u8, value: u64) -> Option<u64> {
+    if map.len() < map.capacity() {
+        map.insert_within_capacity(key, value)
+    } else {
+        None
+    }
+}
+
 /// Removes a key, and checks the value that it had.
 pub fn check_remove(rt: &impl Abort, map: &mut Map, key: u8, value: Option<u64>) {
     check_eq!(rt; map.remove(&key), value);
@@ -65,6 +74,12 @@ pub fn or_insert(map: &mut Map, key: u8, value: u64) -> Put {
 /// Does so by a closure.
 pub fn or_insert_with(map: &mut Map, key: u8, value: u64) -> Put {
     map.entry(key).or_insert_with(|| value).map(|lent| *lent)
+}
+
+/// Does so by a closure that is given the key.
+pub fn or_insert_with_key(map: &mut Map, key: u8, value: u64) -> Put {
+    let lent = map.entry(key).or_insert_with_key(|_key| value);
+    lent.map(|lent| *lent)
 }
 
 /// Does so with the default value, 0.

@@ -1,7 +1,9 @@
 //! Entries of either kind, and the cursor.
 
 use super::PAIRS;
-use crate::tests::support::calls::{check_remove, or_default, or_insert, or_insert_with};
+use crate::tests::support::calls::{
+    check_remove, or_default, or_insert, or_insert_with, or_insert_with_key,
+};
 use crate::tests::support::checks::{check, check_eq};
 use crate::tests::support::last_byte::BuildLastByte;
 use crate::tests::{Map, assert_map, full_of, say_given};
@@ -28,13 +30,15 @@ fn use_entries(rt: &(impl Abort + Print + AllocGlobal), made: Result<Map, Reserv
     }
 }
 
-/// Uses each call of an occupied entry but `remove` on a map that has `PAIRS`, and writes the value
+/// Uses each call of an occupied entry that leaves its pair on a map that has `PAIRS`, and writes the value
 /// 13.
 fn use_occupied(rt: &impl Abort, map: &mut Map) {
     if let Entry::Occupied(mut entry) = map.entry(1) {
         check_eq!(rt; (*entry.key(), *entry.get()), (1, 10));
         *entry.get_mut() = 11;
         check_eq!(rt; entry.insert(12), 11);
+        entry.move_to_front();
+        entry.move_to_back();
         *entry.into_mut() = 13;
     }
 }
@@ -55,6 +59,7 @@ fn check_lent(rt: &impl Abort, lent: Result<&mut u64, Refused<u8, u64>>, value: 
 fn find_occupied(rt: &impl Abort, map: &mut Map) {
     check_eq!(rt; or_insert(map, 1, 0), Ok(13));
     check_eq!(rt; or_insert_with(map, 1, 0), Ok(13));
+    check_eq!(rt; or_insert_with_key(map, 1, 0), Ok(13));
     check_eq!(rt; or_default(map, 1), Ok(13));
     check_eq!(rt; *map.entry(1).and_modify(|value| *value = 15).key(), 1);
 }
@@ -100,11 +105,20 @@ fn insert_unvisited(rt: &impl Abort, entries: &mut Map, value: u64) {
 /// Uses the calls of either kind of entry on a vacant one, below the capacity.
 fn use_vacant(rt: &impl Abort, map: &mut Map) {
     modify_vacant(rt, map);
-    check_remove(rt, map, 4, Some(40));
+    take_occupied(rt, map);
     check_eq!(rt; or_insert_with(map, 5, 50), Ok(50));
     check_remove(rt, map, 5, Some(50));
     check_eq!(rt; or_default(map, 6), Ok(0));
     check_remove(rt, map, 6, Some(0));
+    check_eq!(rt; or_insert_with_key(map, 8, 80), Ok(80));
+    check_remove(rt, map, 8, Some(80));
+}
+
+/// Takes out the pair that `modify_vacant` inserted.
+fn take_occupied(rt: &impl Abort, map: &mut Map) {
+    if let Entry::Occupied(entry) = map.entry(4) {
+        check_eq!(rt; entry.remove_entry(), (4, 40));
+    }
 }
 
 /// Modifies nothing, and inserts.
@@ -114,8 +128,16 @@ fn modify_vacant(rt: &impl Abort, map: &mut Map) {
     check_lent(rt, vacant.or_insert(40), 40);
 }
 
+/// Takes the key out of a vacant entry.
+fn take_key(rt: &impl Abort, map: &mut Map) {
+    if let Entry::Vacant(entry) = map.entry(7) {
+        check_eq!(rt; entry.into_key(), 7);
+    }
+}
+
 /// Inserts through a vacant entry, below the capacity.
 fn insert_vacant(rt: &impl Abort, map: &mut Map) {
+    take_key(rt, map);
     if let Entry::Vacant(entry) = map.entry(7) {
         check_eq!(rt; *entry.key(), 7);
         check_lent(rt, entry.insert(70), 70);

@@ -80,3 +80,28 @@ fn consume(rt: &impl Abort, map: Map) {
     );
     check!(rt; pairs.clone().is_ok_and(|mut none| none.next().is_none()));
 }
+
+#[test]
+fn refused_growth_is_not_asked_for_by_taking_out_keys_and_values(rt: HostRuntime) {
+    // The growths: buckets, a filter, a list of chunks and a chunk; twice.
+    let (one, other) = (
+        full_of(&rt, rt.alloc(), &PAIRS),
+        full_of(&rt, rt.alloc(), &PAIRS),
+    );
+    take_out(&rt, one, other);
+}
+
+/// Takes the keys out of one map that has `PAIRS`, and the values out of another.
+fn take_out(
+    rt: &(impl Abort + Print + AllocGlobal),
+    one: Result<Map, ReserveError>,
+    other: Result<Map, ReserveError>,
+) {
+    if let (Ok(one), Ok(other)) = (one, other) {
+        let mut keys = one.into_keys();
+        check_eq!(rt; (keys.len(), keys.next(), keys.next_back()), (3, Some(1), Some(3)));
+        let mut values = other.into_values();
+        check_eq!(rt; (values.len(), values.next(), values.next_back()), (3, Some(10), Some(30)));
+        say_given(rt, 9);
+    }
+}

@@ -37,6 +37,7 @@ fn read_all(rt: &(impl Abort + Print + AllocGlobal), made: Result<Map, ReserveEr
 fn look_up(rt: &impl Abort, map: &Map) {
     for (key, value) in PAIRS {
         check_eq!(rt; (map.get(&key), map.contains_key(&key)), (Some(&value), true));
+        check_eq!(rt; map.get_key_value(&key), Some((&key, &value)));
         index(rt, map, key, value);
     }
     check_eq!(rt; (map.get(&4), map.contains_key(&4)), (None, false));

@@ -3,7 +3,7 @@
 use super::PAIRS;
 use crate::tests::support::calls::{
     check_insert, check_lends_none, check_pop_back, check_pop_front, check_remove, check_reserve,
-    check_shrink,
+    check_shrink, insert_with_room,
 };
 use crate::tests::support::checks::check_eq;
 use crate::tests::{Map, assert_map, full_of, insert_new, say_given, with_room};
@@ -23,6 +23,8 @@ fn write_all(rt: &(impl Abort + Print + AllocGlobal), made: Result<Map, ReserveE
         count_values(rt, &mut map);
         write_all_but_first(rt, &mut map);
         loop_over(&mut map);
+        reorder(rt, &mut map);
+        write_by_values(rt, &mut map);
         insert_present(rt, &mut map);
         remove_pairs(rt, &mut map);
         put_in(rt, &mut map);
@@ -88,6 +90,32 @@ fn loop_over(map: &mut Map) {
     }
 }
 
+/// Moves pairs of a map that `write_all_but_first` left, and rotates it to what it was.
+fn reorder(rt: &impl Abort, map: &mut Map) {
+    check_eq!(rt; (map.move_to_front(&3), map.move_to_front(&4)), (true, false));
+    assert_map(rt, map, &[(3, 22), (1, 11), (2, 22)], 3, 0);
+    rotate(map, 1);
+    check_eq!(rt; (map.move_to_back(&1), map.move_to_back(&4)), (true, false));
+    assert_map(rt, map, &[(2, 22), (3, 22), (1, 11)], 3, 0);
+    rotate(map, 2);
+    check_eq!(rt; (map.front_mut().copied(), map.back_mut().copied()), (Some(11), Some(22)));
+    assert_map(rt, map, &[(1, 11), (2, 22), (3, 22)], 3, 0);
+}
+
+/// Moves the first pairs of a map behind the others, if it has as many.
+fn rotate(map: &mut Map, count: usize) {
+    if count <= map.len() {
+        map.rotate_left(count);
+    }
+}
+
+/// Writes the values of a map that `write_all_but_first` left, as they are.
+fn write_by_values(rt: &impl Abort, map: &mut Map) {
+    let mut values = map.values_mut();
+    check_eq!(rt; (values.len(), values.size_hint()), (3, (3, Some(3))));
+    check_eq!(rt; (values.next(), values.next_back()), (Some(&mut 11), Some(&mut 22)));
+}
+
 /// Inserts the keys that a map has which `write_all_but_first` left, and leaves (2, 22), (3, 33)
 /// and (1, 12).
 fn insert_present(rt: &impl Abort, map: &mut Map) {
@@ -109,9 +137,11 @@ fn remove_pairs(rt: &impl Abort, map: &mut Map) {
     check_pop_front(rt, map, Some((2, 22)));
     check_pop_back(rt, map, Some((1, 12)));
     check_pop_back(rt, map, None);
-    insert_new(rt, map, &[(5, 0), (6, 0), (7, 0)]);
+    check_eq!(rt; insert_with_room(map, 5, 0), None);
+    insert_new(rt, map, &[(6, 0), (7, 0)]);
     map.retain(|key, _value| *key != 6);
     assert_map(rt, map, &[(5, 0), (7, 0)], 3, 0);
+    check_eq!(rt; (map.remove_entry(&5), map.remove_entry(&5)), (Some((5, 0)), None));
     map.clear();
     assert_map(rt, map, &[], 3, 0);
 }
@@ -166,9 +196,9 @@ fn fill_again(rt: &(impl Abort + Print + AllocGlobal), made: Result<Map, Reserve
 
 /// Fills an empty map of capacity 3 and empties it, in two ways.
 fn fill_and_empty(rt: &impl Abort, map: &mut Map) {
-    insert_new(rt, map, &[(1, 0), (2, 0), (3, 0)]);
+    insert_new(rt, map, &[(1, 1), (2, 2), (3, 3)]);
     drop(map.drain());
-    insert_new(rt, map, &[(4, 0), (5, 0)]);
+    insert_new(rt, map, &[(4, 4), (5, 5)]);
     map.clear();
 }
 

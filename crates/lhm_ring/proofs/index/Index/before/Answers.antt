@@ -1,4 +1,4 @@
-use Rattle.std.proofs.Common.{arith, ap, sym, ◌++◌, ◌∷◌, ◌∙◌, get_or, Some, None}
+use Rattle.std.proofs.Common.{arith, ap, sym, ◌++◌, ◌∷◌, ◌∙◌, get_or, None}
 use Rattle.std.specs.Prelude.{is_some}
 use Rattle.lhm_ring.proofs.indexes.NodeBefore.{get_or-head, IsTowards-start, IsHeld-towards}
 use Rattle.lhm_ring.proofs.indexes.NodeBefore.{passed-below, IsTowards-next, IsOnChain-towards}

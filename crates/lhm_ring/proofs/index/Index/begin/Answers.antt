@@ -7,7 +7,7 @@ pub returns-then-buckets-gt-FEW_BUCKETS : goal.returns-then-buckets-gt-FEW_BUCKE
 returns-then-buckets-gt-FEW_BUCKETS g c =
     let new = c.new.ensures in
     record {
-      part = λ key.
+      part = λ is_key.
           IsPart-first new.before (new.next ∙ sym c.requires.first) new.visited new.compared c.requires.within c.requires.indexed.chains;
     }
 
@@ -16,8 +16,8 @@ links-links-requires g c = IsHeld-head _ c.requires.within c.requires.indexed.ch
 
 pub returns-then-links-hash : goal.returns-then-links-hash
 returns-then-links-hash g c = record {
-  part = λ key.
-      IsPart-passed (IsPart-first {eq = g.K.PartialEq.eq} {key = key} {before = None} {pointer =
+  part = λ is_key.
+      IsPart-passed (IsPart-first {is_key = is_key} {before = None} {pointer =
       Some (pointer_of c.args.first)} {visited = 0} {compared = 0}
       refl (sym c.requires.first) refl refl c.requires.within c.requires.indexed.chains)
       refl c.links-links.result.now.hash c.is_some.result c.links-links.ensures.hash
@@ -28,6 +28,6 @@ pub returns-else-links-hash : goal.returns-else-links-hash
 returns-else-links-hash g c =
     let new = c.new-else-links-hash.ensures in
     record {
-      part = λ key.
+      part = λ is_key.
           IsPart-first new.before (new.next ∙ sym c.requires.first) new.visited new.compared c.requires.within c.requires.indexed.chains;
     }

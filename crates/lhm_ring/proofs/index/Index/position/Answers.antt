@@ -6,7 +6,7 @@ use Rattle.lhm_ring.specs.Pointer.{pointer_of_some}
 
 pub returns-then-not-may_contain-clause-absent : goal.returns-then-not-may_contain-clause-absent
 returns-then-not-may_contain-clause-absent g c =
-    IsAbsent-uncovered c.args.self.now.words g.K.PartialEq.eq c.args.hash c.args.key.now c.args.ring.now.held c.requires.indexed.covers
+    IsAbsent-uncovered c.args.self.now.words (g.Q.Equivalent.equivalent c.args.key) c.args.hash c.args.ring.now.held c.requires.indexed.covers
     (sym c.may_contain.ensures ∙ c.if-not-may_contain.true)
 
 pub returns-in_default-clause-absent : goal.returns-in_default-clause-absent
@@ -14,6 +14,6 @@ returns-in_default-clause-absent g c =
     let heads = c.args.self.now.heads in
     let bucket = c.bucket_of-bucket.ensures in
     let none = sym (ap pointer_of_some c.in_default.is) ∙ c.get.ensures ∙ c.head.ensures ∙ ap (λ b. get_or heads b None) bucket.of_hash in
-    (FindsNone-part (IsPart-first {eq = g.K.PartialEq.eq} {key = c.args.key.now} {before = None}
+    (FindsNone-part (IsPart-first {is_key = g.Q.Equivalent.equivalent c.args.key} {before = None}
     {pointer = None} {visited = 0} {compared = 0}
     refl none refl refl (subst (λ (b : ℕ). b < length heads) bucket.of_hash bucket.within) c.requires.indexed.chains) refl).absent

@@ -6,11 +6,11 @@ use Rattle.lhm_ring.specs.Pointer.{pointer_of}
 
 pub returns-then-not-may_contain-clause-absent : goal.returns-then-not-may_contain-clause-absent
 returns-then-not-may_contain-clause-absent g c =
-    IsAbsent-uncovered c.args.self.now.words g.K.PartialEq.eq c.args.hash c.args.key.now c.args.ring.now.held c.requires.indexed.covers
+    IsAbsent-uncovered c.args.self.now.words (g.Q.Equivalent.equivalent c.args.key) c.args.hash c.args.ring.now.held c.requires.indexed.covers
     (sym c.may_contain.ensures ∙ c.if-not-may_contain.true)
 
 pub returns-in-Some-clause-found : goal.returns-in-Some-clause-found
 returns-in-Some-clause-found g c =
     let h = rw c.in-Some.is at c.search-found.ensures.found in
     HasKey-kept c.args.ring.now.held c.unchain.new.ring.held (pointer_of c.in-Some.found.at)
-    c.unchain.ensures.held g.K.PartialEq.eq c.args.hash c.args.key.now h.has
+    c.unchain.ensures.held (g.Q.Equivalent.equivalent c.args.key) c.args.hash h.has

@@ -7,8 +7,11 @@ use Rattle.lhm_ring.specs.Pointer.{pointer_of, pointer_of_some}
 pub next-pointer-requires : goal.next-pointer-requires
 next-pointer-requires g c = IsHeld-rehashing c.loop-pointer.invariant.rehashing (pointer_of c.in-Some.at) (ap pointer_of_some c.in-Some.is)
 
-pub put_in-requires-clause-held : goal.put_in-requires-clause-held
-put_in-requires-clause-held g c = IsHeld-rehashing c.loop-pointer.invariant.rehashing
+pub links-requires : goal.links-requires
+links-requires g c = IsHeld-rehashing c.loop-pointer.invariant.rehashing (pointer_of c.in-Some.at) (ap pointer_of_some c.in-Some.is)
+
+pub put_in_by_hash-requires-clause-held : goal.put_in_by_hash-requires-clause-held
+put_in_by_hash-requires-clause-held g c = IsHeld-rehashing c.loop-pointer.invariant.rehashing
     (pointer_of c.in-Some.at) (ap pointer_of_some c.in-Some.is)
 
 pub overflow_add-count : goal.overflow_add-count
@@ -34,10 +37,10 @@ loop-pointer-preserved g c =
     let p = pointer_of c.in-Some.at in
     let at = ap pointer_of_some c.in-Some.is in
     record {
-      rehashing = IsRehashing-step i.rehashing p at c.put_in.new.self c.put_in.new.ring.held (pointer_of_some c.next-pointer.result)
+      rehashing = IsRehashing-step i.rehashing p at c.put_in_by_hash.new.self c.put_in_by_hash.new.ring.held (pointer_of_some c.next-pointer.result)
           (length-rehashing i.rehashing p at
           (λ e. c.requires.some (ap (λ (z : BucketState). length z.heads)
-          (sym c.replace.ensures.after) ∙ e))) c.put_in.ensures.first c.next-pointer.ensures.next;
-      spares = c.put_in.ensures.spares ∙ i.spares;
-      nodes = c.put_in.ensures.nodes ∙ i.nodes;
+          (sym c.replace.ensures.after) ∙ e))) c.put_in_by_hash.ensures.first c.next-pointer.ensures.next;
+      spares = c.put_in_by_hash.ensures.spares ∙ i.spares;
+      nodes = c.put_in_by_hash.ensures.nodes ∙ i.nodes;
     }

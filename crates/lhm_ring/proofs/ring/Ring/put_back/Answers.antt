@@ -1,9 +1,10 @@
-use Rattle.std.proofs.Common.{◌∙◌, ◌++◌, ◌∷◌, ◌-◌, [], None, ap, sym, subst, refl}
+use Rattle.std.proofs.Common.{◌∙◌, ◌-◌, None, ap, sym, subst, refl}
 use denote.RawPtr.{Ptr}
 use Rattle.lhm_ring.proofs.rings.PutBackAndUnlink.{IsSome-spare, IsAt-spare, Ready-spare}
 use Rattle.lhm_ring.proofs.rings.PutBackAndUnlink.{links_at-written, Filled-node, is_there-filled}
 use Rattle.lhm_ring.proofs.rings.PutBackAndUnlink.{IsOwned-put_back, ring_list-put_back}
 use Rattle.lhm_ring.proofs.rings.RingCells.{IsAt-in_nodes, prev_at-null, is_there-nowhere, led_to-some, led_to-none, IsJoined-same}
+use Rattle.lhm_ring.proofs.rings.HeldPointers.{IsApart-ring_list}
 use Rattle.lhm_ring.proofs.memory.Places.{IsLaid-same}
 use Rattle.lhm_ring.proofs.ring.Ring.put_back.Goals as goal
 use Rattle.lhm_ring.specs.Links.{ring_cells, IsThere}
@@ -76,6 +77,7 @@ returns g c =
     let k = IsJoined-same node (led_to-none c.none-2.result.ptr c.none-2.ensures) c.join-2.ensures.joined in
     record {
       last = ring_list-put_back ready filled j k;
+      apart = IsApart-ring_list (IsOwned-put_back ready filled j k);
       spares = ap (λ z. z.spares - 1) c.self.view_is;
       nodes = ap (λ z. z.nodes) c.self.view_is;
     }

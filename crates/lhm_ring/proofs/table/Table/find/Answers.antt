@@ -6,12 +6,12 @@ use Rattle.lhm_ring.specs.Pointer.{pointer_of}
 
 pub returns-clause-found : goal.returns-clause-found
 returns-clause-found g c = rw (← c.self.view_is) (IfSome_then c.find.result.0 c.find.ensures.found
-    (λ p h. HasKey-entries g.K.PartialEq.eq c.args.hash c.args.key.now c.self.inside.ring.held
+    (λ p h. HasKey-entries (g.K.PartialEq.eq c.args.key.now) c.args.hash c.self.inside.ring.held
     (pointer_of p) h))
 
 pub returns-clause-absent : goal.returns-clause-absent
 returns-clause-absent g c = rw (← c.self.view_is) (IfNone-then c.find.result.0 c.find.ensures.absent
-    (λ h. IsAbsent-entries g.K.PartialEq.eq c.args.hash c.args.key.now c.self.inside.ring.held h))
+    (λ h. IsAbsent-entries (g.K.PartialEq.eq c.args.key.now) c.args.hash c.self.inside.ring.held h))
 
 pub returns-clause-counts_found : goal.returns-clause-counts_found
 returns-clause-counts_found g c = rw (← c.self.view_is)

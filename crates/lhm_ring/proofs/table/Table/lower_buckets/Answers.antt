@@ -41,3 +41,8 @@ returns-in-Ok-clause-capacity g c =
     let moved = length-same_triples c.compact.new.self.held c.self.inside.ring.held c.in-Ok.ensures.triples in
     let seen = length-table c.self.inside.ring c.self.inside.rechained c.self.view_is in
     omega (arith, long, moved, seen, rehashed.ensures.spares, c.in-Ok.ensures.spares)
+
+pub returns-in-Ok-clause-made : goal.returns-in-Ok-clause-made
+returns-in-Ok-clause-made g c =
+    let seen = length-table c.self.inside.ring c.self.inside.rechained c.self.view_is in
+    c.take_over-self-inside.ensures.nodes ∙ c.in-Ok.ensures.nodes ∙ seen

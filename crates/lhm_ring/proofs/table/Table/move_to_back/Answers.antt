@@ -31,7 +31,11 @@ returns-clause-keeps g c =
     (IsHeld-table c.self.inside.ring c.self.inside.rechained c.self.view_is (pointer_of c.args.at)
     c.requires) moved.last in
     let all = length-capacity c.self.inside.ring c.self.inside.rechained c.self.view_is in
-    record { capacity = omega (arith, long, moved.spares, all); rechained = ap (λ s. s.rechained) c.self.view_is }
+    record {
+      capacity = omega (arith, long, moved.spares, all);
+      rechained = ap (λ s. s.rechained) c.self.view_is;
+      made = moved.nodes ∙ ap (λ s. s.made) c.self.view_is;
+    }
 
 pub returns-clause-apart : goal.returns-clause-apart
 returns-clause-apart g c = IsApart-table c.self.inside.ring c.self.inside.rechained c.self.view_is c.move_to_back.ensures.apart

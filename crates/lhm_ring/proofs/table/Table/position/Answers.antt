@@ -7,9 +7,9 @@ use Rattle.lhm_ring.specs.Pointer.{pointer_of}
 pub returns-clause-found : goal.returns-clause-found
 returns-clause-found g c =
     rw (← c.self.view_is) (IfSome_then c.position.result c.position.ensures.found
-    (λ p h. HasKey-entries g.K.PartialEq.eq c.args.hash c.args.key.now c.self.inside.ring.held (pointer_of p) h))
+    (λ p h. HasKey-entries (g.Q.Equivalent.equivalent c.args.key) c.args.hash c.self.inside.ring.held (pointer_of p) h))
 
 pub returns-clause-absent : goal.returns-clause-absent
 returns-clause-absent g c =
     rw (← c.self.view_is) (IfNone-then c.position.result c.position.ensures.absent
-    (λ h. IsAbsent-entries g.K.PartialEq.eq c.args.hash c.args.key.now c.self.inside.ring.held h))
+    (λ h. IsAbsent-entries (g.Q.Equivalent.equivalent c.args.key) c.args.hash c.self.inside.ring.held h))

@@ -1,27 +1,41 @@
-use Rattle.std.proofs.Common.{◌≡◌, ◌+◌, ◌∷◌, [], None, ap, ◌∙◌, sym, length, length-append, arith}
+use Rattle.std.proofs.Common.{◌≡◌, ◌+◌, ◌∷◌, [], None, ap, ◌∙◌, refl, sym, length, length-append, arith}
 use Rattle.lhm_ring.proofs.tables.IndexedRing.{length-indexed}
 use Rattle.lhm_ring.proofs.indexes.IndexPuts.{HoldsOthers-last}
+use Rattle.lhm_ring.proofs.rings.HeldPointers.{AtHeld-alone}
 use Rattle.lhm_ring.proofs.tables.Tables.{spares-table}
 use Rattle.lhm_ring.proofs.indexes.Entries.{length-same_entries}
 use Rattle.lhm_ring.proofs.table.Table.push_back.Goals as goal
 use Rattle.lhm_ring.specs.Buckets.{buckets}
 use Rattle.lhm_ring.specs.Pointer.{pointer_of}
-use Rattle.lhm_ring.specs.Ring.{pair, held}
+use Rattle.lhm_ring.specs.Ring.{pair, held, IsHeld}
 
-pub put_in-requires-clause-some : goal.put_in-requires-clause-some
-put_in-requires-clause-some g c =
+pub put_in_by_hash-requires-clause-some : goal.put_in_by_hash-requires-clause-some
+put_in_by_hash-requires-clause-some g c =
     length-indexed c.self.inside.index c.self.inside.ring c.self.invariant.indexed
     (spares-table c.self.inside.ring c.self.inside.rechained c.self.view_is c.requires)
 
-pub put_in-requires-clause-held : goal.put_in-requires-clause-held
-put_in-requires-clause-held g c = (HoldsOthers-last _ _ c.put_back-at.ensures.last c.self.invariant.indexed.indexes).held
+pub put_in_by_hash-requires-clause-held : goal.put_in_by_hash-requires-clause-held
+put_in_by_hash-requires-clause-held g c = (HoldsOthers-last _ _ c.put_back-at.ensures.last c.self.invariant.indexed.indexes).held
+
+pub put_in_by_hash-requires-clause-hash : goal.put_in_by_hash-requires-clause-hash
+put_in_by_hash-requires-clause-hash g c =
+    let p = pointer_of c.put_back-at.result in
+    let last : IsHeld c.put_back-at.new.self.held p =
+    record {
+      before = c.self.inside.ring.held;
+      node = held p c.args.hash None (pair c.args.key c.args.value);
+      after = [];
+      is = c.put_back-at.ensures.last;
+      at_is = refl;
+    } in
+    λ xs t ys e at. ap (λ x. x.hash) (AtHeld-alone c.put_back-at.ensures.apart last xs t ys e at).0
 
 pub invariant_of-self : goal.invariant_of-self
 invariant_of-self g c =
     let old = c.self.inside.ring in
-    let new = c.put_in.new.ring in
+    let new = c.put_in_by_hash.new.ring in
     let table = c.self.invariant in
-    let put = c.put_in.ensures in
+    let put = c.put_in_by_hash.ensures in
     let back = c.put_back-at.ensures in
     let t = held (pointer_of c.put_back-at.result) c.args.hash None (pair c.args.key c.args.value) in
     let long = length-same_entries new.held c.put_back-at.new.self.held put.held in

@@ -1,8 +1,10 @@
-use Rattle.std.proofs.Common.{◌≡◌, ◌+◌, ◌<◌, ◌≤◌, ◌∙◌, length, ap, sym, subst, arith}
+use Rattle.std.proofs.Common.{◌≡◌, ◌+◌, ◌-◌, ◌<◌, ◌≤◌, ◌∙◌, length, ap, sym, subst, arith}
 use Rattle.lhm_ring.proofs.lists.Results.{OnOk-always, OnOk-then}
-use Rattle.lhm_ring.proofs.tables.Tables.{length-capacity, IsTable-grown, rechained_raised-stays, rechained_raised-moves}
+use Rattle.lhm_ring.proofs.tables.Tables.{length-capacity, IsTable-grown, rechained_raised-stays, rechained_raised-moves, made_raised-stays}
+use Rattle.lhm_ring.proofs.indexes.BucketCounts.{made_raised-higher}
 use Rattle.lhm_ring.proofs.table.Table.raise.Goals as goal
 use Rattle.lhm_ring.specs.Buckets.{buckets, rechained_raised}
+use Rattle.lhm_ring.specs.Links.{nodes_grown, least_more}
 use Rattle.lhm_ring.specs.Index.{entries}
 use Rattle.lhm_ring.specs.Table.{TableState}
 
@@ -42,3 +44,25 @@ returns-clause-rechained g c =
     c.self.view_is (rechained_raised-moves c.self.invariant c.args.capacity up few
     (length (entries i.ring.held))) in
     OnOk-then c.raise_buckets.result c.raise_buckets.ensures.rechained (λ e. e ∙ sym moves)
+
+pub returns-then-capacity-buckets-clause-made : goal.returns-then-capacity-buckets-clause-made
+returns-then-capacity-buckets-clause-made g c =
+    let i = c.self.inside in
+    let all = length-capacity i.ring i.rechained c.self.view_is in
+    let up : length i.ring.held + i.ring.spares < c.args.capacity = omega (arith, all, c.requires.higher) in
+    let enough : c.args.capacity ≤ length i.index.heads = omega (arith, c.if-capacity-buckets.true, c.buckets.ensures) in
+    let more : c.args.capacity - c.capacity.result ≡ c.args.capacity - (length i.ring.held + i.ring.spares) =
+    omega (arith, all, c.capacity.ensures.value) in
+    let needed : length i.ring.held + i.ring.spares + (c.args.capacity - c.capacity.result) ≡ c.args.capacity = omega (arith, more, up) in
+    rw (← c.self.view_is) (
+    OnOk-then c.grow_within.result c.grow_within.ensures.nodes (λ e.
+    e ∙ (λ j. nodes_grown i.ring.nodes (needed j) (least_more (more j) i.ring.nodes (c.buckets-then-capacity-buckets.ensures j)))
+    ∙ sym (made_raised-stays c.self.invariant c.args.capacity up enough))
+    )
+
+pub returns-clause-made : goal.returns-clause-made
+returns-clause-made g c =
+    let m = c.args.self.now in
+    OnOk-then c.raise_buckets.result c.raise_buckets.ensures.made (λ e.
+    e ∙ ap (λ n. nodes_grown m.made c.args.capacity (least_more (c.args.capacity - n) m.made (buckets c.args.capacity))) c.capacity.ensures.value
+    ∙ sym (made_raised-higher m.made m.capacity c.args.capacity c.requires.higher))

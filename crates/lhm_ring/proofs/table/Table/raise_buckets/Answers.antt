@@ -2,6 +2,7 @@ use Rattle.std.proofs.Common.{◌≡◌, ◌+◌, ◌<◌, ◌∙◌, length, ap
 use Rattle.lhm_ring.proofs.tables.Tables.{length-capacity, IsTable-rechained, rechained-fits}
 use Rattle.lhm_ring.proofs.table.Table.raise_buckets.Goals as goal
 use Rattle.lhm_ring.specs.Buckets.{buckets}
+use Rattle.lhm_ring.specs.Links.{nodes_grown, least_more}
 use Rattle.lhm_ring.specs.Index.{entries}
 
 pub invariant_of-self : goal.invariant_of-self
@@ -23,3 +24,14 @@ invariant_of-self g c =
     IsTable-rechained c.self.invariant {t = c.take_over.new.ring} (taken.held ∙ ap entries grown.held)
     (omega (arith, sum, c.requires.limit)) taken.indexed
     (wide ∙ ap buckets (sym sum)) (omega (arith, fits, count, wide)) (omega (arith, made, c.buckets.ensures, taken.nodes, taken.buckets))
+
+pub returns-in-Ok-clause-made : goal.returns-in-Ok-clause-made
+returns-in-Ok-clause-made g c =
+    let i = c.self.inside in
+    let all = length-capacity i.ring i.rechained c.self.view_is in
+    let needed : length i.ring.held + i.ring.spares + c.args.additional ≡ c.args.capacity = omega (arith, all, c.requires.sum) in
+    let most = c.buckets.ensures ∙ c.in_ok-fresh.ensures.buckets in
+    rw (← c.self.view_is) (
+    c.take_over.ensures.nodes ∙ c.in-Ok.ensures.nodes
+    ∙ (λ j. nodes_grown i.ring.nodes (needed j) (least_more c.args.additional i.ring.nodes (most j)))
+    )

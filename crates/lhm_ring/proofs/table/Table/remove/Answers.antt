@@ -7,8 +7,8 @@ use Rattle.lhm_ring.specs.Index.{entries}
 
 pub returns-in_err-at-clause-absent : goal.returns-in_err-at-clause-absent
 returns-in_err-at-clause-absent g c =
-    rw (c.from_residual.ensures, ← c.self.view_is) (IsAbsent-entries g.K.PartialEq.eq c.args.hash
-    c.args.key.now c.self.inside.ring.held c.in_err-at.ensures.absent)
+    rw (c.from_residual.ensures, ← c.self.view_is) (IsAbsent-entries (g.Q.Equivalent.equivalent c.args.key)
+    c.args.hash c.self.inside.ring.held c.in_err-at.ensures.absent)
 
 pub invariant_of-self-2 : goal.invariant_of-self-2
 invariant_of-self-2 g c =
@@ -23,10 +23,10 @@ returns-clause-removed g c =
     let p = pointer_of c.in_ok-at.at in
     let ks = c.take_out.new.ring.held in
     let taken = c.in_ok-at.ensures in
-    let has = HasKey-kept ks i.ring.held p (sym taken.held) g.K.PartialEq.eq c.args.hash c.args.key.now taken.found in
+    let has = HasKey-kept ks i.ring.held p (sym taken.held) (g.Q.Equivalent.equivalent c.args.key) c.args.hash taken.found in
     record {
       at = p;
-      has = rw (← c.self.view_is) (HasKey-entries g.K.PartialEq.eq c.args.hash c.args.key.now i.ring.held p has);
+      has = rw (← c.self.view_is) (HasKey-entries (g.Q.Equivalent.equivalent c.args.key) c.args.hash i.ring.held p has);
       others = AtHeld-same_entries i.ring i.rechained c.self.view_is ks taken.held p
           (λ xs t ys. entries c.unlink-key.new.self.held ≡ xs ++ ys)
           (λ xs t ys e at. ap entries (c.unlink-key.ensures.others xs t ys e at) ∙ entries-append xs ys);
@@ -42,4 +42,8 @@ returns-clause-keeps g c =
     let all = length-with_spares c.self.invariant taken.held taken.spares taken.nodes taken.lacks
     unlinked.others unlinked.spares unlinked.nodes in
     let before = length-capacity c.self.inside.ring c.self.inside.rechained c.self.view_is in
-    record { capacity = omega (arith, all, before); rechained = ap (λ s. s.rechained) c.self.view_is }
+    record {
+      capacity = omega (arith, all, before);
+      rechained = ap (λ s. s.rechained) c.self.view_is;
+      made = unlinked.nodes ∙ taken.nodes ∙ ap (λ s. s.made) c.self.view_is;
+    }

@@ -10,7 +10,7 @@ loop-next-init g c = record {
   retaining = IsRetaining-start (CalledAtPair g.F.FnMut)
       (TakesPair g.F.FnMut) c.requires c.first-next.ensures;
   keeps =
-      record { capacity = refl; rechained = refl };
+      record { capacity = refl; rechained = refl; made = refl };
 }
 
 pub next-next-requires : goal.next-next-requires
@@ -36,6 +36,7 @@ loop-next-preserved g c =
       keeps = record {
         capacity = kept.keeps.capacity ∙ c.loop-next.invariant.keeps.capacity;
         rechained = kept.keeps.rechained ∙ c.loop-next.invariant.keeps.rechained;
+        made = kept.keeps.made ∙ c.loop-next.invariant.keeps.made;
       };
     }
 

@@ -3,7 +3,7 @@ use borrow.Follows.Closed.{read_of}
 use Rattle.std.specs.Borrow.{name_if_ok}
 use Rattle.linked_hash_map.specs.Entry.{occupied_map, occupied_key}
 use Rattle.linked_hash_map.proofs.pairs.OccupiedEntries.{is_some-occupied}
-use Rattle.linked_hash_map.proofs.pairs.EntryMaps.{set_or_pushed-present, set_or_pushed-absent}
+use Rattle.linked_hash_map.proofs.pairs.EntryMaps.{set_or_pushed-present, set_or_pushed-absent, to_visit-set_or_pushed}
 use Rattle.linked_hash_map.proofs.lists.Results.{OnOk-given, OnErr-always}
 use Rattle.linked_hash_map.proofs.entry.Entry.or_insert.Goals as goal
 
@@ -25,6 +25,7 @@ returns-in-Occupied g c =
         absent = tt;
         full = tt;
         valid = c.into_mut.ensures.valid;
+        to_visit = λ v. to_visit-set_or_pushed eq (occupied_map o) (occupied_key o) v c.into_mut.ensures.valid;
       },
     )
 
@@ -43,5 +44,6 @@ returns-in-Vacant g c =
         absent = OnErr-always r refl;
         full = c.insert.ensures.full;
         valid = c.insert.ensures.valid;
+        to_visit = λ v. to_visit-set_or_pushed eq m e.key v c.insert.ensures.valid;
       },
     )

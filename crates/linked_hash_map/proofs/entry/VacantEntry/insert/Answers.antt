@@ -1,8 +1,9 @@
 use Rattle.std.proofs.Common.{◌≡◌, ◌-◌, ◌∷◌, [], ◌++◌, length, length-append, inl, sym, ap, ◌∙◌, option_map, arith}
 use Rattle.lhm_ring.proofs.lists.Options.{Some-injective}
-use Rattle.linked_hash_map.specs.Counts.{rechained_raised}
+use Rattle.linked_hash_map.specs.Counts.{rechained_raised, made_raised}
 use Rattle.linked_hash_map.proofs.Callers.Keys.{set_or_push-absent}
 use Rattle.linked_hash_map.proofs.Callers.Updates.{Updates-set_or_push}
+use Rattle.linked_hash_map.proofs.pairs.EntryMaps.{to_visit-pushed}
 use Rattle.linked_hash_map.proofs.pairs.Indexes.{set_value_at-pushed, slice_get-pushed}
 use Rattle.linked_hash_map.proofs.entry.VacantEntry.insert.Goals as goal
 
@@ -29,6 +30,9 @@ returns g c =
               (pushed.ensures.keeps.rechained ∙ room.ensures.rechained c.if-not-make_room.false
               ∙ ap (rechained_raised m.rechained (length m.pairs) m.capacity)
               (room.ensures.made c.if-not-make_room.false)) i;
+          made =
+              (pushed.ensures.keeps.made ∙ room.ensures.nodes c.if-not-make_room.false
+              ∙ ap (made_raised m.made m.capacity) (room.ensures.made c.if-not-make_room.false)) i;
           mode = (pushed.ensures.keeps.mode ∙ room.ensures.settings.mode) i;
         },
       )),
@@ -48,6 +52,7 @@ returns g c =
         absent = tt;
         full = tt;
         valid = room.ensures.valid;
+        to_visit = λ v. to_visit-pushed g.K.PartialEq.eq m key v room.ensures.valid;
         updates = λ v. Updates-set_or_push g.met.K.Eq.laws _ _ _ v
             (sym (set_or_push-absent g.K.PartialEq.eq m.pairs key v c.args.self.absent));
       },

@@ -7,4 +7,4 @@ pub invariant_of-self : goal.invariant_of-self
 invariant_of-self g c = IsKept-none refl c.self.invariant.limit
 
 pub returns-clause-stays_valid : goal.returns-clause-stays_valid
-returns-clause-stays_valid g c = IsValid-kept [] (invariant_of-self g c) refl refl
+returns-clause-stays_valid g c = IsValid-kept [] (invariant_of-self g c) refl refl refl

@@ -1,4 +1,4 @@
-use Rattle.std.proofs.Common.{ap, ◌∙◌}
+use Rattle.std.proofs.Common.{rules, ap, ◌∙◌}
 use Rattle.linked_hash_map.specs.Pairs.{find}
 use Rattle.linked_hash_map.proofs.pairs.ExtendSteps.{IsExtended-none, IsExtended-put, find-IsExtended_absent, room-IsExtended}
 use Rattle.linked_hash_map.proofs.pairs.ExtendSteps.{InsertsUntil-IsExtended}
@@ -8,20 +8,24 @@ pub loop-key-preserved : goal.loop-key-preserved
 loop-key-preserved g c =
     let put = c.in-Ok.ensures in
     IsExtended-put g.met.K.Eq.laws c.len-len.ensures.valid.distinct c.loop-key.invariant
-    c.in-Some.ensures.goes put.pairs put.capacity put.rechained put.settings put.stays_valid
+    c.in-Some.ensures.goes put.pairs put.capacity put.rechained put.made put.settings put.stays_valid
+    c.in-Ok._old put.old put.ends_visit put.to_visit put.as_many put.more
 
 pub loop-key-init : goal.loop-key-init
 loop-key-init g c =
     IsExtended-none g.met.K.Eq.laws c.len-len.ensures.valid
     (c.requires.ends _ c.into_iter-key-iterator.ensures.into_iter_gives).1
 
-pub returns-in-Err-clause-stopped : goal.returns-in-Err-clause-stopped
-returns-in-Err-clause-stopped g c =
+pub returns-in-Err-clause-visit_stopped : goal.returns-in-Err-clause-visit_stopped
+returns-in-Err-clause-visit_stopped g c =
     let refused = c.in-Err.ensures in
     InsertsUntil-IsExtended g.met.K.Eq.laws c.len-len.ensures.valid.distinct c.loop-key.invariant
     c.in-Some.ensures.goes c.into_iter-key-iterator.ensures.into_iter_gives
     (c.loop-key.key-iterator, c.loop-key.yielded_by, c.in-Some.ensures.steps) refused.unchanged
     refused.key_back refused.value_back
+
+pub returns-in-Err-clause-stopped : goal.returns-in-Err-clause-stopped
+returns-in-Err-clause-stopped g c = (returns-in-Err-clause-visit_stopped g c).0
 
 pub returns-in-Err-clause-new_key : goal.returns-in-Err-clause-new_key
 returns-in-Err-clause-new_key g c =
@@ -35,3 +39,9 @@ returns-in-Err-clause-succeeds g c = λ n most fits.
     absurd (room-IsExtended g.met.K.Eq.laws c.len-len.ensures.valid.distinct c.loop-key.invariant
     c.in-Some.ensures.goes n (most _ c.into_iter-key-iterator.ensures.into_iter_gives).1
     c.in-Err.ensures.full fits)
+
+pub returns-clause-to_visit : goal.returns-clause-to_visit
+returns-clause-to_visit g c = (
+  record { given = c.loop-key.yielded; gives = search rules; pairs = c.loop-key.invariant.inserted.pairs },
+  c.loop-key.invariant.visit,
+)

@@ -2,7 +2,7 @@ use Rattle.std.proofs.Common.{[], ap}
 use Rattle.lhm_ring.proofs.rings.Ends.{First-first_at, first_held}
 use Rattle.linked_hash_map.proofs.nodes.FirstAndLast.{Some-first}
 use Rattle.linked_hash_map.proofs.map.LinkedHashMap.front.Goals as goal
-use Rattle.lhm_ring.specs.Pointer.{pointer_of, pointer_of_some}
+use Rattle.lhm_ring.specs.Pointer.{pointer_of_some}
 
 pub key-requires : goal.key-requires
 key-requires g c =

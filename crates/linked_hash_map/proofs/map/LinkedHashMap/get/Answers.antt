@@ -1,7 +1,5 @@
-use Rattle.std.proofs.Common.{Some, sym, ap, ◌∙◌}
-use Rattle.linked_hash_map.proofs.pairs.Indexes.{value_at-index}
-use Rattle.linked_hash_map.proofs.nodes.FoundKeys.{IsIndex-HasKey}
-use Rattle.linked_hash_map.proofs.nodes.CutNodes.{slice_get-held}
+use Rattle.std.proofs.Common.{Some, option_map, sym, ap, ◌∙◌}
+use Rattle.linked_hash_map.proofs.nodes.StoredKeys.{find-stored}
 use Rattle.linked_hash_map.proofs.nodes.Kept.{distinct_keys}
 use Rattle.linked_hash_map.proofs.nodes.AbsentKeys.{hash_by-respects, value_at-IsAbsent}
 use Rattle.linked_hash_map.proofs.map.LinkedHashMap.get.Goals as goal
@@ -11,7 +9,8 @@ returns g c =
     let h = c.in_ok-at.ensures.found in
     rw (← c.self.view_is) (
     ap Some (c.value.ensures h.held.before h.held.node h.held.after h.held.is h.held.at_is)
-    ∙ value_at-index g.met.K.Eq.laws (distinct_keys c.self.inside.table.held c.self.invariant) (IsIndex-HasKey h) (slice_get-held h.held)
+    ∙ sym (ap (option_map (λ pair. pair.1)) (find-stored g.met.K.Eq.laws (g.met.Q.Equivalent.respects_eq c.args.key) h
+    (distinct_keys c.self.inside.table.held c.self.invariant)))
     )
 
 pub returns-in_err-at : goal.returns-in_err-at
@@ -19,6 +18,6 @@ returns-in_err-at g c =
     let m = c.self.inside in
     rw (c.from_residual.ensures, ← c.self.view_is)
     (sym (value_at-IsAbsent (hash_by-respects g.S.Hasher.Hasher.finish g.S.Hasher.Hasher.write
-    g.S.BuildHasher.build_hasher g.met.K.Hash.respects_eq) m.hasher
-    c.args.key.now c.hash_one-hash.ensures m.table.held c.self.invariant.hashed
+    g.S.BuildHasher.build_hasher g.met.Q.Equivalent.respects_hash) m.hasher
+    c.args.key c.hash_one-hash.ensures m.table.held c.self.invariant.hashed
     c.in_err-at.ensures.absent))

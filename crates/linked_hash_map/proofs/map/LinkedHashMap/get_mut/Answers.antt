@@ -1,12 +1,11 @@
-use Rattle.std.proofs.Common.{Some, refl, inl, ap, sym, ◌∙◌}
+use Rattle.std.proofs.Common.{Some, option_map, refl, inl, ap, sym, ◌∙◌}
 use Rattle.linked_hash_map.specs.Nodes.{beside}
-use Rattle.linked_hash_map.proofs.Callers.Updates.{Updates-set_value}
+use Rattle.linked_hash_map.proofs.nodes.StoredKeys.{find-stored, set_value-stored, UpdatesBy-set_value}
+use Rattle.linked_hash_map.proofs.pairs.Written.{IsValid-set_value}
 use Rattle.linked_hash_map.proofs.lists.Options.{of-Some, of-None}
 use Rattle.linked_hash_map.proofs.nodes.HeldPairs.{bare-change}
-use Rattle.linked_hash_map.proofs.nodes.FoundKeys.{IsIndex-HasKey}
-use Rattle.linked_hash_map.proofs.nodes.CutNodes.{slice_get-held, pairs_of-change_at}
+use Rattle.linked_hash_map.proofs.nodes.CutNodes.{pairs_of-change_at}
 use Rattle.linked_hash_map.proofs.nodes.Kept.{IsKept-same, distinct_keys, IsValid-view, map_of-revalued}
-use Rattle.linked_hash_map.proofs.pairs.Indexes.{value_at-index, set_value-index, is_some-index}
 use Rattle.linked_hash_map.proofs.nodes.AbsentKeys.{hash_by-respects, value_at-IsAbsent}
 use Rattle.linked_hash_map.proofs.map.LinkedHashMap.get_mut.Goals as goal
 use Rattle.lhm_ring.specs.Pointer.{pointer_of}
@@ -19,20 +18,23 @@ pub returns-in-Some : goal.returns-in-Some
 returns-in-Some g c =
     let m = c.self.inside in let at = pointer_of c.in-Some.at in
     let h = of-Some _ c.in-Some.is c.position.ensures.found in
-    let distinct = distinct_keys c.self.inside.table.held c.self.invariant in
+    let laws = g.met.K.Eq.laws in let respects = g.met.Q.Equivalent.respects_eq c.args.key in
+    let distinct = distinct_keys m.table.held c.self.invariant in
+    let valid = IsValid-view m refl c.self.invariant in
     rw (← c.self.view_is) (
       (λ i. inl (
         c.value_mut.result.ghost_name,
         λ w. map_of-revalued m.table (change_at at (revalued w) m.table.held) (beside m) (bare-change at w m.table.held)
-            (pairs_of-change_at h.held c.value_mut.ensures.alone w ∙ sym (set_value-index g.met.K.Eq.laws distinct (IsIndex-HasKey h) w)) i,
+            (pairs_of-change_at h.held c.value_mut.ensures.alone w ∙ sym (set_value-stored laws respects h distinct w)) i,
       )),
       record {
         writes_back = tt;
         value = ap Some (c.value_mut.ensures.value h.held.before h.held.node h.held.after h.held.is
             h.held.at_is)
-            ∙ value_at-index g.met.K.Eq.laws distinct (IsIndex-HasKey h) (slice_get-held h.held);
-        valid = IsValid-view c.self.inside refl c.self.invariant;
-        updates = λ v. Updates-set_value g.met.K.Eq.laws _ _ _ (is_some-index g.met.K.Eq.laws distinct (IsIndex-HasKey h)) v refl;
+            ∙ sym (ap (option_map (λ pair. pair.1)) (find-stored laws respects h distinct));
+        valid = valid;
+        updates = UpdatesBy-set_value laws respects h distinct;
+        stays_valid = IsValid-set_value valid (g.Q.Equivalent.equivalent c.args.key);
       },
     )
 
@@ -45,10 +47,11 @@ returns-in-None g c =
         writes_back = tt;
         value =
             sym (value_at-IsAbsent (hash_by-respects g.S.Hasher.Hasher.finish
-            g.S.Hasher.Hasher.write g.S.BuildHasher.build_hasher g.met.K.Hash.respects_eq) m.hasher
-            c.args.key.now c.hash_one-hash.ensures m.table.held c.self.invariant.hashed
+            g.S.Hasher.Hasher.write g.S.BuildHasher.build_hasher g.met.Q.Equivalent.respects_hash) m.hasher
+            c.args.key c.hash_one-hash.ensures m.table.held c.self.invariant.hashed
             (of-None c.in-None.is c.position.ensures.absent));
-        valid = IsValid-view c.self.inside refl c.self.invariant;
+        valid = IsValid-view m refl c.self.invariant;
         updates = λ v. tt;
+        stays_valid = IsValid-set_value (IsValid-view m refl c.self.invariant) (g.Q.Equivalent.equivalent c.args.key);
       },
     )

@@ -1,7 +1,8 @@
-use Rattle.std.proofs.Common.{refl, inl, sym}
+use Rattle.std.proofs.Common.{Bool, option_map, refl, inl, ap, sym, ◌∙◌}
 use Rattle.linked_hash_map.specs.declared.map.Mode.TheVariants.{Touch}
-use Rattle.linked_hash_map.specs.Nodes.{map_of, beside, no_visit}
-use Rattle.linked_hash_map.proofs.Callers.Updates.{Updates-put}
+use Rattle.std.specs.Map.{lookup_entry}
+use Rattle.linked_hash_map.specs.Nodes.{map_of, beside, no_visit, pairs_of}
+use Rattle.linked_hash_map.proofs.nodes.StoredKeys.{eq-stored, HasKey-stored, to_back_by-stored, UpdatesBy-to_back_by, last-to_back_by, length-to_back_by, IsValid-refreshed}
 use Rattle.linked_hash_map.proofs.lists.Options.{of-Some, of-None}
 use Rattle.linked_hash_map.proofs.nodes.Kept.{distinct_keys, IsValid-view}
 use Rattle.linked_hash_map.proofs.nodes.FoundKeys.{before-HasKey, IsIndex-before}
@@ -32,25 +33,34 @@ pub returns-in-Some : goal.returns-in-Some
 returns-in-Some g c =
     let m = c.self.inside in let moved = c.move_to_back.ensures in
     let has = of-Some _ c.in-Some.is c.position.ensures.found in
-    let distinct = distinct_keys c.self.inside.table.held c.self.invariant in
+    let laws = g.met.K.Eq.laws in let respects = g.met.Q.Equivalent.respects_eq c.args.key in
+    let distinct = distinct_keys m.table.held c.self.invariant in
+    let valid = IsValid-view m refl c.self.invariant in
+    let as_key = g.Q.Equivalent.as_key c.args.key in
+    let index = IsIndex-before (HasKey-stored laws respects has) in
     let at : IsTouchedAt (pointer_of c.in-Some.at) Touch m.table.held c.move_to_back.new.self.held =
     record { lies = before-HasKey has; touched = (moved.last, moved.apart) } in
     rw (← c.self.view_is) (
       (λ i. inl (
         c.value_mut.result.ghost_name,
         λ w. record (map_of m.table (record (beside m) { visit = no_visit })) {
-          pairs = pairs-put g.met.K.Eq.laws (IsIndex-before has) distinct at
-              c.value_mut.ensures.alone w i;
+          pairs = (pairs-put laws index distinct at c.value_mut.ensures.alone w
+              ∙ sym (to_back_by-stored laws respects has distinct as_key w)) i;
           capacity = moved.keeps.capacity i;
           rechained = moved.keeps.rechained i;
+          made = moved.keeps.made i;
         },
       )),
       record {
         writes_back = tt;
-        value = value_at-touched g.met.K.Eq.laws (IsIndex-before has) distinct at
-            c.value_mut.ensures.value;
-        valid = IsValid-view c.self.inside refl c.self.invariant;
-        updates = λ v. Updates-put g.met.K.Eq.laws Touch _ _ _ v refl;
+        value = value_at-touched laws index distinct at c.value_mut.ensures.value
+            ∙ ap (λ (test : g.row.K.Denot → Bool). option_map (λ pair. pair.1)
+            (lookup_entry test (pairs_of m.table.held))) (eq-stored laws respects has);
+        valid = valid;
+        updates = UpdatesBy-to_back_by laws respects has distinct as_key;
+        back = last-to_back_by laws respects has distinct as_key;
+        as_many = length-to_back_by laws respects has distinct as_key;
+        stays_valid = λ v. IsValid-refreshed laws respects has distinct as_key v valid refl;
       },
     )
 
@@ -63,10 +73,13 @@ returns-in-None g c =
         writes_back = tt;
         value =
             sym (value_at-IsAbsent (hash_by-respects g.S.Hasher.Hasher.finish
-            g.S.Hasher.Hasher.write g.S.BuildHasher.build_hasher g.met.K.Hash.respects_eq) m.hasher
-            c.args.key.now c.hash_one-hash.ensures m.table.held c.self.invariant.hashed
+            g.S.Hasher.Hasher.write g.S.BuildHasher.build_hasher g.met.Q.Equivalent.respects_hash) m.hasher
+            c.args.key c.hash_one-hash.ensures m.table.held c.self.invariant.hashed
             (of-None c.in-None.is c.position.ensures.absent));
         valid = IsValid-view c.self.inside refl c.self.invariant;
-        updates = λ v. Updates-put g.met.K.Eq.laws Touch _ _ _ v refl;
+        updates = λ v. tt;
+        back = λ v. tt;
+        as_many = λ v. tt;
+        stays_valid = λ v. tt;
       },
     )

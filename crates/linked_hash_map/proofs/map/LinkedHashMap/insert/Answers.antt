@@ -15,7 +15,7 @@ use Rattle.lhm_ring.specs.Search.{HasKey}
 
 -- a position that is found is that of the key
 has : (g : _) (c : goal.After-drop-key g)
-    → HasKey g.K.PartialEq.eq c.hash_one-hash.result c.args.key c.self.inside.table.held
+    → HasKey (g.K.PartialEq.eq c.args.key) c.hash_one-hash.result c.self.inside.table.held
     (pointer_of c.in-Some.at)
 has g c = of-Some _ c.in-Some.is c.position.ensures.found
 
@@ -71,7 +71,7 @@ pub returns-in-Some-clause-valid : goal.returns-in-Some-clause-valid
 returns-in-Some-clause-valid g c = IsValid-view c.self.inside c.self.view_is c.self.invariant
 
 pub returns-in-Some-clause-stays_valid : goal.returns-in-Some-clause-stays_valid
-returns-in-Some-clause-stays_valid g c = IsValid-kept _ (invariant_of-self g c) refl refl
+returns-in-Some-clause-stays_valid g c = IsValid-kept _ (invariant_of-self g c) refl refl refl
 
 pub returns-in-Some-clause-as_many : goal.returns-in-Some-clause-as_many
 returns-in-Some-clause-as_many g c = λ _. rw (← c.self.view_is) (length-put (moved g c) c.replace.new.dest)

@@ -78,4 +78,4 @@ returns-clause-outside g c = outside-put g.met.K.Eq.laws (moved g c) c.self.inva
     (elsewhere g c) c.replace.new.dest
 
 pub returns-clause-stays_valid : goal.returns-clause-stays_valid
-returns-clause-stays_valid g c = IsValid-kept _ (invariant_of-self g c) refl refl
+returns-clause-stays_valid g c = IsValid-kept _ (invariant_of-self g c) refl refl refl

@@ -10,4 +10,4 @@ invariant_of-result g c =
     rw (e.bookmark, e.unvisited, e.current) (IsKept-none (ap bare c.requires.empty) c.requires.limit)
 
 pub returns-clause-valid : goal.returns-clause-valid
-returns-clause-valid g c = IsValid-kept _ (invariant_of-result g c) refl refl
+returns-clause-valid g c = IsValid-kept _ (invariant_of-result g c) refl refl refl

@@ -48,7 +48,7 @@ pub returns-clause-valid : goal.returns-clause-valid
 returns-clause-valid g c = IsValid-view c.self.inside c.self.view_is c.self.invariant
 
 pub returns-clause-stays_valid : goal.returns-clause-stays_valid
-returns-clause-stays_valid g c = IsValid-kept _ (invariant_of-self g c) refl refl
+returns-clause-stays_valid g c = IsValid-kept _ (invariant_of-self g c) refl refl refl
 
 pub returns-clause-updates : goal.returns-clause-updates
 returns-clause-updates g c = Updates-take_but_last g.met.K.Eq.laws c.args.self.now.pairs

@@ -1,4 +1,4 @@
-use Rattle.std.proofs.Common.{remove, slice_get, Some, refl, sym, ap, ◌∙◌}
+use Rattle.std.proofs.Common.{remove, slice_get, refl, sym, ap, ◌∙◌}
 use Rattle.lhm_ring.proofs.rings.Ends.{First-first_at, first_held}
 use Rattle.linked_hash_map.specs.Nodes.{pairs_of}
 use Rattle.linked_hash_map.proofs.nodes.Kept.{IsValid-kept, IsValid-view}
@@ -42,7 +42,7 @@ pub returns-clause-valid : goal.returns-clause-valid
 returns-clause-valid g c = IsValid-view c.self.inside c.self.view_is c.self.invariant
 
 pub returns-clause-stays_valid : goal.returns-clause-stays_valid
-returns-clause-stays_valid g c = IsValid-kept _ (invariant_of-self g c) refl refl
+returns-clause-stays_valid g c = IsValid-kept _ (invariant_of-self g c) refl refl refl
 
 pub returns-clause-updates : goal.returns-clause-updates
 returns-clause-updates g c = Updates-drop_first g.met.K.Eq.laws c.args.self.now.pairs

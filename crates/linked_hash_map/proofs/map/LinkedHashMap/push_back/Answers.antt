@@ -54,4 +54,4 @@ returns-clause-to_visit g c =
     (to_visit-push c.self.inside.table.held u c.push_back.ensures.last c.self.invariant)
 
 pub returns-clause-stays_valid : goal.returns-clause-stays_valid
-returns-clause-stays_valid g c = IsValid-kept _ (invariant_of-self g c) refl refl
+returns-clause-stays_valid g c = IsValid-kept _ (invariant_of-self g c) refl refl refl

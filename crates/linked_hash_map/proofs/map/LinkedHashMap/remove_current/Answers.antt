@@ -52,4 +52,4 @@ returns-clause-to_visit g c =
     (lies g c) c.self.invariant (elsewhere g c))
 
 pub returns-clause-stays_valid : goal.returns-clause-stays_valid
-returns-clause-stays_valid g c = IsValid-kept _ (invariant_of-self g c) refl refl
+returns-clause-stays_valid g c = IsValid-kept _ (invariant_of-self g c) refl refl refl

@@ -32,4 +32,4 @@ returns-clause-len g c =
     (CalledAtPair g.F.FnMut) c.args.keep hs c.retain.new.self.held c.retain.ensures.retained))
 
 pub returns-clause-stays_valid : goal.returns-clause-stays_valid
-returns-clause-stays_valid g c = IsValid-kept _ (invariant_of-self g c) refl refl
+returns-clause-stays_valid g c = IsValid-kept _ (invariant_of-self g c) refl refl refl

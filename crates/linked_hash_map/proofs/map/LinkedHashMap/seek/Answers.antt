@@ -10,7 +10,7 @@ use Rattle.lhm_ring.specs.Search.{HasKey}
 
 -- a position that is found is that of the key
 has : (g : _) (c : goal.After-self-1 g)
-    → HasKey g.K.PartialEq.eq c.args.hash c.args.key.now c.self.inside.table.held
+    → HasKey (g.K.PartialEq.eq c.args.key.now) c.args.hash c.self.inside.table.held
     (pointer_of c.in-Some.at)
 has g c = of-Some _ c.in-Some.is c.position.ensures.found
 

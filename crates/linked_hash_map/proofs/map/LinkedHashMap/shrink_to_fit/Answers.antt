@@ -26,4 +26,4 @@ returns-in-Ok-clause-to_visit g c =
     (c.behind-behind.result, (c.behind-behind.ensures, moved.ensures.bookmark)) moved.ensures.unvisited)
 
 pub returns-in-Ok-clause-stays_valid : goal.returns-in-Ok-clause-stays_valid
-returns-in-Ok-clause-stays_valid g c = IsValid-kept _ (invariant_of-self g c) refl refl
+returns-in-Ok-clause-stays_valid g c = IsValid-kept _ (invariant_of-self g c) refl refl refl

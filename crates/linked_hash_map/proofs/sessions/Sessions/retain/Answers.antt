@@ -1,18 +1,22 @@
-use Rattle.std.proofs.Common.{rules, ◌∙◌, arith}
+use Rattle.std.proofs.Common.{rules, sym, ◌∙◌, subst, arith}
 use Rattle.std.specs.Borrow.{MutBor}
-use denote.Param.Always.{always_mut}
+use Rattle.linked_hash_map.specs.SessionTables.{Session}
+use Rattle.linked_hash_map.specs.SessionRetains.{TakesSession, CallableOnEachSession}
 use Rattle.linked_hash_map.specs.SessionsKept.{sessions_of}
 use Rattle.linked_hash_map.proofs.session_table.Pairs.{IsValidTable-kept}
-use Rattle.linked_hash_map.proofs.session_table.Retained.{sessions-retained, lighter-retained, always-called, callable-ready}
+use Rattle.linked_hash_map.proofs.session_table.Retained.{sessions-retained, lighter-retained, callable-sessions}
 use Rattle.linked_hash_map.proofs.session_table.Retained.{weights-retained, total_weight-retained}
 use Rattle.linked_hash_map.proofs.sessions.Sessions.retain.Goals as goal
 
 pub retain-requires : goal.retain-requires
 retain-requires g c =
-    callable-ready _ (λ (s : record { 0 : MutBor g.row.F.Denot }). always_mut g.F.FnMut s.0.now)
-    (λ s id weighted b left s' call always. always-called g.F.FnMut s.0.now
-    (id, weighted.weight, weighted.payload) b left.payload s'.0.now (search rules) always)
-    _ (λ s id weighted always key value is_id is_weighted. always) _ _ c.requires
+    callable-sessions _ g.F.FnMut (λ (s : record { 0 : MutBor g.row.F.Denot }). s.0.now)
+    (λ s id weighted b left s' call. search rules) _
+    (λ s id weighted takes key value is_id is_weighted.
+    subst (λ (session : Session g.row.T.Denot). TakesSession g.F.FnMut s.0.now session)
+    (λ i. (sym is_id i, (sym is_weighted i).weight, (sym is_weighted i).payload)) takes) _
+    c.self.inside.map.pairs
+    (subst (λ table. CallableOnEachSession g.F.FnMut c.args.keep table.sessions) (sym c.self.view_is) c.requires)
 
 pub total_of-self-inside-requires : goal.total_of-self-inside-requires
 total_of-self-inside-requires g c =

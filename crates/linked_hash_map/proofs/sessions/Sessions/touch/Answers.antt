@@ -15,7 +15,7 @@ pub returns-in-Some : goal.returns-in-Some
 returns-in-Some g c =
     let m = c.self.inside in
     rw (← c.self.view_is) (
-      inl-same (λ payload. ap (λ sessions. session_table sessions m.limit)
+      inl-same (λ payload. ap (λ sessions. session_table sessions m.limit m.map.capacity)
           (sessions_of-refreshed m.map c.args.id (sym c.in-Some.ensures.value) payload)),
       record {
         writes_back = tt;

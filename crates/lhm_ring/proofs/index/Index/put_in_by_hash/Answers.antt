@@ -1,0 +1,22 @@
+use Rattle.std.proofs.Common.{◌≡◌, ℕ, ◌%◌, ◌++◌, ◌∷◌, sym, ap, subst, ◌∙◌, length, get_or, set, Some, None}
+use Rattle.lhm_ring.proofs.indexes.IndexPuts.{Indexes-put_first}
+use Rattle.lhm_ring.proofs.index.Index.put_in_by_hash.Goals as goal
+use Rattle.lhm_ring.specs.Buckets.{SetsBit}
+use Rattle.lhm_ring.specs.Pointer.{pointer_of, target}
+use Rattle.lhm_ring.specs.Ring.{linked_to}
+
+pub returns-clause-first : goal.returns-clause-first
+returns-clause-first g c = λ before x after e at.
+    let heads = c.args.self.now.heads in
+    let own = c.requires.hash before x after e at in
+    let bucket = c.bucket_of-bucket.ensures.of_hash ∙ ap (λ h. h % length heads) own in
+    let head : target c.to.result ≡ Some x.at = c.to.ensures ∙ ap Some (sym at) in
+    record {
+      nodes_is = c.set_link.ensures.held before x after e at
+          ∙ ap (λ o. before ++ linked_to o x ∷ after) (c.put_first-behind.ensures.old ∙ ap (λ b. get_or heads b None) bucket);
+      heads_is = c.put_first-behind.ensures.heads ∙ (λ i. set heads (bucket i) (head i));
+      words_is = subst (λ (h : ℕ). SetsBit c.args.self.now.words c.put_first-behind.new.self.words h) own c.put_first-behind.ensures.words;
+    }
+
+pub returns-clause-indexed : goal.returns-clause-indexed
+returns-clause-indexed g c = λ lacks. Indexes-put_first (pointer_of c.args.at) _ _ _ _ (returns-clause-first g c) lacks c.requires.some

@@ -1,0 +1,106 @@
+-- The first of some nodes, moved behind the others.
+use Rattle.std.proofs.Common.{◌≡◌, ℕ, ◌+◌, ◌<◌, List, [], ◌∷◌, ◌++◌, length, take, drop, get_or, Option, Some, None, refl, sym, ap, ap₂, ◌∙◌, arith, append-nil, append_assoc}
+use Rattle.std.specs.Option.{IsSome}
+use Rattle.std.proofs.lemmas.List.{drop_more, take_more}
+use Rattle.std.proofs.Math.Seq.{take-length, drop-length}
+use denote.RawPtr.{Ptr}
+use Rattle.lhm_ring.specs.declared.pointer.Position.{Position}
+use Rattle.lhm_ring.proofs.lists.Options.{none_some, Some-injective}
+use Rattle.lhm_ring.specs.Pointer.{pointer_of, pointer_of_some}
+use Rattle.lhm_ring.specs.Ring.{Held, AtHeld, IsHeld, first_at, last_at, last_of}
+
+-- the first n behind the others
+abbrev pub rotated : {X : Type 0} → ℕ → List X → List X
+rotated n xs = drop n xs ++ take n xs
+
+pub rotated-none : {X : Type 0} (xs : List X) → xs ≡ rotated 0 xs
+rotated-none [] = refl
+rotated-none (x ∷ xs) = sym (append-nil (x ∷ xs))
+
+pub rotated-all : {X : Type 0} (xs : List X) → xs ≡ rotated (length xs) xs
+rotated-all xs = sym (ap₂ (λ ys zs. ys ++ zs) (drop-length xs) (take-length xs))
+
+-- one more, which is the first of all before and the last then
+record Turn {X : Type 0} (n : ℕ) (xs : List X) : Type 0 where
+  pub node : X
+  pub others : List X
+  pub first_is : rotated n xs ≡ node ∷ others
+  pub last_is : rotated (n + 1) xs ≡ others ++ node ∷ []
+
+turn : {X : Type 0} (n : ℕ) (xs : List X) → n < length xs → Turn n xs
+turn n [] h = absurd (omega (arith, h))
+turn n (x ∷ xs) h = record {
+  node = get_or (x ∷ xs) n x;
+  others = drop (n + 1) (x ∷ xs) ++ take n (x ∷ xs);
+  first_is = ap (λ ys. ys ++ take n (x ∷ xs)) (drop_more (x ∷ xs) n x h);
+  last_is = ap (λ ys. drop (n + 1) (x ∷ xs) ++ ys) (take_more (x ∷ xs) n x h)
+      ∙ sym (append_assoc (drop (n + 1) (x ∷ xs)) (take n (x ∷ xs)) (get_or (x ∷ xs) n x ∷ []));
+}
+
+last_of-push : {B : Type 0} (u : Held B) (hs : List (Held B)) (t : Held B) → last_of u (hs ++ t ∷ []) ≡ t.at
+last_of-push u [] t = refl
+last_of-push u (v ∷ hs) t = last_of-push v hs t
+
+last_at-push : {B : Type 0} (hs : List (Held B)) (t : Held B) → last_at (hs ++ t ∷ []) ≡ Some t.at
+last_at-push [] t = refl
+last_at-push (u ∷ hs) t = ap Some (last_of-push u hs t)
+
+IsSome-pointer : {K V : Type 0} (o : Option (Position K V)) {p : Ptr} → pointer_of_some o ≡ Some p → IsSome o
+IsSome-pointer None {p} e = absurd (none_some p e)
+IsSome-pointer (Some at) e = refl
+
+module _ {K V : Type 0} {n : ℕ} (xs : List (Held (K × V))) (below : n < length xs) {hs : List (Held (K × V))} where
+  -- the node at the front, with n of xs behind the others
+  module _ (is : hs ≡ rotated n xs) (o : Option (Position K V)) (front : pointer_of_some o ≡ first_at hs) where
+    at_front : pointer_of_some o ≡ Some (turn n xs below).node.at
+    at_front = front ∙ ap first_at (is ∙ (turn n xs below).first_is)
+
+    pub IsSome-front : IsSome o
+    IsSome-front = IsSome-pointer o at_front
+
+    module _ {at : Position K V} (found : o ≡ Some at) where
+      front_is : (turn n xs below).node.at ≡ pointer_of at
+      front_is = Some-injective _ _ (sym at_front ∙ ap pointer_of_some found)
+
+      pub front_held : IsHeld hs (pointer_of at)
+      front_held = record {
+        before = [];
+        node = (turn n xs below).node;
+        after = (turn n xs below).others;
+        is = is ∙ (turn n xs below).first_is;
+        at_is = front_is;
+      }
+
+      -- it goes to the back
+      pub rotated-more : {ks : List (Held (K × V))}
+          → AtHeld hs (pointer_of at) (λ xs t ys. ks ≡ (xs ++ ys) ++ t ∷ []) → ks ≡ rotated (n + 1) xs
+      rotated-more moved = let t = turn n xs below in
+          moved [] t.node t.others (is ∙ t.first_is) front_is ∙ sym t.last_is
+
+  -- the node at the back, with one more of xs behind the others
+  module _ (is : hs ≡ rotated (n + 1) xs) (o : Option (Position K V)) (back : pointer_of_some o ≡ last_at hs) where
+    at_back : pointer_of_some o ≡ Some (turn n xs below).node.at
+    at_back = let t = turn n xs below in back ∙ ap last_at (is ∙ t.last_is) ∙ last_at-push t.others t.node
+
+    pub IsSome-back : IsSome o
+    IsSome-back = IsSome-pointer o at_back
+
+    module _ {at : Position K V} (found : o ≡ Some at) where
+      back_is : (turn n xs below).node.at ≡ pointer_of at
+      back_is = Some-injective _ _ (sym at_back ∙ ap pointer_of_some found)
+
+      pub back_held : IsHeld hs (pointer_of at)
+      back_held = record {
+        before = (turn n xs below).others;
+        node = (turn n xs below).node;
+        after = [];
+        is = is ∙ (turn n xs below).last_is;
+        at_is = back_is;
+      }
+
+      -- it goes to the front
+      pub rotated-fewer : {ks : List (Held (K × V))}
+          → AtHeld hs (pointer_of at) (λ xs t ys. ks ≡ t ∷ (xs ++ ys)) → ks ≡ rotated n xs
+      rotated-fewer moved = let t = turn n xs below in
+          moved t.others t.node [] (is ∙ t.last_is) back_is
+          ∙ ap (λ ys. t.node ∷ ys) (append-nil t.others) ∙ sym t.first_is

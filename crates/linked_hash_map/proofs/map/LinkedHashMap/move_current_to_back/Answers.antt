@@ -1,0 +1,69 @@
+use Rattle.std.proofs.Common.{◌≡◌, Some, slice_get, refl, sym, ap, ◌∙◌, subst}
+use Rattle.linked_hash_map.specs.declared.map.Mode.TheVariants.{Touch}
+use Rattle.linked_hash_map.specs.Nodes.{pairs_of, bare, before, visit_of, current_of}
+use Rattle.linked_hash_map.specs.Indexes.{IsIndex}
+use Rattle.linked_hash_map.proofs.pairs.Indexes.{to_back_as_is-index}
+use Rattle.linked_hash_map.proofs.nodes.HeldPairs.{length-pairs_of}
+use Rattle.linked_hash_map.proofs.nodes.Kept.{distinct_keys, IsValid-kept}
+use Rattle.linked_hash_map.proofs.nodes.Current.{current_of-Some, current_at-Some, before-current, CutAt-current, IsElsewhere-current}
+use Rattle.linked_hash_map.proofs.nodes.MovedNode.{pairs-moved, length-to_back}
+use Rattle.linked_hash_map.proofs.nodes.Outside.{IsElsewhere}
+use Rattle.linked_hash_map.proofs.nodes.PutPair.{IsTouchedAt, slice_get-touched, IsKept-touched, to_visit-touched, elsewhere-touched}
+use Rattle.linked_hash_map.proofs.map.LinkedHashMap.move_current_to_back.Goals as goal
+use Rattle.lhm_ring.specs.Pointer.{pointer_of}
+
+pub move_to_back-requires : goal.move_to_back-requires
+move_to_back-requires g c = (CutAt-current c.self.inside.table.held c.self.invariant c.current.ensures c.unwrap-at.ensures).held
+
+-- the current pair's node, which is none of those to visit
+is : (g : _) (c : goal.After-move_to_back g) → current_of c.self.inside.visit ≡ Some (pointer_of c.unwrap-at.result)
+is g c = current_of-Some c.current.ensures c.unwrap-at.ensures
+
+moved : (g : _) (c : goal.After-move_to_back g) → IsTouchedAt (pointer_of c.unwrap-at.result)
+    Touch c.self.inside.table.held c.move_to_back.new.self.held
+moved g c = record {
+  lies = before-current c.self.inside.table.held c.self.invariant (is g c);
+  touched = (c.move_to_back.ensures.last, c.move_to_back.ensures.apart);
+}
+
+elsewhere : (g : _) (c : goal.After-move_to_back g)
+    → IsElsewhere (before (pointer_of c.unwrap-at.result) c.self.inside.table.held)
+    (visit_of c.self.inside.visit) (bare c.self.inside.table.held)
+elsewhere g c = IsElsewhere-current c.self.inside.table.held c.self.invariant (is g c) c.args.self.now
+    (ap (λ m. m.cursor) c.self.view_is) c.requires.outside
+
+pub invariant_of-self : goal.invariant_of-self
+invariant_of-self g c = IsKept-touched g.met.K.Eq.laws c.self.inside.table.held c.move_to_back.new.self.held
+    c.self.invariant (is g c) (elsewhere g c) Touch (moved g c).touched c.move_to_back.ensures.keeps.capacity
+
+pub returns-clause-pairs : goal.returns-clause-pairs
+returns-clause-pairs g c =
+    let hs = c.self.inside.table.held in
+    rw (← c.self.view_is) (λ key index.
+    let here = subst (IsIndex g.K.PartialEq.eq (pairs_of hs) key) (current_at-Some (is g c) hs) index in
+    pairs-moved hs c.move_to_back.new.self.held c.move_to_back.ensures.last (moved g c).lies here.pair here.there
+    ∙ sym (to_back_as_is-index g.met.K.Eq.laws (distinct_keys hs c.self.invariant) here here.there))
+
+pub returns-clause-pair : goal.returns-clause-pair
+returns-clause-pair g c =
+    let hs = c.self.inside.table.held in let ks = c.move_to_back.new.self.held in
+    rw (← c.self.view_is) (λ pair there. ap (slice_get (pairs_of ks)) (current_at-Some (is g c) ks)
+    ∙ slice_get-touched (moved g c) pair (ap (slice_get (pairs_of hs)) (sym (current_at-Some (is g c) hs)) ∙ there))
+
+pub returns-clause-len : goal.returns-clause-len
+returns-clause-len g c =
+    let hs = c.self.inside.table.held in let ks = c.move_to_back.new.self.held in
+    rw (← c.self.view_is) (length-pairs_of ks ∙ length-to_back hs ks c.move_to_back.ensures.last (moved g c).lies ∙ sym (length-pairs_of hs))
+
+pub returns-clause-to_visit : goal.returns-clause-to_visit
+returns-clause-to_visit g c = rw (← c.self.view_is) (to_visit-touched g.met.K.Eq.laws c.self.inside.table.held
+    c.move_to_back.new.self.held c.self.invariant (is g c) (elsewhere g c) Touch (moved g c).touched)
+
+pub returns-clause-outside : goal.returns-clause-outside
+returns-clause-outside g c =
+    let ks = c.move_to_back.new.self.held in
+    subst (λ k. IsElsewhere k (visit_of c.self.inside.visit) (bare ks)) (sym (current_at-Some (is g c) ks))
+    (elsewhere-touched g.met.K.Eq.laws c.self.inside.table.held ks c.self.invariant (is g c) (elsewhere g c) Touch (moved g c).touched)
+
+pub returns-clause-stays_valid : goal.returns-clause-stays_valid
+returns-clause-stays_valid g c = IsValid-kept _ (invariant_of-self g c) refl refl refl

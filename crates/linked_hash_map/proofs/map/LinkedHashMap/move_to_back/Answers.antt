@@ -1,0 +1,79 @@
+use Rattle.std.proofs.Common.{◌≡◌, ◌++◌, Bool, filter, not, option_to_list, is_some, refl, sym, ap, ◌∙◌}
+use Rattle.std.specs.Map.{lookup_entry}
+use Rattle.linked_hash_map.specs.Nodes.{pairs_of}
+use Rattle.linked_hash_map.specs.Pairs.{find, to_back_as_is}
+use Rattle.linked_hash_map.proofs.Callers.Moves.{find-to_back_as_is, to_back_as_is-absent}
+use Rattle.linked_hash_map.proofs.lists.Options.{of-Some, of-None}
+use Rattle.linked_hash_map.proofs.nodes.AbsentKeys.{hash_by-respects, find-IsAbsent}
+use Rattle.linked_hash_map.proofs.nodes.FoundKeys.{before-HasKey, IsIndex-before}
+use Rattle.linked_hash_map.proofs.nodes.HeldPairs.{length-pairs_of}
+use Rattle.linked_hash_map.proofs.nodes.Kept.{distinct_keys, IsValid-kept}
+use Rattle.linked_hash_map.proofs.nodes.MovedNode.{pairs-moved, length-to_back, IsKept-back}
+use Rattle.linked_hash_map.proofs.nodes.StoredKeys.{eq-stored, HasKey-stored, find-stored}
+use Rattle.linked_hash_map.proofs.pairs.Indexes.{to_back_as_is-index}
+use Rattle.linked_hash_map.proofs.map.LinkedHashMap.move_to_back.Goals as goal
+use Rattle.lhm_ring.specs.Pointer.{pointer_of}
+use Rattle.lhm_ring.specs.Search.{HasKey}
+
+-- a position that is found is that of the key
+has : (g : _) (c : goal.After-move_to_back g)
+    → HasKey (g.Q.Equivalent.equivalent c.args.key) c.hash_one-hash.result c.self.inside.table.held
+    (pointer_of c.in-Some.at)
+has g c = of-Some _ c.in-Some.is c.position.ensures.found
+
+-- the pair of the stored key is moved
+moved : (g : _) (c : goal.After-move_to_back g) → pairs_of c.move_to_back.new.self.held
+    ≡ to_back_as_is g.K.PartialEq.eq (pairs_of c.self.inside.table.held) (has g c).held.node.pair.0
+moved g c =
+    let laws = g.met.K.Eq.laws in let hs = c.self.inside.table.held in
+    let index = IsIndex-before (HasKey-stored laws (g.met.Q.Equivalent.respects_eq c.args.key) (has g c)) in
+    pairs-moved hs c.move_to_back.new.self.held c.move_to_back.ensures.last (before-HasKey (has g c)) index.pair index.there
+    ∙ sym (to_back_as_is-index laws (distinct_keys hs c.self.invariant) index index.there)
+
+pub invariant_of-self : goal.invariant_of-self
+invariant_of-self g c = IsKept-back c.self.inside.table.held c.move_to_back.new.self.held
+    c.move_to_back.ensures.last (before-HasKey (has g c)) g.met.K.Eq.laws c.self.invariant
+    c.move_to_back.ensures.keeps.capacity
+
+pub returns-in-Some-clause-found : goal.returns-in-Some-clause-found
+returns-in-Some-clause-found g c =
+    rw (← c.self.view_is) (sym (ap is_some (find-stored g.met.K.Eq.laws (g.met.Q.Equivalent.respects_eq c.args.key)
+    (has g c) (distinct_keys c.self.inside.table.held c.self.invariant))))
+
+pub returns-in-Some-clause-pairs : goal.returns-in-Some-clause-pairs
+returns-in-Some-clause-pairs g c =
+    let hs = c.self.inside.table.held in
+    rw (← c.self.view_is)
+    (moved g c ∙ ap (λ (test : g.row.K.Denot → Bool). filter (λ pair. not (test pair.0)) (pairs_of hs) ++ option_to_list (lookup_entry test (pairs_of hs)))
+    (eq-stored g.met.K.Eq.laws (g.met.Q.Equivalent.respects_eq c.args.key) (has g c)))
+
+pub returns-in-Some-clause-stays_valid : goal.returns-in-Some-clause-stays_valid
+returns-in-Some-clause-stays_valid g c = IsValid-kept _ (invariant_of-self g c) refl refl refl
+
+pub returns-in-Some-clause-len : goal.returns-in-Some-clause-len
+returns-in-Some-clause-len g c =
+    let hs = c.self.inside.table.held in let ks = c.move_to_back.new.self.held in
+    rw (← c.self.view_is)
+    (length-pairs_of ks ∙ length-to_back hs ks c.move_to_back.ensures.last (before-HasKey (has g c)) ∙ sym (length-pairs_of hs))
+
+pub returns-in-Some-clause-finds : goal.returns-in-Some-clause-finds
+returns-in-Some-clause-finds g c =
+    rw (← c.self.view_is) (λ q. ap (λ pairs. find g.K.PartialEq.eq pairs q) (moved g c)
+    ∙ find-to_back_as_is g.met.K.Eq.laws (pairs_of c.self.inside.table.held) (has g c).held.node.pair.0 q)
+
+pub returns-in-None-clause-found : goal.returns-in-None-clause-found
+returns-in-None-clause-found g c =
+    let m = c.self.inside in
+    rw (← c.self.view_is) (sym (ap is_some (find-IsAbsent (hash_by-respects g.S.Hasher.Hasher.finish
+    g.S.Hasher.Hasher.write g.S.BuildHasher.build_hasher g.met.Q.Equivalent.respects_hash) m.hasher
+    c.args.key c.hash_one-hash.ensures m.table.held c.self.invariant.hashed
+    (of-None c.in-None.is c.position.ensures.absent))))
+
+pub returns-in-None-clause-pairs : goal.returns-in-None-clause-pairs
+returns-in-None-clause-pairs g c =
+    let m = c.self.inside in
+    rw (← c.self.view_is) (sym (to_back_as_is-absent g.Q.Equivalent.equivalent (pairs_of m.table.held) c.args.key
+    (find-IsAbsent (hash_by-respects g.S.Hasher.Hasher.finish g.S.Hasher.Hasher.write
+    g.S.BuildHasher.build_hasher g.met.Q.Equivalent.respects_hash) m.hasher c.args.key
+    c.hash_one-hash.ensures m.table.held c.self.invariant.hashed
+    (of-None c.in-None.is c.position.ensures.absent))))

@@ -1,0 +1,90 @@
+use Rattle.std.proofs.Common.{◌≡◌, List, take, drop, Some, None, refl, sym, ap, ◌∙◌}
+use Rattle.std.specs.Map.{keys_of}
+use Rattle.linked_hash_map.specs.Nodes.{pairs_of, bare, bookmark_at, beside, bookmark_of, unvisited_of}
+use Rattle.linked_hash_map.specs.Pairs.{find}
+use Rattle.linked_hash_map.proofs.pairs.Calls.{filter-none}
+use Rattle.linked_hash_map.proofs.nodes.Kept.{distinct_keys, IsValid-kept}
+use Rattle.linked_hash_map.proofs.nodes.AbsentKeys.{hash_by-respects, find-IsAbsent}
+use Rattle.linked_hash_map.proofs.nodes.FoundKeys.{before-HasKey}
+use Rattle.linked_hash_map.proofs.nodes.StoredKeys.{find-stored, without-stored, UpdatesBy-without, length-without_stored, UpdatesBy-absent}
+use Rattle.linked_hash_map.proofs.nodes.TakenNode.{IsKept-removed}
+use Rattle.linked_hash_map.proofs.map.LinkedHashMap.remove_entry.Goals as goal
+use Rattle.lhm_ring.specs.Ring.{Held}
+use Rattle.lhm_ring.specs.Table.{TableState}
+
+-- a key that is not found is absent
+absent : (g : _) (c : goal.After-from_residual g) → find g.Q.Equivalent.equivalent c.args.self.now.pairs c.args.key ≡ None
+absent g c =
+    let m = c.self.inside in
+    rw (← c.self.view_is) (find-IsAbsent (hash_by-respects g.S.Hasher.Hasher.finish
+    g.S.Hasher.Hasher.write g.S.BuildHasher.build_hasher g.met.Q.Equivalent.respects_hash) m.hasher
+    c.args.key c.hash_one-hash.ensures m.table.held c.self.invariant.hashed c.in_err-pair.ensures.absent)
+
+pub returns-in_err-pair-clause-pair : goal.returns-in_err-pair-clause-pair
+returns-in_err-pair-clause-pair g c = c.from_residual.ensures ∙ sym (absent g c)
+
+-- and then no pair changes
+same : (g : _) (c : goal.After-from_residual g) → c.remove.new.self.held ≡ c.self.inside.table.held
+same g c = ap (λ (s : TableState _). s.held) c.in_err-pair.ensures.unchanged
+
+pub returns-in_err-pair-clause-pairs : goal.returns-in_err-pair-clause-pairs
+returns-in_err-pair-clause-pairs g c =
+    rw (← c.self.view_is) (ap pairs_of (same g c))
+    ∙ sym (filter-none (g.Q.Equivalent.equivalent c.args.key) c.args.self.now.pairs (absent g c))
+
+pub returns-in_err-pair-clause-to_visit : goal.returns-in_err-pair-clause-to_visit
+returns-in_err-pair-clause-to_visit g c =
+    let m = c.self.inside in
+    rw (c.from_residual.ensures, ← c.self.view_is)
+    (ap (λ (hs : List (Held _)). take (unvisited_of m.visit)
+    (drop (bookmark_at (bookmark_of m.visit) (bare hs)) (keys_of (pairs_of hs)))) (same g c))
+
+pub returns-in_err-pair-clause-updates : goal.returns-in_err-pair-clause-updates
+returns-in_err-pair-clause-updates g c =
+    UpdatesBy-absent (rw (← c.self.view_is) (ap pairs_of (same g c))) (absent g c)
+
+pub returns-in_err-pair-clause-same : goal.returns-in_err-pair-clause-same
+returns-in_err-pair-clause-same g c =
+    rw (c.from_residual.ensures, ← c.self.view_is) (ap pairs_of (same g c))
+
+pub invariant_of-self-2 : goal.invariant_of-self-2
+invariant_of-self-2 g c =
+    let removed = c.in_ok-pair.ensures.removed in
+    IsKept-removed c.self.inside.table.held c.remove.new.self.held removed.others
+    (before-HasKey removed.has) c.self.invariant c.in_ok-pair.ensures.keeps.capacity
+
+pub returns-clause-pair : goal.returns-clause-pair
+returns-clause-pair g c =
+    let m = c.self.inside in let removed = c.in_ok-pair.ensures.removed in let held = removed.has.held in
+    rw (← c.self.view_is) (
+    ap Some (removed.pair_is held.before held.node held.after held.is held.at_is)
+    ∙ sym (find-stored g.met.K.Eq.laws (g.met.Q.Equivalent.respects_eq c.args.key) removed.has
+    (distinct_keys m.table.held c.self.invariant))
+    )
+
+pub returns-clause-pairs : goal.returns-clause-pairs
+returns-clause-pairs g c =
+    let m = c.self.inside in let removed = c.in_ok-pair.ensures.removed in
+    rw (← c.self.view_is) (
+    without-stored g.met.K.Eq.laws (g.met.Q.Equivalent.respects_eq c.args.key) removed.has
+    (distinct_keys m.table.held c.self.invariant) removed.others
+    )
+
+pub returns-clause-updates : goal.returns-clause-updates
+returns-clause-updates g c =
+    let m = c.self.inside in let removed = c.in_ok-pair.ensures.removed in
+    rw (← c.self.view_is) (
+    UpdatesBy-without g.met.K.Eq.laws (g.met.Q.Equivalent.respects_eq c.args.key) removed.has
+    (distinct_keys m.table.held c.self.invariant) removed.others
+    )
+
+pub returns-clause-fewer : goal.returns-clause-fewer
+returns-clause-fewer g c =
+    let m = c.self.inside in let removed = c.in_ok-pair.ensures.removed in
+    rw (← c.self.view_is) (
+    length-without_stored g.met.K.Eq.laws (g.met.Q.Equivalent.respects_eq c.args.key) removed.has
+    (distinct_keys m.table.held c.self.invariant) removed.others
+    )
+
+pub returns-clause-stays_valid : goal.returns-clause-stays_valid
+returns-clause-stays_valid g c = IsValid-kept _ (invariant_of-self-2 g c) refl refl refl

@@ -1,0 +1,146 @@
+-- A key that a lookup finds: what looks it up finds what the stored key finds.
+use Rattle.std.proofs.Common.{◌≡◌, ℕ, ◌+◌, ◌-◌, Bool, cond, not, filter, map, List, [], ◌∷◌, ◌++◌, length, Option, Some, None}
+use Rattle.std.proofs.Common.{option_map, IsTrue, slice_get, length-append, refl, sym, ap, ap₂, ◌∙◌, subst, arith}
+use Rattle.std.specs.Cmp.{IsEquivalence}
+use Rattle.std.specs.List.{IsDistinct}
+use Rattle.std.specs.Map.{keys_of, lookup_entry}
+use denote.RawPtr.{Ptr}
+use Rattle.linked_hash_map.specs.declared.map.Mode.TheVariants.{Touch}
+use Rattle.linked_hash_map.specs.Cursor.{without_cursor}
+use Rattle.linked_hash_map.specs.Indexes.{IsIndex, set_value_at}
+use Rattle.linked_hash_map.specs.LinkedMap.{LinkedMap}
+use Rattle.linked_hash_map.specs.Nodes.{pairs_of}
+use Rattle.linked_hash_map.specs.Pairs.{key_or, with_value, value_at, without, to_back, last}
+use Rattle.linked_hash_map.specs.Updates.{UpdatesBy}
+use Rattle.linked_hash_map.specs.Validity.{IsValid}
+use Rattle.linked_hash_map.proofs.Callers.Keys.{length-to_back_present, length-without_present}
+use Rattle.linked_hash_map.proofs.Callers.Updates.{Updates-put, Updates-set_value, Updates-without}
+use Rattle.linked_hash_map.proofs.nodes.CutNodes.{slice_get-held}
+use Rattle.linked_hash_map.proofs.nodes.FoundKeys.{before-HasKey, IsIndex-before}
+use Rattle.linked_hash_map.proofs.nodes.TakenNode.{pairs-removed}
+use Rattle.linked_hash_map.proofs.pairs.Indexes.{find-index, without-index, set_value-index, is_some-index, slice_get-last}
+use Rattle.linked_hash_map.proofs.pairs.Inserts.{distinct-to_back}
+use Rattle.lhm_ring.specs.Ring.{Held, AtHeld}
+use Rattle.lhm_ring.specs.Search.{HasKey}
+
+with_value-found : {K V : Type 0} (as_key : Option K) (pair : K × V) (v : V)
+    → with_value as_key (Some pair) v ≡ (pair.0, v) ∷ []
+with_value-found None pair v = refl
+with_value-found (Some k) pair v = refl
+
+last-pushed : {X : Type 0} (xs : List X) (x : X) → last (xs ++ x ∷ []) ≡ Some x
+last-pushed xs x =
+    let long : length (xs ++ x ∷ []) - 1 ≡ length xs = omega (arith, length-append xs (x ∷ [])) in
+    ap (slice_get (xs ++ x ∷ [])) long ∙ slice_get-last xs x
+
+module _ {K V : Type 0} {eq : K → K → Bool} (laws : IsEquivalence eq) {is_key : K → Bool}
+    (respects : (x y : K) → IsTrue (is_key x) → is_key y ≡ eq x y) {hash : ℕ}
+    {hs : List (Held (K × V))} {p : Ptr} (h : HasKey is_key hash hs p) where
+  abbrev stored : K
+  stored = h.held.node.pair.0
+
+  -- it is the test that the stored key makes
+  pub eq-stored : eq stored ≡ is_key
+  eq-stored =
+      let at = h.held in
+      λ i y. sym (respects stored y (h.key_is at.before at.node at.after at.is at.at_is)) i
+
+  pub HasKey-stored : HasKey (eq stored) hash hs p
+  HasKey-stored = subst (λ (test : K → Bool). HasKey test hash hs p) (sym eq-stored) h
+
+  IsIndex-stored : IsIndex eq (pairs_of hs) stored (length h.held.before)
+  IsIndex-stored = record {
+    pair = h.held.node.pair;
+    there = slice_get-held h.held;
+    same = laws.refl stored;
+  }
+
+  module _ (distinct : IsDistinct eq (keys_of (pairs_of hs))) where
+    pub find-stored : lookup_entry is_key (pairs_of hs) ≡ Some h.held.node.pair
+    find-stored =
+        sym (ap (λ (test : K → Bool). lookup_entry test (pairs_of hs)) eq-stored)
+        ∙ find-index laws distinct IsIndex-stored (slice_get-held h.held)
+
+    -- without its pair
+    module _ {ws : List (Held (K × V))} (others : AtHeld hs p (λ xs x ys. ws ≡ xs ++ ys)) where
+      is_without : pairs_of ws ≡ without eq (pairs_of hs) stored
+      is_without = pairs-removed hs ws others (before-HasKey h)
+          ∙ sym (without-index laws distinct (IsIndex-before HasKey-stored))
+
+      pub without-stored : pairs_of ws ≡ filter (λ pair. not (is_key pair.0)) (pairs_of hs)
+      without-stored = is_without
+          ∙ ap (λ (test : K → Bool). filter (λ pair. not (test pair.0)) (pairs_of hs)) eq-stored
+
+      pub UpdatesBy-without : UpdatesBy eq (pairs_of hs) (pairs_of ws) is_key None
+      UpdatesBy-without =
+          subst (λ (test : K → Bool). UpdatesBy eq (pairs_of hs) (pairs_of ws) test None) eq-stored
+          (Updates-without laws (pairs_of hs) (pairs_of ws) stored is_without)
+
+      pub length-without_stored : length (pairs_of ws) + 1 ≡ length (pairs_of hs)
+      length-without_stored = ap (λ ps. length ps + 1) is_without
+          ∙ length-without_present laws (pairs_of hs) stored distinct (is_some-index laws distinct IsIndex-stored)
+
+    -- with a value written in its place
+    pub set_value-stored : (v : V) → map (λ pair. cond (is_key pair.0) (pair.0, v) pair) (pairs_of hs)
+        ≡ set_value_at (pairs_of hs) (length h.held.before) v
+    set_value-stored v =
+        sym (ap (λ (test : K → Bool). map (λ pair. cond (test pair.0) (pair.0, v) pair) (pairs_of hs)) eq-stored)
+        ∙ set_value-index laws distinct IsIndex-stored v
+
+    pub UpdatesBy-set_value : (v : V) → UpdatesBy eq (pairs_of hs)
+        (map (λ pair. cond (is_key pair.0) (pair.0, v) pair) (pairs_of hs)) is_key (Some v)
+    UpdatesBy-set_value v =
+        subst (λ (test : K → Bool). UpdatesBy eq (pairs_of hs)
+        (map (λ pair. cond (test pair.0) (pair.0, v) pair) (pairs_of hs)) test (Some v)) eq-stored
+        (Updates-set_value laws (pairs_of hs) _ stored (is_some-index laws distinct IsIndex-stored) v refl)
+
+    -- and with its pair at the back
+    module _ (as_key : Option K) (v : V) where
+      abbrev moved : List (K × V)
+      moved = filter (λ pair. not (is_key pair.0)) (pairs_of hs)
+          ++ with_value as_key (lookup_entry is_key (pairs_of hs)) v
+
+      moved-pushed : moved ≡ without eq (pairs_of hs) stored ++ (stored, v) ∷ []
+      moved-pushed =
+          sym (ap₂ (λ (test : K → Bool) found. filter (λ pair. not (test pair.0)) (pairs_of hs)
+          ++ with_value as_key found v) eq-stored (sym find-stored))
+          ∙ ap (λ ps. without eq (pairs_of hs) stored ++ ps) (with_value-found as_key h.held.node.pair v)
+
+      pub to_back_by-stored : moved ≡ to_back eq (pairs_of hs) stored v
+      to_back_by-stored = moved-pushed
+          ∙ ap (λ found. without eq (pairs_of hs) stored ++ (key_or stored found, v) ∷ [])
+          (sym (find-index laws distinct IsIndex-stored (slice_get-held h.held)))
+
+      pub UpdatesBy-to_back_by : UpdatesBy eq (pairs_of hs) moved is_key (Some v)
+      UpdatesBy-to_back_by =
+          subst (λ (test : K → Bool). UpdatesBy eq (pairs_of hs) moved test (Some v)) eq-stored
+          (Updates-put laws Touch (pairs_of hs) moved stored v to_back_by-stored)
+
+      pub last-to_back_by : last moved ≡ option_map (λ pair. (pair.0, v)) (lookup_entry is_key (pairs_of hs))
+      last-to_back_by = ap last moved-pushed ∙ last-pushed (without eq (pairs_of hs) stored) (stored, v)
+          ∙ sym (ap (option_map (λ pair. (pair.0, v))) find-stored)
+
+      pub length-to_back_by : length moved ≡ length (pairs_of hs)
+      length-to_back_by = ap length to_back_by-stored
+          ∙ length-to_back_present laws (pairs_of hs) stored v distinct (is_some-index laws distinct IsIndex-stored)
+
+      pub IsValid-refreshed : {S : Type 0} {m : LinkedMap K V S} → IsValid eq m
+          → m.pairs ≡ pairs_of hs → IsValid eq (record (without_cursor m) { pairs = moved })
+      IsValid-refreshed valid same =
+          let long = length-to_back_by in let before = ap length same in let within = valid.within in
+          record {
+            distinct = subst (λ ps. IsDistinct eq (keys_of ps)) (sym to_back_by-stored)
+                (distinct-to_back laws (pairs_of hs) stored v distinct);
+            within = omega arith;
+            limit = valid.limit;
+          }
+
+-- a call that finds no key and changes no pair
+pub UpdatesBy-absent : {K V : Type 0} {eq : K → K → Bool} {before after : List (K × V)}
+    {is_key : K → Bool} → after ≡ before → lookup_entry is_key before ≡ None
+    → UpdatesBy eq before after is_key None
+UpdatesBy-absent {eq = eq} {is_key = is_key} same absent = record {
+  here = ap (λ pairs. option_map (λ pair. pair.1) (lookup_entry is_key pairs)) same
+      ∙ ap (option_map (λ pair. pair.1)) absent;
+  others = λ q apart. ap (λ pairs. value_at eq pairs q) same;
+}

@@ -1,0 +1,78 @@
+-- The value of the first pair, or of the last, is set.
+use Rattle.std.proofs.Common.{◌≡◌, ℕ, ◌-◌, Bool, List, [], ◌∷◌, ◌++◌, length, take, slice_get, Option, Some, None, IfSome, option_to_list, option_map, refl, sym, ap, ◌∙◌, subst, arith}
+use Rattle.std.specs.List.{IsDistinct}
+use Rattle.std.specs.Map.{keys_of}
+use Rattle.std.specs.Cmp.{IsEquivalence}
+use Rattle.std.proofs.lemmas.List.{length-map}
+use Rattle.linked_hash_map.specs.Indexes.{IsIndex, set_value_at}
+use Rattle.linked_hash_map.specs.LinkedMap.{LinkedMap}
+use Rattle.linked_hash_map.specs.Pairs.{first, last, set_first, set_last}
+use Rattle.linked_hash_map.specs.Updates.{Updates}
+use Rattle.linked_hash_map.specs.Validity.{IsValid}
+use Rattle.linked_hash_map.proofs.Callers.Updates.{Updates-set_value}
+use Rattle.linked_hash_map.proofs.pairs.Indexes.{keys_of-set_value_at, set_value-index, is_some-index}
+
+module _ {K V : Type 0} where
+  pub set_value_at-first : (pairs : List (K × V)) (v : V) → set_value_at pairs 0 v ≡ set_first pairs v
+  set_value_at-first [] v = refl
+  set_value_at-first (pair ∷ pairs) v = refl
+
+  set_value_at-length : (pair : K × V) (pairs : List (K × V)) (v : V) → set_value_at (pair ∷ pairs) (length pairs) v
+      ≡ take (length pairs) (pair ∷ pairs) ++ option_to_list (option_map (λ p. (p.0, v)) (slice_get (pair ∷ pairs) (length pairs)))
+  set_value_at-length pair [] v = refl
+  set_value_at-length pair (next ∷ pairs) v = ap (λ ps. pair ∷ ps) (set_value_at-length next pairs v)
+
+  pub set_value_at-last : (pairs : List (K × V)) (v : V) → set_value_at pairs (length pairs - 1) v ≡ set_last pairs v
+  set_value_at-last [] v = refl
+  set_value_at-last (pair ∷ pairs) v =
+      subst (λ i. set_value_at (pair ∷ pairs) i v
+      ≡ take i (pair ∷ pairs) ++ option_to_list (option_map (λ p. (p.0, v)) (slice_get (pair ∷ pairs) i)))
+      (omega arith) (set_value_at-length pair pairs v)
+
+  keys_of-set_first : (pairs : List (K × V)) (v : V) → keys_of (set_first pairs v) ≡ keys_of pairs
+  keys_of-set_first pairs v = ap keys_of (sym (set_value_at-first pairs v)) ∙ keys_of-set_value_at pairs 0 v
+
+  keys_of-set_last : (pairs : List (K × V)) (v : V) → keys_of (set_last pairs v) ≡ keys_of pairs
+  keys_of-set_last pairs v = ap keys_of (sym (set_value_at-last pairs v)) ∙ keys_of-set_value_at pairs (length pairs - 1) v
+
+-- a map with other values is valid
+module _ {K V S : Type 0} {eq : K → K → Bool} {m : LinkedMap K V S} (valid : IsValid eq m) where
+  IsValid-keys : (pairs : List (K × V)) → keys_of pairs ≡ keys_of m.pairs → IsValid eq (record m { pairs = pairs })
+  IsValid-keys pairs same =
+      let long = ap length same in let of_new = length-map pairs (λ pair. pair.0) in
+      let of_old = length-map m.pairs (λ pair. pair.0) in
+      record {
+        distinct = subst (IsDistinct eq) (sym same) valid.distinct;
+        within = omega (arith, long, of_new, of_old, valid.within);
+        limit = valid.limit;
+      }
+
+  pub IsValid-set_first : (v : V) → IsValid eq (record m { pairs = set_first m.pairs v })
+  IsValid-set_first v = IsValid-keys (set_first m.pairs v) (keys_of-set_first m.pairs v)
+
+  pub IsValid-set_last : (v : V) → IsValid eq (record m { pairs = set_last m.pairs v })
+  IsValid-set_last v = IsValid-keys (set_last m.pairs v) (keys_of-set_last m.pairs v)
+
+-- its key has the value, and other keys have what they had
+module _ {K V : Type 0} {eq : K → K → Bool} (laws : IsEquivalence eq) (pairs : List (K × V))
+    (distinct : IsDistinct eq (keys_of pairs)) (v : V) where
+  Updates-at : (i : ℕ) (after : List (K × V)) (pair : K × V) → slice_get pairs i ≡ Some pair → set_value_at pairs i v ≡ after
+      → Updates eq pairs after pair.0 (Some v)
+  Updates-at i after pair there is =
+      let index : IsIndex eq pairs pair.0 i = record { pair = pair; there = there; same = laws.refl pair.0 } in
+      Updates-set_value laws pairs after pair.0 (is_some-index laws distinct index) v
+      (sym is ∙ sym (set_value-index laws distinct index v))
+
+  pub Updates-set_first : IfSome (first pairs) (λ pair. Updates eq pairs (set_first pairs v) pair.0 (Some v))
+  Updates-set_first = by_pair (first pairs) refl
+    where
+      by_pair : (o : Option (K × V)) → first pairs ≡ o → IfSome o (λ pair. Updates eq pairs (set_first pairs v) pair.0 (Some v))
+      by_pair None is = tt
+      by_pair (Some pair) is = Updates-at 0 (set_first pairs v) pair is (set_value_at-first pairs v)
+
+  pub Updates-set_last : IfSome (last pairs) (λ pair. Updates eq pairs (set_last pairs v) pair.0 (Some v))
+  Updates-set_last = by_pair (last pairs) refl
+    where
+      by_pair : (o : Option (K × V)) → last pairs ≡ o → IfSome o (λ pair. Updates eq pairs (set_last pairs v) pair.0 (Some v))
+      by_pair None is = tt
+      by_pair (Some pair) is = Updates-at (length pairs - 1) (set_last pairs v) pair is (set_value_at-last pairs v)

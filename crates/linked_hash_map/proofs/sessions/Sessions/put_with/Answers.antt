@@ -1,0 +1,144 @@
+use Rattle.std.proofs.Common.{◌+◌, ◌-◌, ◌≤◌, drop, length, sym, ap, ◌∙◌, subst, arith}
+use Rattle.std.specs.Prelude.{not, max}
+use Rattle.linked_hash_map.specs.Pairs.{last}
+use Rattle.linked_hash_map.specs.SessionHandOuts.{CallableWithEachSession, CalledWithEachSession}
+use Rattle.linked_hash_map.specs.SessionTables.{payload_of, total_weight, without, with_last, leaving}
+use Rattle.linked_hash_map.specs.SessionsKept.{sessions_of}
+use Rattle.linked_hash_map.proofs.Callers.Lookups.{last-append}
+use Rattle.linked_hash_map.proofs.log.LiveKeys.{none_is}
+use Rattle.linked_hash_map.proofs.session_table.HandOuts.{drop-put, take-put, leaving-fit}
+use Rattle.linked_hash_map.proofs.session_table.Lists.{total_weight-fit, IsLongestEnd-fit}
+use Rattle.linked_hash_map.proofs.session_table.Pairs.{IsValidTable-kept, length-sessions_of}
+use Rattle.linked_hash_map.proofs.session_table.Puts.{payload_of-put, payload_of-stays, total_weight-put}
+use Rattle.linked_hash_map.proofs.session_table.Puts.{drop-with_last, capacity-put}
+use Rattle.linked_hash_map.proofs.sessions.Sessions.put_with.Goals as goal
+
+pub returns-in_default-clause-succeeds : goal.returns-in_default-clause-succeeds
+returns-in_default-clause-succeeds g c =
+    rw (← c.self.view_is) (λ some light. sym (c.plan_put-plan.ensures.is_new ∙ ap not c.in_default.ensures.new) ∙ some)
+
+pub returns-in_default-clause-succeeds_below : goal.returns-in_default-clause-succeeds_below
+returns-in_default-clause-succeeds_below g c =
+    rw (← c.self.view_is) (λ below light.
+    absurd (omega (arith, below, length-sessions_of c.self.inside.map.pairs, c.in_default.ensures.full)))
+
+pub returns-in_default-clause-none_goes : goal.returns-in_default-clause-none_goes
+returns-in_default-clause-none_goes g c =
+    let m = c.self.inside in let plan = c.plan_put-plan in
+    let others = without (sessions_of m.map.pairs) c.args.id in
+    rw (← c.self.view_is) (λ reason.
+    let all = sym (ap (λ n. drop n others) c.in_default.ensures.none) ∙ plan.ensures.stay in
+    omega (arith, ap total_weight all, total_weight-fit (m.limit - c.args.weight) others))
+
+pub returns-in_default-clause-full : goal.returns-in_default-clause-full
+returns-in_default-clause-full g c =
+    rw (← c.self.view_is) (λ reason. length-sessions_of c.self.inside.map.pairs ∙ c.in_default.ensures.full)
+
+pub returns-in_default-clause-absent : goal.returns-in_default-clause-absent
+returns-in_default-clause-absent g c =
+    rw (← c.self.view_is) (λ reason. none_is _ (c.plan_put-plan.ensures.is_new ∙ ap not c.in_default.ensures.new))
+
+pub store_with-old-requires-clause-callable : goal.store_with-old-requires-clause-callable
+store_with-old-requires-clause-callable g c =
+    let m = c.self.inside in let plan = c.plan_put-plan in
+    let callable = subst (λ table. c.args.weight ≤ table.limit
+    → CallableWithEachSession g.F.FnMut c.args.gone (leaving table.limit
+    (with_last table.sessions c.args.id c.args.weight c.args.payload))) (sym c.self.view_is) c.requires in
+    rw c.make_room.ensures.pairs (subst (CallableWithEachSession g.F.FnMut c.args.gone)
+    (sym (take-put m.limit c.args.weight c.args.id c.args.payload (sessions_of m.map.pairs)
+    plan.result.count (omega arith) plan.ensures.within plan.ensures.stay)) (callable (omega arith)))
+
+pub returns-clause-gone : goal.returns-clause-gone
+returns-clause-gone g c =
+    let m = c.self.inside in let plan = c.plan_put-plan in
+    let gone = rw c.make_room.ensures.pairs at c.store_with-old.ensures.gone in
+    rw (← c.self.view_is) (subst (CalledWithEachSession g.F.FnMut c.args.gone)
+    (take-put m.limit c.args.weight c.args.id c.args.payload (sessions_of m.map.pairs)
+    plan.result.count (omega arith) plan.ensures.within plan.ensures.stay) gone)
+
+pub overflow_add-self : goal.overflow_add-self
+overflow_add-self g c =
+    let m = c.self.inside in
+    let few = total_weight-fit (m.limit - c.args.weight) (without (sessions_of m.map.pairs) c.args.id) in
+    omega (arith, c.plan_put-plan.ensures.staying)
+
+pub invariant_of-self-2 : goal.invariant_of-self-2
+invariant_of-self-2 g c =
+    let m = c.self.inside in let leaving = c.plan_put-plan in
+    let others = without (sessions_of m.map.pairs) c.args.id in
+    let left = drop leaving.result.count others in
+    let few = total_weight-fit (m.limit - c.args.weight) others in
+    let now = rw c.make_room.ensures.pairs at c.store_with-old.ensures.sessions in
+    record {
+      valid = c.store_with-old.ensures.stays_valid;
+      mode = c.store_with-old.ensures.mode;
+      sum =
+          ap (λ w. w + c.args.weight) (leaving.ensures.staying ∙ sym (ap total_weight leaving.ensures.stay))
+          ∙ sym (ap total_weight (now ∙ drop-with_last (sessions_of m.map.pairs)
+          leaving.result.count c.args.id c.args.weight c.args.payload leaving.ensures.within)
+          ∙ total_weight-put c.args.weight c.args.id c.args.payload left);
+      within = omega (arith, leaving.ensures.staying);
+    }
+
+pub returns-clause-stay : goal.returns-clause-stay
+returns-clause-stay g c =
+    let m = c.self.inside in let plan = c.plan_put-plan in
+    let now = rw c.make_room.ensures.pairs at c.store_with-old.ensures.sessions in
+    rw (← c.self.view_is) (now ∙ drop-put m.limit c.args.weight c.args.id c.args.payload
+    (sessions_of m.map.pairs) plan.result.count (omega arith) plan.ensures.within plan.ensures.stay)
+
+pub returns-clause-all : goal.returns-clause-all
+returns-clause-all g c = rw (returns-clause-stay g c) (leaving-fit _ _)
+
+pub returns-clause-longest : goal.returns-clause-longest
+returns-clause-longest g c = rw (returns-clause-stay g c) (IsLongestEnd-fit _ _)
+
+pub returns-clause-newest : goal.returns-clause-newest
+returns-clause-newest g c =
+    let leaving = c.plan_put-plan in let all = sessions_of c.self.inside.map.pairs in
+    let now = rw c.make_room.ensures.pairs at c.store_with-old.ensures.sessions in
+    ap last (now ∙ drop-with_last all leaving.result.count c.args.id c.args.weight c.args.payload leaving.ensures.within)
+    ∙ last-append (drop leaving.result.count (without all c.args.id)) (c.args.id, c.args.weight, c.args.payload)
+
+pub returns-clause-payload : goal.returns-clause-payload
+returns-clause-payload g c =
+    let leaving = c.plan_put-plan in let ps = c.self.inside.map.pairs in
+    let now = rw c.make_room.ensures.pairs at c.store_with-old.ensures.sessions in
+    ap (λ l. payload_of l c.args.id) (now ∙ drop-with_last (sessions_of ps) leaving.result.count
+    c.args.id c.args.weight c.args.payload leaving.ensures.within)
+    ∙ payload_of-put ps leaving.result.count c.args.id c.args.weight c.args.payload
+
+pub returns-clause-others : goal.returns-clause-others
+returns-clause-others g c other apart =
+    let leaving = c.plan_put-plan in let ps = c.self.inside.map.pairs in
+    let now = rw c.make_room.ensures.pairs at c.store_with-old.ensures.sessions in
+    rw (← c.self.view_is) (rw now (payload_of-stays ps leaving.result.count c.args.id other
+    c.args.weight c.args.payload c.self.invariant.valid.distinct apart))
+
+pub returns-clause-old : goal.returns-clause-old
+returns-clause-old g c = rw (← c.self.view_is) (rw c.make_room.ensures.pairs at c.store_with-old.ensures.old)
+
+pub returns-clause-capacity : goal.returns-clause-capacity
+returns-clause-capacity g c =
+    let ps = c.self.inside.map.pairs in let leaving = c.plan_put-plan in
+    let now = rw c.make_room.ensures.pairs at c.store_with-old.ensures.sessions in
+    rw (← c.self.view_is) (
+    c.store_with-old.ensures.capacity
+    ∙ capacity-put leaving.result.is_new leaving.result.count ps c.args.id c.args.weight c.args.payload
+    c.self.invariant.valid.within c.self.invariant.valid.distinct leaving.ensures.is_new leaving.ensures.within
+    c.in-Ok.ensures.raised c.in-Ok.ensures.same_room
+    ∙ ap (λ l. max c.self.inside.map.capacity (length l)) (sym now))
+
+pub returns-clause-stays_valid : goal.returns-clause-stays_valid
+returns-clause-stays_valid g c = IsValidTable-kept (invariant_of-self-2 g c)
+
+pub store_with-old-requires-clause-present : goal.store_with-old-requires-clause-present
+store_with-old-requires-clause-present g c =
+    rw c.make_room.ensures.pairs c.plan_put-plan.ensures.is_new
+
+pub store_with-old-requires-clause-enough : goal.store_with-old-requires-clause-enough
+store_with-old-requires-clause-enough g c = rw c.make_room.ensures.pairs c.plan_put-plan.ensures.within
+
+pub store_with-old-requires-clause-room : goal.store_with-old-requires-clause-room
+store_with-old-requires-clause-room g c = λ none new.
+    omega (arith, c.in-Ok.ensures.raised none new, ap length c.make_room.ensures.pairs)

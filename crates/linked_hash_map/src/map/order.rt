@@ -1,0 +1,117 @@
+//! The order of the pairs: moves to the ends, and rotation.
+ghost use Rattle.std.specs.Prelude.{◌≡◌, ◌≤◌, ◌++◌, [], length, take, drop, is_some, IsTrue, IsFalse};
+ghost use Rattle.linked_hash_map.specs.Pairs.{find, to_back_as_is, to_front};
+ghost use Rattle.linked_hash_map.specs.Cursor.{to_visit};
+ghost use Rattle.linked_hash_map.specs.Changes.{Keeps};
+ghost use Rattle.linked_hash_map.specs.Validity.{IsValid};
+
+use super::LinkedHashMap;
+use equivalent::Equivalent;
+use std::hash::{BuildHasher, Hash};
+
+impl<K: Eq + Hash, V, S: BuildHasher> LinkedHashMap<K, V, S> {
+    /// Moves the pair of a key to the back, in both modes, and returns whether it is present, in
+    /// O(1). The others keep their order. Hashes the key once.
+    ///
+    /// # Examples
+    ///
+    /// ```rust
+    /// let mut map = LinkedHashMap::new(rt.alloc());
+    /// map.insert('x', 1)?;
+    /// map.insert('y', 2)?;
+    /// assert!(rt; map.move_to_back(&'x'));
+    /// assert_eq!(rt; map.back(), Some((&'x', &1)));
+    /// assert!(rt; !map.move_to_back(&'z'));
+    /// ```
+    #[inline]
+    pub fn move_to_back<Q: Equivalent<K>>(&mut self, key: Q) -> bool
+        ensures found { result ≡ is_some (find Q.equivalent self.old.pairs key) }
+        ensures pairs { self.new.pairs ≡ to_back_as_is Q.equivalent self.old.pairs key }
+        ensures keeps { Keeps self.old self.new }
+        ensures ends_visit { IsTrue result → to_visit self.new ≡ [] }
+        ensures unchanged { IsFalse result → self.new ≡ self.old }
+        ensures valid { IsValid K.eq self.old }
+        ensures stays_valid { IsValid K.eq self.new }
+        // Consequences of `pairs`, for the proofs of callers.
+        ensures len { length self.new.pairs ≡ length self.old.pairs }
+        ensures finds { (q : K) → find K.eq self.new.pairs q ≡ find K.eq self.old.pairs q }
+    {
+        let hash = self.hasher.hash_one(key);
+        match self.table.position(hash, key) {
+            Some(at) => {
+                self.visit.active = false;
+                self.table.move_to_back(at);
+                true
+            }
+            None => false,
+        }
+    }
+
+    /// Moves the pair of a key to the front, in both modes, and returns whether it is present, in
+    /// O(1). The others keep their order. Hashes the key once.
+    ///
+    /// # Examples
+    ///
+    /// ```rust
+    /// let mut map = LinkedHashMap::new(rt.alloc());
+    /// map.insert('x', 1)?;
+    /// map.insert('y', 2)?;
+    /// assert!(rt; map.move_to_front(&'y'));
+    /// assert_eq!(rt; map.front(), Some((&'y', &2)));
+    /// assert!(rt; !map.move_to_front(&'z'));
+    /// ```
+    #[inline]
+    pub fn move_to_front<Q: Equivalent<K>>(&mut self, key: Q) -> bool
+        ensures found { result ≡ is_some (find Q.equivalent self.old.pairs key) }
+        ensures pairs { self.new.pairs ≡ to_front Q.equivalent self.old.pairs key }
+        ensures keeps { Keeps self.old self.new }
+        ensures ends_visit { IsTrue result → to_visit self.new ≡ [] }
+        ensures unchanged { IsFalse result → self.new ≡ self.old }
+        ensures valid { IsValid K.eq self.old }
+        ensures stays_valid { IsValid K.eq self.new }
+        // Consequences of `pairs`, for the proofs of callers.
+        ensures len { length self.new.pairs ≡ length self.old.pairs }
+        ensures finds { (q : K) → find K.eq self.new.pairs q ≡ find K.eq self.old.pairs q }
+    {
+        let hash = self.hasher.hash_one(key);
+        match self.table.position(hash, key) {
+            Some(at) => {
+                self.visit.active = false;
+                self.table.move_to_front(at);
+                true
+            }
+            None => false,
+        }
+    }
+
+    /// Moves the first `count` pairs behind the others, in order, in O(min(count, len - count)).
+    /// `count` has to be proved at most the length: std's sequences panic on others. Hashes no key.
+    ///
+    /// # Examples
+    ///
+    /// ```rust
+    /// let mut map = LinkedHashMap::new(rt.alloc());
+    /// map.insert('x', 1)?;
+    /// map.insert('y', 2)?;
+    /// map.insert('z', 3)?;
+    /// if map.len() >= 2 {
+    ///     map.rotate_left(2);
+    /// }
+    /// assert_eq!(rt; map.front(), Some((&'z', &3)));
+    /// assert_eq!(rt; map.back(), Some((&'y', &2)));
+    /// ```
+    pub fn rotate_left(&mut self, count: usize)
+        requires { count ≤ length self.old.pairs }
+        ensures pairs { self.new.pairs ≡ drop count self.old.pairs ++ take count self.old.pairs }
+        ensures keeps { Keeps self.old self.new }
+        ensures ends_visit { to_visit self.new ≡ [] }
+        ensures valid { IsValid K.eq self.old }
+        ensures stays_valid { IsValid K.eq self.new }
+        // Consequences of `pairs`, for the proofs of callers.
+        ensures len { length self.new.pairs ≡ length self.old.pairs }
+        ensures finds { (q : K) → find K.eq self.new.pairs q ≡ find K.eq self.old.pairs q }
+    {
+        self.visit.active = false;
+        self.table.rotate_left(count);
+    }
+}
