@@ -15,6 +15,7 @@ mod equal_keys;
 mod errors;
 mod every_call;
 mod failing_checks;
+mod formats;
 mod growths;
 mod insertions;
 mod iterators;
