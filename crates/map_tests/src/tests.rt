@@ -2,6 +2,7 @@
 
 mod borrowed;
 mod call_counts;
+mod calling;
 mod capacities;
 mod chains;
 mod collect;
@@ -22,7 +23,6 @@ mod iterators;
 mod lists;
 mod modes;
 mod nodes;
-mod readme;
 mod removals;
 mod replays;
 mod retains;
