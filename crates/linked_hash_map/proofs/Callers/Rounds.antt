@@ -1,5 +1,5 @@
 -- For callers: turns, each of which takes the first pair and puts it behind the others.
-use Rattle.std.proofs.Common.{◌≡◌, ℕ, ◌+◌, ◌<◌, Bool, List, [], ◌∷◌, ◌++◌, length, take, drop, map, get_or, append_assoc, append-nil, refl, sym}
+use Rattle.std.proofs.Common.{◌≡◌, ℕ, ◌+◌, ◌<◌, List, [], ◌∷◌, ◌++◌, length, take, drop, map, get_or, append_assoc, append-nil, refl, sym}
 use Rattle.std.proofs.Common.{ap, ap₂, ◌∙◌, Some, arith, length-append, length-drop}
 use Rattle.std.proofs.lemmas.List.{drop_more, take_more, drop_all, take_all, map-append}
 use Rattle.linked_hash_map.specs.Pairs.{first, without_first}
