@@ -1,4 +1,4 @@
-use Rattle.std.proofs.Common.{rules, arith, ap, length}
+use Rattle.std.proofs.Common.{rules}
 use Rattle.linked_hash_map.proofs.Callers.Visits.{VisitKeeps-removed}
 use Rattle.uses.proofs.loops.take_out_zeros.Goals as goal
 
@@ -8,5 +8,5 @@ loop-entry-preserved-then-get-eq0 g c =
     (
       VisitKeeps-removed g.met.K.Eq.laws c.loop-entry.invariant.0 entry.visits entry.valid.distinct entry.value
           entry.pairs (search rules) c.remove.ensures.pairs c.remove.ensures.to_visit,
-      omega (arith, c.remove.ensures.fewer, ap length entry.pairs, c.loop-entry.invariant.1),
+      search rules,
     )
