@@ -6,6 +6,7 @@ use super::support::checks::check_eq;
 use lhm_ring::index::{Index, Probe, buckets_for};
 use lhm_ring::ring::Ring;
 use std::alloc::{AllocError, Global};
+use std::hash::Hash;
 use std::marker::Model;
 use std::process::Abort;
 
@@ -91,7 +92,7 @@ impl<K, V> Table<K, V> {
     }
 }
 
-impl<K: Eq, V> Table<K, V> {
+impl<K: Eq + Hash, V> Table<K, V> {
     fn probe(&self, hash: u64, key: &K) -> (bool, Probe) {
         let _len = self.ring.len();
         let (found, probe) = self.index.find(&self.ring, hash, key);
@@ -99,7 +100,7 @@ impl<K: Eq, V> Table<K, V> {
     }
 
     fn remove(&mut self, hash: u64, key: &K) -> Option<(u64, K, V)>
-        ensures absent { IfNone result (IsAbsent K.eq hash key.now self.old.held) }
+        ensures absent { IfNone result (IsAbsent (K.eq key.now) hash self.old.held) }
     {
         let _len = self.ring.len();
         let at = self.index.take_out(&mut self.ring, hash, key)?;

@@ -44,8 +44,16 @@ fn remove_entries<'a>(rt: &impl Abort, tally: &'a Tally, map: &mut CountedMap<'a
 fn drops_a_pair_once_it_is_taken_out(rt: HostRuntime) {
     let tally = Tally::new();
     let mut map = counted_map_of(&rt, rt.alloc(), &tally, &PAIRS);
-    remove_entries(&rt, &tally, &mut map);
     pop_pairs(&rt, &tally, &mut map);
+    drop(map);
+    assert_dropped(&rt, &tally, 63);
+}
+
+#[test]
+fn drops_a_pair_once_it_is_taken_out_by_its_key(rt: HostRuntime) {
+    let tally = Tally::new();
+    let mut map = counted_map_of(&rt, rt.alloc(), &tally, &PAIRS);
+    remove_entries(&rt, &tally, &mut map);
     drop(map);
     assert_dropped(&rt, &tally, 63 | KEY);
 }
