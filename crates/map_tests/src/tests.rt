@@ -2,6 +2,7 @@
 
 mod borrowed;
 mod call_counts;
+mod calling;
 mod capacities;
 mod chains;
 mod collect;
@@ -15,13 +16,13 @@ mod equal_keys;
 mod errors;
 mod every_call;
 mod failing_checks;
+mod formats;
 mod growths;
 mod insertions;
 mod iterators;
 mod lists;
 mod modes;
 mod nodes;
-mod readme;
 mod removals;
 mod replays;
 mod retains;

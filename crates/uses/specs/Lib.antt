@@ -1,3 +1,4 @@
 pub mod Counting
 pub mod Lending
+pub mod Places
 pub mod Replaying

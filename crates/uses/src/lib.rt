@@ -13,6 +13,7 @@ pub mod memory;
 pub mod modes;
 pub mod numbered;
 pub mod pages;
+pub mod places;
 pub mod prices;
 pub mod printing;
 pub mod queue;

@@ -2,17 +2,43 @@
 ghost use Rattle.std.specs.Prelude.{List, ℕ, ◌≡◌, ◌≤◌, ◌+◌, Some, length, reverse, string_eq, unwrap_or, IfOk, IfErr, OnOk};
 ghost use Rattle.std.specs.Borrow.{Bor};
 ghost use Rattle.std.specs.Option.{option_or};
+ghost use Rattle.std.specs.Str.{bytes_eq};
+ghost use Rattle.std.specs.String.{string_bytes};
 ghost use Rattle.linked_hash_map.specs.Pairs.{value_at};
 ghost use Rattle.linked_hash_map.proofs.Callers.Texts.{same_text};
 
 use crate::collecting::insert_all;
 use linked_hash_map::{LinkedHashMap, Refused};
 
-/// Returns the age of a person. The lookup takes a `&String`, and no `&str`.
+/// Returns the age of a person.
 pub fn age_of(ages: &LinkedHashMap<String, u64>, name: &String) -> Option<u64>
     ensures { result ≡ value_at string_eq ages.now.pairs name.now }
 {
     ages.get(name).copied()
+}
+
+/// Returns the age of a person by a text, which no `String` has to be made for.
+pub fn age_by_text(ages: &LinkedHashMap<String, u64>, name: &str) -> Option<u64>
+    ensures { result ≡ value_at (λ text key. bytes_eq text (string_bytes key))
+        ages.now.pairs name.now }
+{
+    ages.get(name).copied()
+}
+
+/// Makes the age of a person one more, by a text, and makes the person the one used last. Returns
+/// the age before.
+pub fn have_birthday(ages: &mut LinkedHashMap<String, u64>, name: &str) -> Option<u64>
+    ensures { result ≡ value_at (λ text key. bytes_eq text (string_bytes key))
+        ages.old.pairs name.now }
+{
+    match ages.get_refresh(name) {
+        Some(age) => {
+            let before = *age;
+            *age = age.saturating_add(1);
+            Some(before)
+        }
+        None => None,
+    }
 }
 
 /// Notes the age of a person. If there is no memory for a new name, it is handed back.

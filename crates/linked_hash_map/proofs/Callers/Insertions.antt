@@ -1,5 +1,5 @@
 -- For callers: a run of insertions that leaves one pair more for each of them refused none.
-use Rattle.std.proofs.Common.{◌≡◌, ℕ, ◌+◌, ◌≤◌, ◌⊎◌, inl, inr, Bool, true, false, ◌&&◌, ◌||◌, List, [], ◌∷◌, ◌++◌, length, append-nil}
+use Rattle.std.proofs.Common.{◌≡◌, ℕ, ◌+◌, ◌≤◌, ◌⊎◌, inl, inr, Bool, true, false, ◌||◌, List, [], ◌∷◌, ◌++◌, length, append-nil}
 use Rattle.std.proofs.Common.{refl, sym, ap, ap₂, ◌∙◌, subst, true≢false, arith}
 use Rattle.std.specs.List.{list_all}
 use Rattle.std.specs.Cmp.{IsEquivalence}
@@ -94,13 +94,15 @@ module _ {K V : Type 0} {eq : K → K → Bool} (laws : IsEquivalence eq) {start
   grown (command ∷ commands) (reply ∷ replies) defines run are =
       absurd (true≢false (sym (both_hold (is_insertion command) (list_all is_insertion commands) are).0))
 
--- a run of insertions
+-- a run of these commands, each of which is an insertion
 module _ {K V S : Type 0} {eq : K → K → Bool} (laws : IsEquivalence eq) {old new : LinkedMap K V S}
-    {commands : List (Command K V)} {replies : List (Reply K V)} where
+    {commands : List (Command K V)} {replies : List (Reply K V)} (these : List (Command K V)) where
   pub NoneRefused-inserted : IsValid eq old → Replayed eq old commands replies new
-      → list_all is_insertion commands ≡ true
-      → length new.pairs ≡ length old.pairs + length commands → NoneRefused replies
-  NoneRefused-inserted valid replayed are longer =
-      let run = grown laws commands replies (Defines-first laws valid) replayed.run are in
+      → commands ≡ these → list_all is_insertion these ≡ true
+      → length new.pairs ≡ length old.pairs + length these → NoneRefused replies
+  NoneRefused-inserted valid replayed are insertions longer =
+      let run = grown laws commands replies (Defines-first laws valid) replayed.run
+      (ap (list_all is_insertion) are ∙ insertions) in
       let same = ap length (replayed.pairs ∙ run.defines.same_pairs) in
+      let as_many = ap length are in
       run.all (omega arith)

@@ -1,6 +1,6 @@
 -- For callers: turns, each of which takes the first pair and puts it behind the others.
-use Rattle.std.proofs.Common.{◌≡◌, ℕ, ◌+◌, ◌<◌, Bool, List, [], ◌∷◌, ◌++◌, length, take, drop, map, get_or, append_assoc, append-nil, refl, sym}
-use Rattle.std.proofs.Common.{ap, ap₂, ◌∙◌, Option, Some, arith}
+use Rattle.std.proofs.Common.{◌≡◌, ℕ, ◌+◌, ◌<◌, List, [], ◌∷◌, ◌++◌, length, take, drop, map, get_or, append_assoc, append-nil, refl, sym}
+use Rattle.std.proofs.Common.{ap, ap₂, ◌∙◌, Some, arith, length-append, length-drop}
 use Rattle.std.proofs.lemmas.List.{drop_more, take_more, drop_all, take_all, map-append}
 use Rattle.linked_hash_map.specs.Pairs.{first, without_first}
 
@@ -28,14 +28,19 @@ module _ {X : Type 0} (change : X → X) (old : List X) where
 
 -- one turn, and once each pair had its turn
 module _ {X : Type 0} {change : X → X} {old now : List X} {turns : ℕ} (w : IsTurned change old now turns) where
-  pub IsTurned-turn : {after : List X} (x : X) → turns < length old → first now ≡ Some x
-      → after ≡ without_first now ++ change x ∷ [] → IsTurned change old after (turns + 1)
-  IsTurned-turn {after} x within there turned = record { list = turned ∙ by_list now there w.list }
+  pub IsTurned-turn : {after : List X} → turns < length old
+      → ((x : X) → first now ≡ Some x → after ≡ without_first now ++ change x ∷ [])
+      → IsTurned change old after (turns + 1)
+  IsTurned-turn {after} within turned = by_list now w.list turned
     where
-      by_list : (xs : List X) → first xs ≡ Some x → xs ≡ drop turns old ++ map change (take turns old)
-          → without_first xs ++ change x ∷ [] ≡ drop (turns + 1) old ++ map change (take (turns + 1) old)
-      by_list [] there is = absurd (let none : first [] ≡ Some x = there in cc)
-      by_list (y ∷ rest) there is = let same : y ≡ x = cc in turn_list change old turns x rest within (ap (λ z. z ∷ rest) (sym same) ∙ is)
+      by_list : (xs : List X) → xs ≡ drop turns old ++ map change (take turns old)
+          → ((x : X) → first xs ≡ Some x → after ≡ without_first xs ++ change x ∷ [])
+          → IsTurned change old after (turns + 1)
+      by_list [] is turned =
+          let none = ap length is in let left = length-drop turns old in
+          let both = length-append (drop turns old) (map change (take turns old)) in
+          absurd (omega arith)
+      by_list (x ∷ rest) is turned = record { list = turned x refl ∙ turn_list change old turns x rest within is }
 
   pub IsTurned-round : turns ≡ length old → now ≡ map change old
   IsTurned-round all = w.list ∙ ap₂ (λ xs ys. xs ++ map change ys) (drop_all turns old (omega arith)) (take_all turns old (omega arith))

@@ -9,7 +9,7 @@ use Rattle.std.specs.Cmp.{IsEquivalence}
 use Rattle.std.proofs.lemmas.List.Elements.{filter-append}
 use Rattle.linked_hash_map.specs.declared.map.Mode.{Mode}
 use Rattle.linked_hash_map.specs.Pairs.{find, value_at, without, set_value, set_or_push, set_if_some, put}
-use Rattle.linked_hash_map.proofs.pairs.Calls.{set_value-none}
+use Rattle.linked_hash_map.proofs.pairs.Calls.{set_value-none, is_some-value_at}
 use Rattle.linked_hash_map.proofs.Callers.Keys.{find-absent, IsSome-find, set_or_push-present, without-absent, put-absent}
 -- a value that is set as it was changes nothing
 pub use Rattle.linked_hash_map.proofs.pairs.Indexes.{set_value-own}
@@ -74,8 +74,9 @@ module _ {K V : Type 0} (eq : K → K → Bool) where
 -- an insertion taken back: a new key is removed, and a key that was there gets its old value
 module _ {K V : Type 0} {eq : K → K → Bool} (laws : IsEquivalence eq) where
   pub without-put : (mode : Mode) (pairs : List (K × V)) (k : K) (v : V)
-      → find eq pairs k ≡ None → without eq (put eq mode pairs k v) k ≡ pairs
-  without-put mode pairs k v none =
+      → value_at eq pairs k ≡ None → without eq (put eq mode pairs k v) k ≡ pairs
+  without-put mode pairs k v missing =
+      let none = find-absent eq pairs k (sym (is_some-value_at eq pairs k) ∙ ap is_some missing) in
       ap (λ ps. without eq ps k) (put-absent eq mode pairs k v none)
       ∙ filter-append (λ pair. not (eq k pair.0)) pairs ((k, v) ∷ [])
       ∙ ap₂ (λ ps b. ps ++ cond (not b) ((k, v) ∷ []) []) (without-absent eq pairs k none) (laws.refl k)

@@ -1,7 +1,7 @@
 -- For callers: a visit that takes some of the pairs out and writes the values of the others, step
 -- by step.
 use Rattle.std.proofs.Common.{◌≡◌, ℕ, Bool, true, false, cond, List, [], ◌∷◌, ◌++◌, length, map, slice_get, option_map, Some, IfSome, filter, refl, sym, ap}
-use Rattle.std.proofs.Common.{subst, ◌∙◌, append_assoc, append-nil}
+use Rattle.std.proofs.Common.{subst, ◌∙◌, append_assoc}
 use Rattle.std.specs.Cmp.{IsEquivalence}
 use Rattle.std.specs.List.{IsDistinct, remove}
 use Rattle.std.specs.Map.{keys_of}

@@ -133,6 +133,7 @@ module _ {K V : Type 0} {eq : K → K → Bool} (laws : IsEquivalence eq) {is_ke
                 (distinct-to_back laws (pairs_of hs) stored v distinct);
             within = omega arith;
             limit = valid.limit;
+            reach = omega arith;
           }
 
 -- a call that finds no key and changes no pair

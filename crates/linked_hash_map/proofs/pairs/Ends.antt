@@ -45,6 +45,7 @@ module _ {K V S : Type 0} {eq : K → K → Bool} {m : LinkedMap K V S} (valid :
         distinct = subst (IsDistinct eq) (sym same) valid.distinct;
         within = omega (arith, long, of_new, of_old, valid.within);
         limit = valid.limit;
+        reach = omega (arith, long, of_new, of_old, valid.reach);
       }
 
   pub IsValid-set_first : (v : V) → IsValid eq (record m { pairs = set_first m.pairs v })

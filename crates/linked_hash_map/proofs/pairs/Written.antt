@@ -23,9 +23,10 @@ pub IsValid-set_value : {K V S : Type 0} {eq : K → K → Bool} {m : LinkedMap 
     → IsValid eq (record m { pairs = map (λ pair. cond (is_key pair.0) (pair.0, v) pair) m.pairs })
 IsValid-set_value {eq = eq} {m = m} valid is_key v =
     let same = length-map m.pairs (λ pair. cond (is_key pair.0) (pair.0, v) pair) in
-    let within = valid.within in
+    let within = valid.within in let reach = valid.reach in
     record {
       distinct = subst (IsDistinct eq) (sym (keys_of-written is_key v m.pairs)) valid.distinct;
       within = omega arith;
       limit = valid.limit;
+      reach = omega arith;
     }

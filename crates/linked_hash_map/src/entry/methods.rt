@@ -235,6 +235,9 @@ impl<'a, K: Eq + Hash, V, S: BuildHasher> Entry<'a, K, V, S> {
         ensures full { OnErr result
             (length (entry_map self.entry).pairs ≡ (entry_map self.entry).capacity) }
         ensures valid { IsValid K.eq (entry_map self.entry) }
+        // A law, as that of `or_insert`.
+        ensures to_visit { (v : V) → to_visit (set_or_pushed K.eq (entry_map self.entry)
+            (entry_key self.entry) v) ≡ to_visit (entry_map self.entry) }
     {
         let vacant = match self {
             Entry::Occupied(entry) => return Ok(entry.into_mut()),

@@ -30,8 +30,9 @@ fn insert_with_room(rt: &impl Abort, map: &mut CallMap, key: &Key) -> Option<u64
 
 /// Inserts a key that is present: two lookups with the one that shows so.
 fn insert_present(rt: &impl Abort, map: &mut CallMap, key: &Key) -> Option<u64> {
-    if map.contains_key(key) {
-        map.insert_within_capacity(key.again(rt), 1)
+    let again = key.again(rt);
+    if map.contains_key(&again) {
+        map.insert_within_capacity(again, 1)
     } else {
         None
     }

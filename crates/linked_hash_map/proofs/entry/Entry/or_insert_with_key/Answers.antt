@@ -5,7 +5,7 @@ use Rattle.std.specs.Fn.{FnOnceReturnsAt}
 use Rattle.std.proofs.lemmas.Result.{IfOk-weaker, IfErr-weaker}
 use Rattle.linked_hash_map.specs.Entry.{occupied_map, occupied_key}
 use Rattle.linked_hash_map.proofs.pairs.OccupiedEntries.{is_some-occupied}
-use Rattle.linked_hash_map.proofs.pairs.EntryMaps.{set_or_pushed-present, set_or_pushed-absent}
+use Rattle.linked_hash_map.proofs.pairs.EntryMaps.{set_or_pushed-present, set_or_pushed-absent, to_visit-set_or_pushed}
 use Rattle.linked_hash_map.proofs.lists.Results.{OnOk-given, OnErr-always}
 use Rattle.linked_hash_map.proofs.entry.Entry.or_insert_with_key.Goals as goal
 
@@ -27,6 +27,7 @@ returns-in-Occupied g c =
         absent = tt;
         full = tt;
         valid = c.into_mut.ensures.valid;
+        to_visit = λ v. to_visit-set_or_pushed eq (occupied_map o) (occupied_key o) v c.into_mut.ensures.valid;
       },
     )
 
@@ -50,5 +51,6 @@ returns g c =
         absent = OnErr-always r refl;
         full = c.insert.ensures.full;
         valid = c.insert.ensures.valid;
+        to_visit = λ v. to_visit-set_or_pushed eq m e.key v c.insert.ensures.valid;
       },
     )

@@ -1,6 +1,6 @@
 use Rattle.std.proofs.Common.{◌≡◌, List, take, drop, Some, None, refl, sym, ap, ◌∙◌}
 use Rattle.std.specs.Map.{keys_of}
-use Rattle.linked_hash_map.specs.Nodes.{pairs_of, bare, bookmark_at, beside, bookmark_of, unvisited_of}
+use Rattle.linked_hash_map.specs.Nodes.{pairs_of, bare, bookmark_at, bookmark_of, unvisited_of}
 use Rattle.linked_hash_map.specs.Pairs.{find}
 use Rattle.linked_hash_map.proofs.pairs.Calls.{filter-none}
 use Rattle.linked_hash_map.proofs.nodes.Kept.{distinct_keys, IsValid-kept}

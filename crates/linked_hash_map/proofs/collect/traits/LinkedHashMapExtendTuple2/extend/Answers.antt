@@ -7,13 +7,15 @@ pub loop-key-preserved-in-Ok : goal.loop-key-preserved-in-Ok
 loop-key-preserved-in-Ok g c =
     let put = c.in-Ok.ensures in
     IsExtended-put g.met.K.Eq.laws c.len-len.ensures.valid.distinct c.loop-key.invariant
-    c.in-Some.ensures.goes put.pairs put.capacity put.rechained put.settings put.stays_valid
+    c.in-Some.ensures.goes put.pairs put.capacity put.rechained put.made put.settings put.stays_valid
+    c.in-Ok._old put.old put.ends_visit put.to_visit put.as_many put.more
 
 pub loop-key-preserved : goal.loop-key-preserved
 loop-key-preserved g c =
     let put = c.in-Ok.ensures in
     IsExtended-put g.met.K.Eq.laws c.len-len.ensures.valid.distinct c.loop-key.invariant
-    c.in-Some.ensures.goes put.pairs put.capacity put.rechained put.settings put.stays_valid
+    c.in-Some.ensures.goes put.pairs put.capacity put.rechained put.made put.settings put.stays_valid
+    c.in-Ok._old put.old put.ends_visit put.to_visit put.as_many put.more
 
 pub loop-key-init : goal.loop-key-init
 loop-key-init g c =

@@ -1,4 +1,4 @@
-use Rattle.std.proofs.Common.{sym, subst, ◌∙◌, arith}
+use Rattle.std.proofs.Common.{◌∙◌, arith}
 use Rattle.linked_hash_map.specs.Inserts.{insert_each}
 use Rattle.linked_hash_map.proofs.collect.traits.LinkedHashMapFromIteratorTuple2.from_iter.Goals as goal
 

@@ -1,4 +1,4 @@
-//! The example of the README.
+//! The example of docs/CALLING.md.
 ghost use Rattle.std.specs.Prelude.{◌≡◌, ◌∷◌, [], IfOk};
 
 use super::assert_pairs;
@@ -19,7 +19,7 @@ fn example(alloc: Global) -> Result<LinkedHashMap<u64, u64>, Refused<u64, u64>>
 }
 
 #[test]
-fn runs_the_example_of_the_readme(rt: HostRuntime) {
+fn runs_the_example_of_calling(rt: HostRuntime) {
     let map = given!(rt; example(rt.alloc()));
     assert_pairs(&rt, &map, &[(1, 10), (2, 21)]);
     check_eq!(rt; map.capacity(), 2);

@@ -1,0 +1,12 @@
+use Rattle.std.proofs.Common.{◌*◌, length}
+use Rattle.linked_hash_map.specs.Cursor.{to_visit}
+use Rattle.linked_hash_map.specs.Visits.{VisitMaps}
+use Rattle.clients.specs.Tests.{is_even}
+use Rattle.clients.proofs.visit.double_even.Given as goal
+
+abbrev pub invariant-loop-entry : goal.invariant-loop-entry
+invariant-loop-entry g l = VisitMaps is_even (λ pair. pair.1 * 2)
+    l.fn.numbers.pairs l.entries.pairs (to_visit l.entries)
+
+abbrev pub decreases-loop-entry : goal.decreases-loop-entry
+decreases-loop-entry g l = length (to_visit l.entries)

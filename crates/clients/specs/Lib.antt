@@ -1,0 +1,4 @@
+pub mod Items
+pub mod Replies
+pub mod Tasks
+pub mod Tests
