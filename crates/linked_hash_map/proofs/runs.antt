@@ -3,3 +3,4 @@ pub mod Extends
 pub mod Outcomes
 pub mod Pops
 pub mod Steps
+pub mod VisitEnds

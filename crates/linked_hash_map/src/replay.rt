@@ -20,7 +20,7 @@ ghost use Rattle.std.specs.Prelude.{◌≡◌, ℕ, [], IfOk, IfErr, OnErr, IsOk
 ghost use Rattle.linked_hash_map.specs.Log.{Log, mode, pairs, high, Defines};
 ghost use Rattle.linked_hash_map.specs.Validity.{IsValid};
 ghost use Rattle.linked_hash_map.specs.AllowedAnswers.{log_after};
-ghost use Rattle.linked_hash_map.specs.Run.{first_log, last_log, Serves, IsReply, IsRun, Replayed};
+ghost use Rattle.linked_hash_map.specs.Run.{first_log, last_log, MayEndVisit, Serves, IsReply, IsRun, Replayed};
 
 use crate::entry::Entry;
 use crate::error::{NoRoom, ReserveError};
@@ -379,6 +379,7 @@ fn reply_to<K: Eq + Hash + Drop, V: Drop, S: BuildHasher>(
         → Defines K.eq start (log_after K.eq log command result.answer) map.new.pairs
         map.new.capacity map.new.mode }
     ensures hasher { map.new.hasher ≡ map.old.hasher }
+    ensures visit { MayEndVisit map.old map.new }
     ensures stays_valid { IsValid K.eq map.new }
 {
     let answer = answer_to(map, command);
@@ -390,7 +391,7 @@ fn reply_to<K: Eq + Hash + Drop, V: Drop, S: BuildHasher>(
 }
 
 /// Runs the commands in order and returns one reply for each, at the cost of its call, hashing each
-/// of its keys once. A refusal does not stop the run.
+/// of its keys once. A refusal does not stop the run. A visit stays as it was, or ends.
 ///
 /// The replies are allocated first: if that fails, the error is the commands, and none is run. An
 /// empty list is never refused.
@@ -417,6 +418,8 @@ pub fn replay<K: Eq + Hash + Drop, V: Drop, S: BuildHasher>(
         commands.items replies.items in
         map.new.mode ≡ mode last) }
     ensures hasher { map.new.hasher ≡ map.old.hasher }
+    // A visit has ended, or the pairs that were left to visit are left.
+    ensures visit { MayEndVisit map.old map.new }
     ensures valid { IsValid K.eq map.old }
     ensures stays_valid { IsValid K.eq map.new }
     // The clauses `run`, `pairs`, `capacity` and `mode` in one, for the proofs of callers.

@@ -1,3 +1,4 @@
+use Rattle.std.proofs.Common.{inl}
 use Rattle.linked_hash_map.proofs.runs.Effects.{Defines-remove_all}
 use Rattle.linked_hash_map.proofs.replay.clear.Goals as goal
 
@@ -7,4 +8,5 @@ returns g c = record {
   defines = λ start log defines. Defines-remove_all g.met.K.Eq.laws defines c.clear.ensures.pairs
       c.clear.ensures.keeps.capacity c.clear.ensures.keeps.mode;
   hasher = c.clear.ensures.keeps.hasher;
+  visit = inl c.clear.ensures.ends_visit;
 }

@@ -1,4 +1,4 @@
-use Rattle.std.proofs.Common.{◌≡◌, ◌<◌, ◌++◌, ◌∷◌, [], length, refl, sym, ap, ◌∙◌, true≢false, arith, length-append}
+use Rattle.std.proofs.Common.{◌≡◌, ◌<◌, ◌++◌, ◌∷◌, [], length, refl, sym, ap, ◌∙◌, true≢false, arith, length-append, inl, inr}
 use Rattle.std.proofs.Math.Nat.{pos_of_ne-zero}
 use Rattle.std.proofs.lemmas.List.{append-nil, append_assoc}
 use Rattle.linked_hash_map.specs.Drains.{drain_rest}
@@ -13,6 +13,7 @@ returns-in_default g c = record {
       omega (arith, c.len.ensures.len);
   defines = λ start log defines. Defines-nothing g.met.K.Eq.laws defines refl refl refl;
   hasher = refl;
+  visit = inr refl;
 }
 
 pub loop-pair-init : goal.loop-pair-init
@@ -48,4 +49,5 @@ returns g c =
       answers = λ start log defines. c.from_vec.ensures ∙ all ∙ sym defines.same_pairs;
       defines = λ start log defines. Defines-remove_all g.met.K.Eq.laws defines refl refl refl;
       hasher = refl;
+      visit = inl refl;
     }

@@ -1,4 +1,5 @@
-use Rattle.std.proofs.Common.{rules, ◌≡◌, ◌+◌, ◌++◌, ◌∷◌, [], max, length, cond, refl, sym, ap, ◌∙◌, arith, length-append, Some}
+use Rattle.std.proofs.Common.{rules, ◌≡◌, ◌+◌, ◌++◌, ◌∷◌, [], max, length, cond, refl, sym, ap, ◌∙◌, arith, length-append, Some, inl, inr}
+use Rattle.linked_hash_map.specs.Cursor.{to_visit}
 use Rattle.linked_hash_map.specs.Changes.{pushed}
 use Rattle.linked_hash_map.specs.Pairs.{key_or, find, put}
 use Rattle.linked_hash_map.specs.Entry.{occupied_key}
@@ -30,6 +31,7 @@ returns-in-Occupied g c =
       defines = λ start log defines. Defines-put g.met.K.Eq.laws defines c.args.key c.args.value
           moved room (done.keeps.mode ∙ entry.keeps.mode);
       hasher = done.keeps.hasher ∙ entry.keeps.hasher;
+      visit = inl (done.to_visit ∙ ap to_visit (entry.ends_visit refl));
     })
 
 pub returns-in-Ok : goal.returns-in-Ok
@@ -50,6 +52,7 @@ returns-in-Ok g c =
       answers = λ start log defines. IsAbsent-found g.met.K.Eq.laws defines c.args.key absent;
       defines = λ start log defines. Defines-put g.met.K.Eq.laws defines c.args.key c.args.value went_in room entry.keeps.mode;
       hasher = entry.keeps.hasher;
+      visit = inr (c.in-Ok.ensures.to_visit value ∙ ap to_visit same_map);
     })
 
 pub returns-in-Err : goal.returns-in-Err
@@ -71,4 +74,5 @@ returns-in-Err g c =
       );
       defines = λ start log defines. Defines-nothing g.met.K.Eq.laws defines refl refl refl;
       hasher = refl;
+      visit = inr refl;
     })

@@ -1,4 +1,5 @@
-use Rattle.std.proofs.Common.{rules, refl, sym, ap, ◌∙◌, Some}
+use Rattle.std.proofs.Common.{rules, refl, sym, ap, ◌∙◌, Some, inl, inr}
+use Rattle.linked_hash_map.specs.Cursor.{to_visit}
 use Rattle.linked_hash_map.specs.Pairs.{without}
 use Rattle.linked_hash_map.specs.Entry.{occupied_key}
 use Rattle.linked_hash_map.proofs.runs.Effects.{IsAbsent-value, HasValue-value, Defines-remove, Defines-nothing}
@@ -16,6 +17,7 @@ returns-in-Occupied g c =
           (done.pairs ∙ ap (λ pairs. without g.K.PartialEq.eq pairs (occupied_key c.in-Occupied.entry)) entry.pairs ∙ entry.acts.removes)
           (done.keeps.capacity ∙ entry.keeps.capacity) (done.keeps.mode ∙ entry.keeps.mode);
       hasher = done.keeps.hasher ∙ entry.keeps.hasher;
+      visit = inl (done.to_visit ∙ ap to_visit (entry.ends_visit refl));
     })
 
 pub returns-in-Vacant : goal.returns-in-Vacant
@@ -27,4 +29,5 @@ returns-in-Vacant g c =
       defines = λ start log defines. Defines-nothing g.met.K.Eq.laws defines
           (ap (λ m. m.pairs) same_map) (ap (λ m. m.capacity) same_map) (ap (λ m. m.mode) same_map);
       hasher = ap (λ m. m.hasher) same_map;
+      visit = inr (ap to_visit same_map);
     })

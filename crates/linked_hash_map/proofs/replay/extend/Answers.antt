@@ -1,24 +1,32 @@
-use Rattle.std.proofs.Common.{◌++◌, ◌∙◌, sym, ap, ap₂, subst, take, Some}
+use Rattle.std.proofs.Common.{◌++◌, ◌∙◌, sym, ap, ap₂, subst, take, Some, inr}
 use Rattle.linked_hash_map.specs.Log.{put_each}
 use Rattle.linked_hash_map.specs.AllowedAnswers.{HasNoRoom}
+use Rattle.linked_hash_map.specs.Cursor.{to_visit}
 use Rattle.linked_hash_map.proofs.runs.Extends.{HasExtended-put, next-there, HasNoRoom-next, Defines-taken}
+use Rattle.linked_hash_map.proofs.runs.VisitEnds.{MayEndVisit-trans, MayEndVisit-insert}
 use Rattle.linked_hash_map.proofs.replay.extend.Goals as goal
 
 pub loop-key-preserved-in-Ok : goal.loop-key-preserved-in-Ok
 loop-key-preserved-in-Ok g c =
-    let put = c.in-Ok.ensures in
-    HasExtended-put g.met.K.Eq.laws c.loop-key.invariant c.in-Some.ensures.steps.0
-    put.pairs put.capacity put.settings
+    let put = c.in-Ok.ensures in let i = c.loop-key.invariant in
+    record {
+      extended = HasExtended-put g.met.K.Eq.laws i.extended c.in-Some.ensures.steps.0
+          put.pairs put.capacity put.settings;
+      visit = MayEndVisit-trans i.visit (MayEndVisit-insert c.in-Ok._old put.ends_visit put.to_visit);
+    }
 
 pub loop-key-preserved : goal.loop-key-preserved
 loop-key-preserved g c =
-    let put = c.in-Ok.ensures in
-    HasExtended-put g.met.K.Eq.laws c.loop-key.invariant c.in-Some.ensures.steps.0
-    put.pairs put.capacity put.settings
+    let put = c.in-Ok.ensures in let i = c.loop-key.invariant in
+    record {
+      extended = HasExtended-put g.met.K.Eq.laws i.extended c.in-Some.ensures.steps.0
+          put.pairs put.capacity put.settings;
+      visit = MayEndVisit-trans i.visit (MayEndVisit-insert c.in-Ok._old put.ends_visit put.to_visit);
+    }
 
 pub returns-in-Err : goal.returns-in-Err
 returns-in-Err g c =
-    let laws = g.met.K.Eq.laws in let so_far = c.loop-key.invariant in
+    let laws = g.met.K.Eq.laws in let so_far = c.loop-key.invariant.extended in
     let steps = c.in-Some.ensures.steps.0 in let refused = c.in-Err.ensures in
     record {
       answers = λ start log defines. (
@@ -29,4 +37,5 @@ returns-in-Err g c =
       );
       defines = λ start log defines. Defines-taken laws so_far steps defines refused.unchanged;
       hasher = ap (λ m. m.hasher) refused.unchanged ∙ so_far.hasher;
+      visit = MayEndVisit-trans c.loop-key.invariant.visit (inr (ap to_visit refused.unchanged));
     }

@@ -1,6 +1,8 @@
-use Rattle.std.proofs.Common.{sym, ap, ◌∙◌}
+use Rattle.std.proofs.Common.{sym, ap, ◌∙◌, inr}
+use Rattle.linked_hash_map.specs.Cursor.{to_visit}
 use Rattle.linked_hash_map.proofs.runs.Effects.{IsFull-contents, IsAbsent-found, IsAbsent-value}
 use Rattle.linked_hash_map.proofs.runs.Effects.{HasValue-value, Defines-put, Defines-nothing}
+use Rattle.linked_hash_map.proofs.runs.VisitEnds.{MayEndVisit-insert}
 use Rattle.linked_hash_map.proofs.replay.insert.Goals as goal
 
 pub returns-in-Ok-None : goal.returns-in-Ok-None
@@ -11,6 +13,7 @@ returns-in-Ok-None g c =
       defines = λ start log defines. Defines-put g.met.K.Eq.laws defines c.args.key c.args.value
           done.pairs done.capacity done.settings.mode;
       hasher = done.settings.hasher;
+      visit = MayEndVisit-insert c.in-Ok-None.field-0 done.ends_visit done.to_visit;
     }
 
 pub returns-in-Ok-Some : goal.returns-in-Ok-Some
@@ -21,6 +24,7 @@ returns-in-Ok-Some g c =
       defines = λ start log defines. Defines-put g.met.K.Eq.laws defines c.args.key c.args.value
           done.pairs done.capacity done.settings.mode;
       hasher = done.settings.hasher;
+      visit = MayEndVisit-insert c.in-Ok-Some.field-0 done.ends_visit done.to_visit;
     }
 
 pub returns-in-Err : goal.returns-in-Err
@@ -39,4 +43,5 @@ returns-in-Err g c =
           Defines-nothing g.met.K.Eq.laws defines (ap (λ m. m.pairs) refused.unchanged)
           (ap (λ m. m.capacity) refused.unchanged) (ap (λ m. m.mode) refused.unchanged);
       hasher = ap (λ m. m.hasher) refused.unchanged;
+      visit = inr (ap to_visit refused.unchanged);
     }

@@ -1,4 +1,5 @@
-use Rattle.std.proofs.Common.{rules, ◌≡◌, true, false, max, length, is_some, None, Some, option_map, sym, ap, ◌∙◌, arith, unwrap_or}
+use Rattle.std.proofs.Common.{rules, ◌≡◌, true, false, max, length, is_some, None, Some, option_map, sym, ap, ◌∙◌, arith, unwrap_or, inl, inr}
+use Rattle.linked_hash_map.specs.Cursor.{to_visit}
 use Rattle.linked_hash_map.specs.Changes.{set_or_pushed}
 use Rattle.linked_hash_map.specs.Pairs.{key_or, find, value_at, put, set_or_push}
 use Rattle.linked_hash_map.specs.Entry.{is_occupied, entry_map, entry_key}
@@ -36,6 +37,7 @@ returns-then-present g c =
       answers = λ start log defines. (HasValue-value g.met.K.Eq.laws defines k own).0;
       defines = λ start log defines. Defines-nothing g.met.K.Eq.laws defines pairs_stay room entry.keeps.mode;
       hasher = entry.keeps.hasher;
+      visit = inl (c.in-Ok.ensures.to_visit value ∙ ap to_visit (entry.ends_visit occupied));
     })
 
 pub returns-else-present : goal.returns-else-present
@@ -60,6 +62,7 @@ returns-else-present g c =
       defines = λ start log defines. Defines-put g.met.K.Eq.laws defines k c.args.value pushed
           (ap (λ n. max n (length left.pairs)) entry.keeps.capacity) entry.keeps.mode;
       hasher = entry.keeps.hasher;
+      visit = inr (c.in-Ok.ensures.to_visit value ∙ ap to_visit (entry.unchanged (entry.value ∙ ap (option_map (λ pair. pair.1)) absent)));
     })
 
 pub returns-in-Err : goal.returns-in-Err
@@ -83,4 +86,5 @@ returns-in-Err g c =
       defines = λ start log defines. Defines-nothing g.met.K.Eq.laws defines
           (ap (λ n. n.pairs) same_map) (ap (λ n. n.capacity) same_map) (ap (λ n. n.mode) same_map);
       hasher = ap (λ n. n.hasher) same_map;
+      visit = inr (ap to_visit same_map);
     })

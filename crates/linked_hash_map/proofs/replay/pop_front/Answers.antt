@@ -1,3 +1,4 @@
+use Rattle.std.proofs.Common.{inl}
 use Rattle.linked_hash_map.proofs.runs.Effects.{Defines-pop_front, slice_get-contents}
 use Rattle.linked_hash_map.proofs.replay.pop_front.Goals as goal
 
@@ -9,4 +10,5 @@ returns-in-Some g c =
       defines = λ start log defines. Defines-pop_front g.met.K.Eq.laws defines c.in-Some.key
           c.in-Some.value done.pair done.pairs done.keeps.capacity done.keeps.mode;
       hasher = done.keeps.hasher;
+      visit = inl done.ends_visit;
     }

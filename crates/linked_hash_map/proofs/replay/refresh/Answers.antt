@@ -1,4 +1,4 @@
-use Rattle.std.proofs.Common.{sym, refl}
+use Rattle.std.proofs.Common.{sym, refl, inl, inr}
 use Rattle.linked_hash_map.proofs.runs.Effects.{IsAbsent-value, HasValue-value, Defines-refresh, Defines-nothing}
 use Rattle.linked_hash_map.proofs.replay.refresh.Goals as goal
 
@@ -9,6 +9,7 @@ returns-in-Some g c =
       answers = λ start log defines. (HasValue-value g.met.K.Eq.laws defines c.args.key (sym found)).0;
       defines = λ start log defines. Defines-refresh g.met.K.Eq.laws defines c.args.key c.in-Some.field-0.now found refl refl refl;
       hasher = refl;
+      visit = inl refl;
     }
 
 pub returns : goal.returns
@@ -16,4 +17,5 @@ returns g c = record {
   answers = λ start log defines. IsAbsent-value g.met.K.Eq.laws defines c.args.key (sym c.in-None.ensures.value);
   defines = λ start log defines. Defines-nothing g.met.K.Eq.laws defines refl refl refl;
   hasher = refl;
+  visit = inr refl;
 }

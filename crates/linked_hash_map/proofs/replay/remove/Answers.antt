@@ -1,4 +1,4 @@
-use Rattle.std.proofs.Common.{sym, ◌∙◌}
+use Rattle.std.proofs.Common.{sym, ◌∙◌, inl, inr}
 use Rattle.linked_hash_map.proofs.pairs.Calls.{find-none, without-absent}
 use Rattle.linked_hash_map.proofs.runs.Effects.{IsAbsent-value, HasValue-value, Defines-remove, Defines-nothing}
 use Rattle.linked_hash_map.proofs.replay.remove.Goals as goal
@@ -10,6 +10,7 @@ returns-in-Some g c =
       answers = λ start log defines. HasValue-value g.met.K.Eq.laws defines c.args.key (sym done.value);
       defines = λ start log defines. Defines-remove g.met.K.Eq.laws defines c.args.key done.pairs done.keeps.capacity done.keeps.mode;
       hasher = done.keeps.hasher;
+      visit = inl done.ends_visit;
     }
 
 pub returns : goal.returns
@@ -21,4 +22,5 @@ returns g c =
       answers = λ start log defines. IsAbsent-value g.met.K.Eq.laws defines c.args.key (sym done.value);
       defines = λ start log defines. Defines-nothing g.met.K.Eq.laws defines (done.pairs ∙ same) done.keeps.capacity done.keeps.mode;
       hasher = done.keeps.hasher;
+      visit = inr done.to_visit;
     }

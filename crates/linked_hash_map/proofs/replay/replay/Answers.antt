@@ -1,8 +1,9 @@
-use Rattle.std.proofs.Common.{refl, ◌∷◌, [], ◌∙◌, sym, subst, map-id, arith, length-append}
+use Rattle.std.proofs.Common.{refl, ◌∷◌, [], ◌∙◌, sym, subst, map-id, arith, length-append, inr}
 use Rattle.std.proofs.lemmas.Iterator.Adapters.{YieldsList-from_vec}
 use Rattle.std.proofs.lemmas.Iterator.Consumers.{YieldsList-end}
 use Rattle.linked_hash_map.specs.Run.{Replayed, first_log, last_log}
 use Rattle.linked_hash_map.proofs.runs.Steps.{IsRun-snoc, last_log-snoc, Defines-first_log}
+use Rattle.linked_hash_map.proofs.runs.VisitEnds.{MayEndVisit-trans}
 use Rattle.linked_hash_map.proofs.replay.replay.Goals as goal
 
 pub loop-command-init : goal.loop-command-init
@@ -11,6 +12,7 @@ loop-command-init g c = record {
   defines = Defines-first_log g.met.K.Eq.laws c.args.map.now.mode c.args.map.now.pairs
       c.args.map.now.capacity c.allocator.ensures.valid.distinct c.allocator.ensures.valid.within;
   hasher = refl;
+  visit = inr refl;
   valid = c.allocator.ensures.valid;
   count = c.in-Ok.ensures.len;
   room = let exact = c.in-Ok.ensures.exact in let len = c.len.ensures in let of_commands = c.args.commands.ok.0 in omega arith;
@@ -29,6 +31,7 @@ loop-command-preserved g c =
           c.loop-command.yielded replies i.run (c.reply_to.ensures.reply start log i.defines));
       defines = rw (c.push_reserved.ensures.items, last) (c.reply_to.ensures.defines start log i.defines);
       hasher = c.reply_to.ensures.hasher ∙ i.hasher;
+      visit = MayEndVisit-trans i.visit c.reply_to.ensures.visit;
       valid = c.reply_to.ensures.stays_valid;
       count = let l = length-append c.loop-command.yielded (command ∷ []) in
           let n = c.push_reserved.ensures.len in let k = i.count in

@@ -1,4 +1,4 @@
-use Rattle.std.proofs.Common.{Err, ap, arith}
+use Rattle.std.proofs.Common.{Err, ap, arith, inr}
 use Rattle.linked_hash_map.proofs.runs.Effects.{size-contents, Defines-reserve, Defines-nothing}
 use Rattle.linked_hash_map.proofs.replay.reserve.Goals as goal
 
@@ -11,6 +11,7 @@ returns-in-Ok g c =
           omega arith;
       defines = λ start log defines. Defines-reserve g.met.K.Eq.laws defines c.args.additional done.pairs done.capacity done.settings.mode;
       hasher = done.settings.hasher;
+      visit = inr done.to_visit;
     }
 
 pub returns-in-Err-TooLarge : goal.returns-in-Err-TooLarge
@@ -25,6 +26,7 @@ returns-in-Err-TooLarge g c =
           Defines-nothing g.met.K.Eq.laws defines (ap (λ m. m.pairs) refused.unchanged)
           (ap (λ m. m.capacity) refused.unchanged) refused.settings.mode;
       hasher = refused.settings.hasher;
+      visit = inr refused.to_visit;
     }
 
 pub returns-in-Err-NoRoom : goal.returns-in-Err-NoRoom
@@ -40,4 +42,5 @@ returns-in-Err-NoRoom g c =
           Defines-nothing g.met.K.Eq.laws defines (ap (λ m. m.pairs) refused.unchanged)
           (ap (λ m. m.capacity) refused.unchanged) refused.settings.mode;
       hasher = refused.settings.hasher;
+      visit = inr refused.to_visit;
     }

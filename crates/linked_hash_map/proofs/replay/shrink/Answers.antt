@@ -1,4 +1,4 @@
-use Rattle.std.proofs.Common.{ap, arith}
+use Rattle.std.proofs.Common.{ap, arith, inr}
 use Rattle.linked_hash_map.proofs.runs.Effects.{size-contents, Defines-shrink, Defines-nothing}
 use Rattle.linked_hash_map.proofs.replay.shrink.Goals as goal
 
@@ -9,6 +9,7 @@ returns-in-Ok g c =
       answers = λ start log defines. tt;
       defines = λ start log defines. Defines-shrink g.met.K.Eq.laws defines done.pairs done.capacity done.settings.mode;
       hasher = done.settings.hasher;
+      visit = inr done.to_visit;
     }
 
 pub returns-in-Err : goal.returns-in-Err
@@ -24,4 +25,5 @@ returns-in-Err g c =
           Defines-nothing g.met.K.Eq.laws defines (ap (λ m. m.pairs) refused.unchanged)
           (ap (λ m. m.capacity) refused.unchanged) refused.settings.mode;
       hasher = refused.settings.hasher;
+      visit = inr refused.to_visit;
     }

@@ -1,5 +1,6 @@
-use Rattle.std.proofs.Common.{sym, ap, ◌∙◌, refl, Some}
+use Rattle.std.proofs.Common.{sym, ap, ◌∙◌, refl, Some, inr, take, drop}
 use Rattle.linked_hash_map.specs.Pairs.{set_value}
+use Rattle.linked_hash_map.proofs.Callers.Keys.{keys_of-set_value}
 use Rattle.linked_hash_map.proofs.runs.Effects.{IsAbsent-value, HasValue-value, Defines-write, Defines-nothing}
 use Rattle.linked_hash_map.proofs.replay.write.Goals as goal
 
@@ -12,6 +13,7 @@ returns-in-Some g c = record {
       (ap (set_value g.K.PartialEq.eq c.args.map.now.pairs c.args.key) c.replace.ensures.after) refl
       refl;
   hasher = refl;
+  visit = inr (ap (λ ks. take c.args.map.now.cursor.unvisited (drop c.args.map.now.cursor.bookmark ks)) (keys_of-set_value g.K.PartialEq.eq c.args.map.now.pairs c.args.key _));
 }
 
 pub returns-in-None : goal.returns-in-None
@@ -19,4 +21,5 @@ returns-in-None g c = record {
   answers = λ start log defines. (IsAbsent-value g.met.K.Eq.laws defines c.args.key (sym c.in-None.ensures.value), refl, refl);
   defines = λ start log defines. Defines-nothing g.met.K.Eq.laws defines refl refl refl;
   hasher = refl;
+  visit = inr refl;
 }
