@@ -10,14 +10,14 @@ use std::process::Abort;
 fn refused_entries_drop_nothing(rt: HostRuntime) {
     let tally = Tally::new();
     let given = insert_by_entries(&rt, &tally, LinkedHashMap::new(rt.alloc()));
-    say_if_given(&rt, given, 12);
+    say_if_given(&rt, given, 11);
 }
 
 /// Inserts four keys into an empty map, each by another call, and tells whether each growth was
 /// given.
 fn insert_by_entries<'a>(rt: &impl Abort, tally: &'a Tally, mut map: CountedMap<'a>) -> bool {
     // The growths: buckets, a filter, a list of chunks and a chunk; buckets, a filter and a chunk,
-    // twice; a chunk.
+    // twice.
     let refused = or_insert(rt, tally, &mut map);
     let refused = insert_vacant(rt, tally, &mut map, refused);
     let refused = or_insert_with(rt, tally, &mut map, refused);
