@@ -17,6 +17,7 @@ mod collections;
 mod drops;
 mod extensions;
 mod insertions;
+mod once;
 mod replays;
 mod rings;
 mod sessions;

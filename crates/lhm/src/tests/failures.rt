@@ -5,6 +5,7 @@ use super::support::checks::{check_eq, given};
 use super::support::fakes::{FEW_WRITTEN, NEVER, Output, Sink, Source};
 use crate::run;
 use std::alloc::{AllocError, Global};
+use std::io::ErrorKind;
 use std::process::Abort;
 
 /// An input that fills the buffer of a read several times, and the output of its run.
@@ -83,6 +84,79 @@ fn check_each_interrupted(rt: &impl Abort, alloc: Global) {
 #[test]
 fn interrupted_reads_are_tried_again(rt: HostRuntime) {
     check_each_interrupted(&rt, rt.alloc());
+}
+
+/// The kinds of errors, except that of a call that is tried again.
+const KINDS: [ErrorKind; 41] = [
+    ErrorKind::NotFound,
+    ErrorKind::PermissionDenied,
+    ErrorKind::ConnectionRefused,
+    ErrorKind::ConnectionReset,
+    ErrorKind::HostUnreachable,
+    ErrorKind::NetworkUnreachable,
+    ErrorKind::ConnectionAborted,
+    ErrorKind::NotConnected,
+    ErrorKind::AddrInUse,
+    ErrorKind::AddrNotAvailable,
+    ErrorKind::NetworkDown,
+    ErrorKind::BrokenPipe,
+    ErrorKind::AlreadyExists,
+    ErrorKind::WouldBlock,
+    ErrorKind::NotADirectory,
+    ErrorKind::IsADirectory,
+    ErrorKind::DirectoryNotEmpty,
+    ErrorKind::ReadOnlyFilesystem,
+    ErrorKind::FilesystemLoop,
+    ErrorKind::StaleNetworkFileHandle,
+    ErrorKind::InvalidInput,
+    ErrorKind::InvalidData,
+    ErrorKind::TimedOut,
+    ErrorKind::WriteZero,
+    ErrorKind::StorageFull,
+    ErrorKind::NotSeekable,
+    ErrorKind::QuotaExceeded,
+    ErrorKind::FileTooLarge,
+    ErrorKind::ResourceBusy,
+    ErrorKind::ExecutableFileBusy,
+    ErrorKind::Deadlock,
+    ErrorKind::CrossesDevices,
+    ErrorKind::TooManyLinks,
+    ErrorKind::InvalidFilename,
+    ErrorKind::ArgumentListTooLong,
+    ErrorKind::Unsupported,
+    ErrorKind::UnexpectedEof,
+    ErrorKind::OutOfMemory,
+    ErrorKind::InProgress,
+    ErrorKind::Other,
+    ErrorKind::Uncategorized,
+];
+
+/// Checks that a run ends at a read and at a write or a flush that fails by an error of a kind, and
+/// makes no further one, though it would work: the output is written by one call and flushed by
+/// another.
+fn check_kind(rt: &impl Abort, alloc: Global, kind: ErrorKind, fails_at: usize) {
+    let mut reader = Source::new(b"insert 1 10\n");
+    reader.calls.fail(fails_at, kind);
+    let mut writer = Output::new(alloc, usize::MAX, NEVER);
+    let status = run(alloc, &mut reader, &mut writer, &mut Sink::new());
+    check_eq!(rt; (status, reader.calls.made, writer.calls.made), (4, fails_at, 0));
+    let mut whole = Source::new(b"insert 1 10\n");
+    writer.calls.fail(fails_at, kind);
+    let status = run(alloc, &mut whole, &mut writer, &mut Sink::new());
+    check_eq!(rt; (status, writer.calls.made), (4, fails_at));
+}
+
+/// Checks each kind at the first call and at the second.
+fn check_kinds(rt: &impl Abort, alloc: Global) {
+    for kind in KINDS {
+        check_kind(rt, alloc, kind, 1);
+        check_kind(rt, alloc, kind, 2);
+    }
+}
+
+#[test]
+fn errors_of_each_kind_end_a_run(rt: HostRuntime) {
+    check_kinds(&rt, rt.alloc());
 }
 
 /// A call of a writer at which it fails, how many bytes it has taken by then, and the status and

@@ -83,20 +83,43 @@ fn grow_by_one(rt: &(impl Abort + Print + AllocGlobal), made: Result<Ring<char, 
 fn grow_six_times(rt: &impl Abort, ring: &mut Ring<char, u64>) -> bool {
     let mut given = true;
     for spares in 3..9 {
-        given &= grow_or_grow_again(rt, ring, spares);
+        given &= grow_or_grow_again(rt, ring, spares, 6);
     }
     given
 }
 
-/// Makes one more node spare, twice if it is refused, which changes nothing. Tells whether it
-/// was given at once.
-fn grow_or_grow_again(rt: &impl Abort, ring: &mut Ring<char, u64>, spares: usize) -> bool {
+/// Makes one more node spare, twice if it is refused, which changes nothing, in chunks that make
+/// at most `most` nodes in all, if that can be. Tells whether it was given at once.
+fn grow_or_grow_again(
+    rt: &impl Abort,
+    ring: &mut Ring<char, u64>,
+    spares: usize,
+    most: usize,
+) -> bool {
     check!(rt; is_ring(ring, &[], spares));
-    let given = ring.grow_within(1, 6).is_ok();
+    let given = ring.grow_within(1, most).is_ok();
     if !given {
         check!(rt; is_ring(ring, &[], spares));
         // There is memory again.
-        check!(rt; ring.grow_within(1, 6).is_ok());
+        check!(rt; ring.grow_within(1, most).is_ok());
+    }
+    given
+}
+
+#[test]
+fn refused_growth_of_many_chunks_is_asked_for_again(rt: HostRuntime) {
+    let mut ring = Ring::new(rt.alloc());
+    // The growths: 18 chunks of one node; a list of chunks for the first, the fifth, the ninth and
+    // the 17th.
+    let given = grow_one_by_one(&rt, &mut ring);
+    say_if_given(&rt, given, 23);
+}
+
+/// Makes nodes spare one by one, in chunks of one. Tells whether none was refused.
+fn grow_one_by_one(rt: &impl Abort, ring: &mut Ring<char, u64>) -> bool {
+    let mut given = true;
+    for spares in 0..18 {
+        given &= grow_or_grow_again(rt, ring, spares, 0);
     }
     given
 }

@@ -134,6 +134,11 @@ fn retain(rt: &impl Abort, table: &mut Table) {
     assert_sessions(rt, table, &[(1, 4, "a"), (3, 5, "d")], 9);
     table.retain(|id, _weight, _payload| id == 3);
     assert_sessions(rt, table, &[(3, 5, "d")], 5);
+    // The last goes, and then there is none.
+    check_eq!(rt; (table.remove(3), table.remove(3)), (Some("d"), None));
+    table.retain(|_id, _weight, _payload| true);
+    check_eq!(rt; table.touch(3).copied(), None);
+    assert_sessions(rt, table, &[], 0);
 }
 
 #[test]

@@ -6,6 +6,7 @@
 
 mod commands;
 mod entries;
+mod lengths;
 mod making;
 mod reading;
 mod writing;

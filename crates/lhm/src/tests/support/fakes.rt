@@ -38,8 +38,13 @@ impl Calls {
 
     /// Makes a call fail as one that is interrupted.
     pub fn interrupt(&mut self, fails_at: usize) {
+        self.fail(fails_at, ErrorKind::Interrupted);
+    }
+
+    /// Makes a call fail by an error of a kind. The calls behind it work again.
+    pub fn fail(&mut self, fails_at: usize, kind: ErrorKind) {
         self.fails_at = fails_at;
-        self.kind = ErrorKind::Interrupted;
+        self.kind = kind;
     }
 
     /// Counts a call, and fails if it is the one that is to fail.
