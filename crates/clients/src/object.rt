@@ -55,7 +55,6 @@ impl<V> Object<V> {
     }
 
     /// Removes a member and returns its value. The others keep their order.
-    #[tactic(auto, using(linked_hash_map::proofs::Callers::Rules::text_keys))]
     pub fn remove(&mut self, name: &String) -> Option<V>
         ensures value { result ≡ value_at string_eq self.old.members.pairs name.now }
         ensures written { Updates string_eq self.old.members.pairs self.new.members.pairs name.now None }

@@ -10,11 +10,10 @@ overflow_add-count g c = let bound = CountsKnown-fits g.met.K.Eq.laws c.args.ite
 
 pub loop-item-preserved : goal.loop-item-preserved
 loop-item-preserved g c = elim c.match-get_mut.branch [
-  | in-Some w ↦ let n = w.in-Some.count.now in let had = w.in-Some.ensures in
-      let counted = CountsKnown-counted g.met.K.Eq.laws c.args.items.now c.loop-item.item-index c.loop-item.invariant
-      (search rules) c.item-item.is n (sym had.value) (had.updates (n + 1)) in
-      search (rules, w.counts-is, counted)
+  | in-Some w ↦ let n = w.in-Some.count.now in let written = w.in-Some.ensures.updates (n + 1) in
+      CountsKnown-counted g.met.K.Eq.laws c.args.items.now c.loop-item.item-index c.loop-item.invariant (search rules)
+      c.item-item.is n (search rules) (search (rules, w.counts-is, written))
   | in_default w ↦ let absent = CountsKnown-absent g.met.K.Eq.laws c.args.items.now c.loop-item.item-index
-      c.loop-item.invariant (search rules) c.item-item.is (sym w.in_default.ensures.value) in
+      c.loop-item.invariant (search rules) c.item-item.is (search rules) in
       search (rules, w.counts-is, absent)
 ]
