@@ -1,6 +1,8 @@
 //! An object: members with names, in order.
 ghost use Rattle.std.specs.Prelude.{◌≡◌, ◌∷◌, ◌++◌, [], Some, None, IsSome, filter, is_some, not, option_copied, string_eq, IfOk, IfErr, OnOk, OnErr};
 ghost use Rattle.std.specs.Map.{keys_of};
+ghost use Rattle.std.specs.Str.{bytes_eq};
+ghost use Rattle.std.specs.String.{string_bytes};
 ghost use Rattle.linked_hash_map.specs.Pairs.{find, value_at};
 ghost use Rattle.linked_hash_map.specs.Updates.{Updates};
 ghost use Rattle.linked_hash_map.specs.declared.map.Mode.{Mode};
@@ -25,9 +27,10 @@ impl<V> Object<V> {
         Object { members }
     }
 
-    /// Returns the value of a member.
-    pub fn get(&self, name: &String) -> Option<&V>
-        ensures { option_copied result ≡ value_at string_eq self.now.members.pairs name.now }
+    /// Returns the value of a member, by its name as a text.
+    pub fn get(&self, name: &str) -> Option<&V>
+        ensures { option_copied result ≡ value_at (λ text key. bytes_eq text (string_bytes key))
+            self.now.members.pairs name.now }
     {
         self.members.get(name)
     }
