@@ -74,9 +74,11 @@ fn insert_all(rt: &(impl Abort + Print), full: &mut Vec<u64>, map: &mut Map) -> 
 
 /// Inserts pairs that there are nodes for, up to a number of pairs.
 fn fill(rt: &impl Abort, map: &mut Map, len: u8) {
-    while map.len() < usize::from(len) {
-        let key = map.len() as u8;
-        insert_new(rt, map, &[(key.saturating_add(100), 0)]);
+    for _ in 0..len {
+        if map.len() < usize::from(len) {
+            let key = map.len() as u8;
+            insert_new(rt, map, &[(key.saturating_add(100), 0)]);
+        }
     }
 }
 
@@ -90,8 +92,13 @@ fn insert_by(map: &mut Map, call: u8, key: u8) -> Result<(), Refused<u8, u64>> {
         3 => or_default(map, key).map(|_value| ()),
         4 => insert_vacant(map, key),
         5 => map.extend([(key, 0)]),
-        _ => map.extend_refs([(&key, &0)]),
+        _ => extend_refs(map, key),
     }
+}
+
+fn extend_refs(map: &mut Map, key: u8) -> Result<(), Refused<u8, u64>> {
+    let value = 0;
+    map.extend_refs([(&key, &value)])
 }
 
 fn insert_vacant(map: &mut Map, key: u8) -> Result<(), Refused<u8, u64>> {
