@@ -5,7 +5,7 @@ use super::support::calls::{
 use super::support::checks::{check, check_eq, given};
 use super::{assert_pairs, map_of};
 use linked_hash_map::replay::{Command, replay};
-use linked_hash_map::{Entry, LinkedHashMap};
+use linked_hash_map::{Entry, LinkedHashMap, Refused};
 use std::alloc::Global;
 use std::fmt::Debug;
 use std::hash::Hash;
@@ -173,12 +173,17 @@ fn insert_zero(
             given!(rt; map.entry(key).or_default());
         }
         Insertion::Extend => given!(rt; map.extend([(key, 0)])),
-        Insertion::ExtendRefs => given!(rt; map.extend_refs([(&key, &0)])),
+        Insertion::ExtendRefs => given!(rt; extend_refs(map, key)),
         Insertion::Replay => {
             let commands = given!(rt; vec![in alloc; Command::Insert(key, 0)]);
             given!(rt; replay(map, commands));
         }
     }
+}
+
+fn extend_refs(map: &mut LinkedHashMap<u64, u64>, key: u64) -> Result<(), Refused<u64, u64>> {
+    let value = 0;
+    map.extend_refs([(&key, &value)])
 }
 
 /// Checks how many pairs are left to visit once a key went in, in each way, after the first of
