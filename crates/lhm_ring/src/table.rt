@@ -1,5 +1,5 @@
 //! Pairs in insertion order with a hash index of their keys.
-ghost use Rattle.std.specs.Prelude.{◌≡◌, ◌+◌, ◌<◌, ◌≤◌, ◌^◌, ◌++◌, ◌∷◌, [], length, map, None, IfOk, IsOk, IfSome, IfNone, OnSome, IsTrue, IsFalse};
+ghost use Rattle.std.specs.Prelude.{◌≡◌, ◌+◌, ◌-◌, ◌<◌, ◌≤◌, ◌^◌, ◌++◌, ◌∷◌, [], length, take, drop, map, None, IfOk, IsOk, IfSome, IfNone, OnSome, IsTrue, IsFalse};
 ghost use Rattle.lhm_ring.specs.Nodes.{IsApart};
 ghost use Rattle.lhm_ring.specs.Ring.{IsHeld, AtHeld, first_at, last_at, held, pair};
 ghost use Rattle.lhm_ring.specs.Pointer.{pointer_of, pointer_of_some};
@@ -207,6 +207,46 @@ impl<K, V> Table<K, V> {
         ensures apart { IsApart (map (λ t. t.at) self.old.held) }
     {
         self.ring.move_to_front(at);
+    }
+
+    /// Moves the front pair to the back, so many times.
+    fn move_fronts(&mut self, count: usize)
+        requires { count ≤ length self.old.held }
+        ensures rotated { self.new.held ≡ drop count self.old.held ++ take count self.old.held }
+        ensures keeps { KeepsCounts self.old self.new }
+    {
+        for _moved in 0..count {
+            let front = self.first().unwrap();
+            self.move_to_back(front);
+        }
+    }
+
+    /// Moves the back pair to the front, so many times.
+    fn move_backs(&mut self, count: usize)
+        requires { count ≤ length self.old.held }
+        ensures rotated { self.new.held ≡ drop (length self.old.held - count) self.old.held
+            ++ take (length self.old.held - count) self.old.held }
+        ensures keeps { KeepsCounts self.old self.new }
+    {
+        for _moved in 0..count {
+            let back = self.last().unwrap();
+            self.move_to_front(back);
+        }
+    }
+
+    /// Moves the first `count` pairs behind the others, in order, in O(min(count, len - count)).
+    /// Positions stay.
+    pub fn rotate_left(&mut self, count: usize)
+        requires { count ≤ length self.old.held }
+        ensures rotated { self.new.held ≡ drop count self.old.held ++ take count self.old.held }
+        ensures keeps { KeepsCounts self.old self.new }
+    {
+        let others = self.len() - count;
+        if count <= others {
+            self.move_fronts(count);
+        } else {
+            self.move_backs(others);
+        }
     }
 
     /// Inserts a pair at the back and returns its position.
