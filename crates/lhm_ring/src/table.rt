@@ -1,7 +1,7 @@
 //! Pairs in insertion order with a hash index of their keys.
 ghost use Rattle.std.specs.Prelude.{◌≡◌, ◌+◌, ◌-◌, ◌<◌, ◌≤◌, ◌^◌, ◌++◌, ◌∷◌, [], length, take, drop, map, None, IfOk, IsOk, IfSome, IfNone, OnSome, IsTrue, IsFalse};
 ghost use Rattle.lhm_ring.specs.Nodes.{IsApart};
-ghost use Rattle.lhm_ring.specs.Ring.{IsHeld, AtHeld, first_at, last_at, held, pair};
+ghost use Rattle.lhm_ring.specs.Ring.{IsHeld, AtHeld, first_at, last_at, held, pair, rekeyed};
 ghost use Rattle.lhm_ring.specs.Pointer.{pointer_of, pointer_of_some};
 ghost use Rattle.lhm_ring.specs.Index.{spots, entries};
 ghost use Rattle.lhm_ring.specs.Search.{HasKey, IsAbsent, CountsSome, CountsAll, CountsFiltered};
@@ -186,6 +186,18 @@ impl<K, V> Table<K, V> {
         ensures alone { WritesOnly self.old.held (pointer_of at) }
     {
         self.ring.value_mut(at)
+    }
+
+    /// Replaces the key at a position and returns the old one. The hash stays: callers give a key
+    /// with the same.
+    pub fn replace_key(&mut self, at: Position<K, V>, key: K) -> K
+        requires { IsHeld self.old.held (pointer_of at) }
+        ensures held { AtHeld self.old.held (pointer_of at) (λ xs t ys.
+            self.new.held ≡ xs ++ rekeyed key t ∷ ys) }
+        ensures old { AtHeld self.old.held (pointer_of at) (λ xs t ys. result ≡ t.pair.0) }
+        ensures keeps { KeepsCounts self.old self.new }
+    {
+        self.ring.replace_key(at, key)
     }
 
     /// Moves the pair at a position to the back. Positions stay.

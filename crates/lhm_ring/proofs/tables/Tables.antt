@@ -10,11 +10,11 @@ use Rattle.lhm_ring.proofs.indexes.BucketCounts.{buckets-raised, buckets-below, 
 use Rattle.lhm_ring.proofs.indexes.Entries.{AtHeld-entries, IsHeld-entries, entries-append}
 use Rattle.lhm_ring.proofs.indexes.Entries.{entries-change_at, first_at-entries, length-entries}
 use Rattle.lhm_ring.proofs.indexes.Entries.{length-same_entries, pointers-entries, triples-entries}
-use Rattle.lhm_ring.proofs.indexes.IndexMoves.{spots-value, PutsIn-last}
+use Rattle.lhm_ring.proofs.indexes.IndexMoves.{spots-value, spots-rekeyed, PutsIn-last}
 use Rattle.lhm_ring.proofs.indexes.Spots.{PutsIn-spots}
-use Rattle.lhm_ring.proofs.tables.IndexedRing.{IsIndexed-value, IsIndexed-moved}
+use Rattle.lhm_ring.proofs.tables.IndexedRing.{IsIndexed-value, IsIndexed-same_spots, IsIndexed-moved}
 use Rattle.lhm_ring.specs.Nodes.{IsApart}
-use Rattle.lhm_ring.specs.Ring.{Held, State, state, IsHeld, AtHeld, ChangesOnly, linked_to, first_at, change_at, triples, revalued}
+use Rattle.lhm_ring.specs.Ring.{Held, State, state, IsHeld, AtHeld, ChangesOnly, linked_to, first_at, change_at, triples, revalued, rekeyed}
 use Rattle.lhm_ring.specs.RingAfterLoan.{with_value}
 use Rattle.lhm_ring.specs.Index.{Indexes, PutsIn, spot, spots, same, entries, HoldsOthers}
 use Rattle.lhm_ring.specs.Buckets.{BucketState, buckets, rechained_raised, made_raised}
@@ -119,6 +119,26 @@ module _ {K V : Type 0} {i : BucketState} {s : State (K × V)} {r : ℕ} (table 
         limit = omega (arith, count, table.limit);
         nodes_within = table.nodes_within;
       }
+
+  -- a key was written
+  module _ (t : State (K × V)) {p : Ptr} (k : K) (h : IsHeld s.held p)
+      (is : AtHeld s.held p (λ xs x ys. t.held ≡ xs ++ rekeyed k x ∷ ys)) where
+    spots_rekeyed : spots t.held ≡ spots s.held
+    spots_rekeyed = ap spots (is h.before h.node h.after h.is h.at_is)
+        ∙ spots-rekeyed k h.before h.node h.after ∙ ap spots (sym h.is)
+
+    pub length-rekeyed : length t.held ≡ length s.held
+    length-rekeyed = sym (length-map t.held spot) ∙ ap length spots_rekeyed ∙ length-map s.held spot
+
+    pub IsTable-rekeyed : t.spares ≡ s.spares → t.nodes ≡ s.nodes → IsTable i t r
+    IsTable-rekeyed spares made =
+        let long = length-rekeyed in
+        record {
+          indexed = IsIndexed-same_spots i s t table.indexed spares spots_rekeyed;
+          few = table.few;
+          limit = omega (arith, long, spares, table.limit);
+          nodes_within = omega (arith, made, table.nodes_within);
+        }
 
   -- a pair was moved: to the back, or to the front
   IsTable-moved : {t : State (K × V)} {p : Ptr} (h : IsHeld s.held p)
