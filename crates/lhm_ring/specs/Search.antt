@@ -33,8 +33,8 @@ pub record CountsSome (xs : List Spot) (n hash visited compared : ℕ) : Type 0 
   pub order : compared ≤ visited
   pub visited_few : visited ≤ beside xs n hash
 
--- the counts of one that found nothing and may have asked the filter first: it compared as many keys,
--- and read all nodes of the bucket or none
+-- the counts of one that found nothing and may have asked the filter first: it compared as many
+-- keys, and read all nodes of the bucket or none
 pub record CountsFiltered (xs : List Spot) (n hash visited compared : ℕ) : Type 0 where
   pub compared_all : compared ≡ same xs hash
   pub order : compared ≤ visited

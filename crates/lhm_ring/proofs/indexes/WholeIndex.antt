@@ -70,8 +70,8 @@ HasChains-take_first {heads} b s rest ys {xs} h l linked holds p =
     HasChains-set heads b s.link ys l (record { chain = rest; linked = linked.1; holds = less })
     (λ c m ne. HasChain-other_removed s ys xs (h.chains c m) (is_in-other n b c s t.passes ne) p)
 
--- on the chain of bucket b comes y, and then s; xs' has y' in place of y, which is linked past s; and ys
--- are these without s
+-- on the chain of bucket b comes y, and then s; xs' has y' in place of y, which is linked past s;
+-- and ys are these without s
 pub record IsLinkedPast (heads : List (Option Ptr)) (b : ℕ) (xs xs' ys : List Spot) : Type 0 where
   pub done : List Spot
   pub y : Spot
