@@ -1,10 +1,10 @@
 //! Maps with text as keys.
-ghost use Rattle.std.specs.Prelude.{List, ℕ, ◌≡◌, ◌≤◌, ◌+◌, Some, length, reverse, string_eq, unwrap_or, IfOk, IfErr, OnOk};
+ghost use Rattle.std.specs.Prelude.{List, ℕ, ◌≡◌, ◌≤◌, ◌+◌, Some, length, reverse, string_eq, unwrap_or, IfOk, IfErr, OnOk, IsSome};
 ghost use Rattle.std.specs.Borrow.{Bor};
 ghost use Rattle.std.specs.Option.{option_or};
 ghost use Rattle.std.specs.Str.{bytes_eq};
 ghost use Rattle.std.specs.String.{string_bytes};
-ghost use Rattle.linked_hash_map.specs.Pairs.{value_at};
+ghost use Rattle.linked_hash_map.specs.Pairs.{find, value_at};
 ghost use Rattle.linked_hash_map.proofs.Callers.Texts.{same_text};
 
 use crate::collecting::insert_all;
@@ -23,6 +23,16 @@ pub fn age_by_text(ages: &LinkedHashMap<String, u64>, name: &str) -> Option<u64>
         ages.now.pairs name.now }
 {
     ages.get(name).copied()
+}
+
+/// Returns the age of a person who is known, by a text.
+pub fn known_age(ages: &LinkedHashMap<String, u64>, name: &str) -> u64
+    requires { IsSome (find (λ text key. bytes_eq text (string_bytes key))
+        ages.now.pairs name.now) }
+    ensures { value_at (λ text key. bytes_eq text (string_bytes key)) ages.now.pairs name.now
+        ≡ Some result }
+{
+    ages[name]
 }
 
 /// Makes the age of a person one more, by a text, and makes the person the one used last. Returns

@@ -336,7 +336,7 @@ impl<K: Eq + Hash, V, S: BuildHasher> LinkedHashMap<K, V, S> {
 }
 
 /// `map[&key]`, in O(1), for a key that is proved present: the original panics on others. Hashes it
-/// once.
+/// once. A `String` key is found by `map["name"]` too.
 ///
 /// # Examples
 ///
@@ -347,14 +347,14 @@ impl<K: Eq + Hash, V, S: BuildHasher> LinkedHashMap<K, V, S> {
 ///     assert_eq!(rt; map[&'x'], 1);
 /// }
 /// ```
-impl<'q, K: Eq + Hash, V, S: BuildHasher> Index<&'q K> for LinkedHashMap<K, V, S> {
+impl<K: Eq + Hash, V, S: BuildHasher, Q: Equivalent<K>> Index<Q> for LinkedHashMap<K, V, S> {
     type Output = V;
 
-    ghost can_index = { λ m key. IsSome (find K.eq m.pairs key.now) };
+    ghost can_index = { λ m key. IsSome (find Q.equivalent m.pairs key) };
 
-    ghost index_gives = { λ m key value. value_at K.eq m.pairs key.now ≡ Some value };
+    ghost index_gives = { λ m key value. value_at Q.equivalent m.pairs key ≡ Some value };
 
-    fn index(&self, key: &'q K) -> &V {
+    fn index(&self, key: Q) -> &V {
         self.get(key).unwrap()
     }
 }

@@ -81,6 +81,9 @@ fn look_lent_texts_up(rt: &impl Abort, alloc: Global) {
     given!(rt; map.insert("a", 1));
     check_eq!(rt; (map.get(&"a"), map.get("a"), map.get(&"b")), (Some(&1), Some(&1), None));
     check_eq!(rt; map.get_refresh(&"a"), Some(&mut 1));
+    if map.contains_key("a") && map.contains_key(&"a") {
+        check_eq!(rt; (map["a"], map[&"a"]), (1, 1));
+    }
     check_eq!(rt; (map.remove_entry("a"), map.remove(&"a")), (Some(("a", 1)), None));
 }
 
@@ -98,6 +101,9 @@ fn two_texts(alloc: Global) -> Result<LinkedHashMap<String, u64>, AllocError> {
 fn look_texts_up(rt: &impl Abort, map: &mut LinkedHashMap<String, u64>, text: &str) {
     check_eq!(rt; (map.get("a"), map.get(text)), (Some(&1), None));
     check_eq!(rt; map.get_refresh("a"), Some(&mut 1));
+    if map.contains_key("a") {
+        check_eq!(rt; map["a"], 1);
+    }
     check_eq!(rt; map.back().map(|(key, _)| key.as_str()), Some("a"));
     check_eq!(rt; map.get_mut("b"), Some(&mut 1));
     check_eq!(rt; (map.remove("b"), map.remove("b")), (Some(1), None));
