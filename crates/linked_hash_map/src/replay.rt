@@ -16,11 +16,12 @@
 //! assert_eq!(rt; replies.next().map(|reply| reply.answer), Some(Answer::Pair('x', 1)));
 //! assert_eq!(rt; (map.len(), map.capacity()), (0, 1));
 //! ```
-ghost use Rattle.std.specs.Prelude.{◌≡◌, ℕ, [], IfOk, IfErr, OnErr, IsOk};
+ghost use Rattle.std.specs.Prelude.{◌≡◌, ℕ, [], length, IfOk, IfErr, OnErr, IsOk};
 ghost use Rattle.linked_hash_map.specs.Log.{Log, mode, pairs, high, Defines};
 ghost use Rattle.linked_hash_map.specs.Validity.{IsValid};
 ghost use Rattle.linked_hash_map.specs.AllowedAnswers.{log_after};
 ghost use Rattle.linked_hash_map.specs.Run.{first_log, last_log, MayEndVisit, Serves, IsReply, IsRun, Replayed};
+ghost use Rattle.linked_hash_map.specs.Rehashes.{rechained_after, rechained_after_all};
 
 use crate::entry::Entry;
 use crate::error::{NoRoom, ReserveError};
@@ -379,6 +380,10 @@ fn reply_to<K: Eq + Hash + Drop, V: Drop, S: BuildHasher>(
         → Defines K.eq start (log_after K.eq log command result.answer) map.new.pairs
         map.new.capacity map.new.mode }
     ensures hasher { map.new.hasher ≡ map.old.hasher }
+    ensures rechained { map.new.rechained ≡ rechained_after command map.old.rechained
+        (length map.old.pairs) map.old.capacity result.capacity }
+    ensures len { result.len ≡ length map.new.pairs }
+    ensures capacity { result.capacity ≡ map.new.capacity }
     ensures visit { MayEndVisit map.old map.new }
     ensures stays_valid { IsValid K.eq map.new }
 {
@@ -418,6 +423,10 @@ pub fn replay<K: Eq + Hash + Drop, V: Drop, S: BuildHasher>(
         commands.items replies.items in
         map.new.mode ≡ mode last) }
     ensures hasher { map.new.hasher ≡ map.old.hasher }
+    // The nodes that rehashes have moved, by the lengths and capacities of the replies.
+    ensures rechained { IfOk result (λ replies. map.new.rechained
+        ≡ rechained_after_all map.old.rechained (length map.old.pairs) map.old.capacity
+        commands.items replies.items) }
     // A visit has ended, or the pairs that were left to visit are left.
     ensures visit { MayEndVisit map.old map.new }
     ensures valid { IsValid K.eq map.old }

@@ -37,6 +37,19 @@ rechained_each-put rechained start {capacity} {len} {longer} {capacity'} {so_far
     ∙ ap (λ k. rechained_each rechained start (k - start)) (sym same))
     (cases_lt capacity longer)
 
+-- after an insertion, and where the capacity stays
+pub rechained_each-insert : (rechained : ℕ) {len longer capacity capacity' then : ℕ} → len ≤ capacity → longer ≤ len + 1
+    → capacity' ≡ max capacity longer → then ≡ rechained_raised rechained len capacity capacity'
+    → then ≡ rechained_each rechained capacity (capacity' - capacity)
+rechained_each-insert rechained {capacity = capacity} within one room counted =
+    let none : capacity - capacity ≡ 0 = omega arith in
+    rechained_each-put rechained capacity {capacity = capacity} (omega arith) (sym (ap (rechained_each rechained capacity) none)) within one room counted
+
+pub rechained_each-same : (rechained : ℕ) {capacity capacity' then : ℕ} → capacity' ≡ capacity → then ≡ rechained
+    → then ≡ rechained_each rechained capacity (capacity' - capacity)
+rechained_each-same rechained {capacity} {capacity'} same is =
+    let none : capacity' - capacity ≡ 0 = omega (arith, same) in is ∙ sym (ap (rechained_each rechained capacity) none)
+
 made_each-more : (made c n : ℕ)
     → made_each made c (suc n) ≡ made_raised (made_each made c n) (c + n) (c + n + 1)
 made_each-more made c zero = let here : c ≡ c + 0 = omega arith in ap (λ k. made_raised made k (k + 1)) here

@@ -1,11 +1,12 @@
 -- Pairs inserted one after another: a key that is absent then, and a log that defines the map.
-use Rattle.std.proofs.Common.{◌≡◌, ℕ, ◌+◌, max, Bool, true, false, ◌||◌, List, [], ◌∷◌, ◌++◌}
+use Rattle.std.proofs.Common.{◌≡◌, ℕ, ◌+◌, ◌-◌, ◌≤◌, max, Bool, true, false, ◌||◌, List, [], ◌∷◌, ◌++◌}
 use Rattle.std.proofs.Common.{length, slice_get, take, Some, None, is_some, true≢false, refl, sym}
 use Rattle.std.proofs.Common.{ap, ap₂, subst, ◌∙◌, append_assoc, length-append, arith}
 use Rattle.std.specs.Cmp.{IsEquivalence}
 use Rattle.std.proofs.lemmas.List.{map-append}
 use Rattle.std.proofs.Math.Seq.{take-append_seam}
 use Rattle.linked_hash_map.specs.Changes.{KeepsSettings}
+use Rattle.linked_hash_map.specs.Counts.{rechained_raised, rechained_each}
 use Rattle.linked_hash_map.specs.LinkedMap.{LinkedMap}
 use Rattle.linked_hash_map.specs.Log.{Log, Put, put_each, Defines}
 use Rattle.linked_hash_map.specs.declared.map.Mode.{Mode}
@@ -16,6 +17,8 @@ use Rattle.linked_hash_map.proofs.lists.Elements.{slice_get-append}
 use Rattle.linked_hash_map.proofs.log.LiveKeys.{none_is}
 use Rattle.linked_hash_map.proofs.runs.Effects.{IsFull-contents, IsAbsent-found, Defines-put}
 use Rattle.linked_hash_map.proofs.Callers.Collected.{is_some-insert_each}
+use Rattle.linked_hash_map.proofs.pairs.Inserts.{length-put_most}
+use Rattle.linked_hash_map.proofs.pairs.RehashCounts.{rechained_each-put}
 
 -- a key that is absent after insertions was absent before them
 pub find-insert_each_absent : {K V : Type 0} {eq : K → K → Bool} → IsEquivalence eq
@@ -38,6 +41,8 @@ pub record HasExtended {K V S : Type 0} (eq : K → K → Bool) (old : LinkedMap
   pub defines : (start : ℕ) (log : Log K V) → Defines eq start log old.pairs old.capacity old.mode
       → Defines eq start (log ++ put_each first) new.pairs new.capacity new.mode
   pub hasher : new.hasher ≡ old.hasher
+  pub above : old.capacity ≤ new.capacity
+  pub rechained : new.rechained ≡ rechained_each old.rechained old.capacity (new.capacity - old.capacity)
 
 module _ {K V S : Type 0} {eq : K → K → Bool} (laws : IsEquivalence eq)
     {old before : LinkedMap K V S} {all first these : List (K × V)} {n : ℕ}
@@ -52,15 +57,20 @@ module _ {K V S : Type 0} {eq : K → K → Bool} (laws : IsEquivalence eq)
   -- the next pair went in
   pub HasExtended-put : {after : LinkedMap K V S}
       → after.pairs ≡ put eq before.mode before.pairs k v
-      → after.capacity ≡ max before.capacity (length after.pairs) → KeepsSettings before after
+      → after.capacity ≡ max before.capacity (length after.pairs)
+      → after.rechained ≡ rechained_raised before.rechained (length before.pairs) before.capacity after.capacity
+      → length before.pairs ≤ before.capacity → KeepsSettings before after
       → HasExtended eq old all (first ++ (k, v) ∷ []) rest (n + 1) after
-  HasExtended-put {after} pairs_are raised same = record {
+  HasExtended-put {after} pairs_are raised counted within same = record {
     count = let as_many = so_far.count in let longer = length-append first ((k, v) ∷ []) in omega arith;
     split = append_assoc first ((k, v) ∷ []) rest ∙ ap (λ es. first ++ es) (sym next) ∙ so_far.split;
     defines = λ start log defines.
         subst (λ events. Defines eq start events after.pairs after.capacity after.mode) (longer log)
         (Defines-put laws (so_far.defines start log defines) k v pairs_are raised same.mode);
     hasher = same.hasher ∙ so_far.hasher;
+    above = let start = so_far.above in omega (arith, start, raised);
+    rechained = rechained_each-put old.rechained old.capacity so_far.above so_far.rechained within
+        (subst (λ ps. length ps ≤ length before.pairs + 1) (sym pairs_are) (length-put_most eq before.mode before.pairs k v)) raised counted;
   }
 
   whole : first ++ (k, v) ∷ rest ≡ all

@@ -3,6 +3,7 @@ use Rattle.std.proofs.Math.Nat.{pos_of_ne-zero}
 use Rattle.std.proofs.lemmas.List.{append-nil, append_assoc}
 use Rattle.linked_hash_map.specs.Drains.{drain_rest}
 use Rattle.linked_hash_map.proofs.runs.Effects.{size-contents, Defines-nothing, Defines-remove_all}
+use Rattle.linked_hash_map.proofs.pairs.RehashCounts.{rechained_each-same}
 use Rattle.linked_hash_map.proofs.replay.drain.Goals as goal
 
 pub returns-in_default : goal.returns-in_default
@@ -13,6 +14,7 @@ returns-in_default g c = record {
       omega (arith, c.len.ensures.len);
   defines = λ start log defines. Defines-nothing g.met.K.Eq.laws defines refl refl refl;
   hasher = refl;
+  rechained = rechained_each-same c.args.map.now.rechained {capacity = c.args.map.now.capacity} refl refl;
   visit = inr refl;
 }
 
@@ -49,5 +51,6 @@ returns g c =
       answers = λ start log defines. c.from_vec.ensures ∙ all ∙ sym defines.same_pairs;
       defines = λ start log defines. Defines-remove_all g.met.K.Eq.laws defines refl refl refl;
       hasher = refl;
+      rechained = rechained_each-same c.args.map.now.rechained {capacity = c.args.map.now.capacity} refl refl;
       visit = inl refl;
     }

@@ -1,13 +1,16 @@
-use Rattle.std.proofs.Common.{rules, ◌≡◌, ◌+◌, ◌++◌, ◌∷◌, [], max, length, cond, refl, sym, ap, ◌∙◌, arith, length-append, Some, inl, inr}
+use Rattle.std.proofs.Common.{rules, ◌≡◌, ◌+◌, ◌++◌, ◌∷◌, [], max, length, cond, refl, sym, ap, ◌∙◌, arith, length-append, Some, inl, inr, subst, ◌≤◌}
 use Rattle.linked_hash_map.specs.Cursor.{to_visit}
 use Rattle.linked_hash_map.specs.Changes.{pushed}
 use Rattle.linked_hash_map.specs.Pairs.{key_or, find, put}
 use Rattle.linked_hash_map.specs.Entry.{occupied_key}
 use Rattle.linked_hash_map.proofs.log.LiveKeys.{none_is}
+use Rattle.linked_hash_map.proofs.pairs.Inserts.{length-put_most}
+use Rattle.linked_hash_map.specs.Counts.{rechained_raised}
 use Rattle.linked_hash_map.proofs.pairs.Calls.{length-put, put-absent}
 use Rattle.linked_hash_map.proofs.log.ActsAs.{put-ActsAs}
 use Rattle.linked_hash_map.proofs.runs.Effects.{IsFull-contents, IsAbsent-found, HasValue-value, Defines-put, Defines-nothing}
 use Rattle.linked_hash_map.proofs.runs.Steps.{Serves-same}
+use Rattle.linked_hash_map.proofs.pairs.RehashCounts.{rechained_each-insert, rechained_each-same}
 use Rattle.linked_hash_map.proofs.replay.entry_insert.Goals as goal
 
 pub returns-in-Occupied : goal.returns-in-Occupied
@@ -31,6 +34,7 @@ returns-in-Occupied g c =
       defines = λ start log defines. Defines-put g.met.K.Eq.laws defines c.args.key c.args.value
           moved room (done.keeps.mode ∙ entry.keeps.mode);
       hasher = done.keeps.hasher ∙ entry.keeps.hasher;
+      rechained = rechained_each-same _ (done.keeps.capacity ∙ entry.keeps.capacity) (done.keeps.rechained ∙ entry.keeps.rechained);
       visit = inl (done.to_visit ∙ ap to_visit (entry.ends_visit refl));
     })
 
@@ -52,6 +56,7 @@ returns-in-Ok g c =
       answers = λ start log defines. IsAbsent-found g.met.K.Eq.laws defines c.args.key absent;
       defines = λ start log defines. Defines-put g.met.K.Eq.laws defines c.args.key c.args.value went_in room entry.keeps.mode;
       hasher = entry.keeps.hasher;
+      rechained = rechained_each-insert _ entry.valid.within (subst (λ ps. length ps ≤ length m.pairs + 1) (sym went_in) (length-put_most eq m.mode m.pairs c.args.key c.args.value)) room (λ i. rechained_raised (entry.keeps.rechained i) (length (entry.pairs i)) (entry.keeps.capacity i) left.capacity);
       visit = inr (c.in-Ok.ensures.to_visit value ∙ ap to_visit same_map);
     })
 
@@ -74,5 +79,6 @@ returns-in-Err g c =
       );
       defines = λ start log defines. Defines-nothing g.met.K.Eq.laws defines refl refl refl;
       hasher = refl;
+      rechained = rechained_each-same m.rechained {capacity = m.capacity} refl refl;
       visit = inr refl;
     })

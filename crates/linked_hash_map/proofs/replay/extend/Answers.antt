@@ -1,7 +1,8 @@
-use Rattle.std.proofs.Common.{◌++◌, ◌∙◌, sym, ap, ap₂, subst, take, Some, inr}
+use Rattle.std.proofs.Common.{◌-◌, ◌++◌, ◌∙◌, sym, ap, ap₂, subst, take, Some, inr}
 use Rattle.linked_hash_map.specs.Log.{put_each}
 use Rattle.linked_hash_map.specs.AllowedAnswers.{HasNoRoom}
 use Rattle.linked_hash_map.specs.Cursor.{to_visit}
+use Rattle.linked_hash_map.specs.Counts.{rechained_each}
 use Rattle.linked_hash_map.proofs.runs.Extends.{HasExtended-put, next-there, HasNoRoom-next, Defines-taken}
 use Rattle.linked_hash_map.proofs.runs.VisitEnds.{MayEndVisit-trans, MayEndVisit-insert}
 use Rattle.linked_hash_map.proofs.replay.extend.Goals as goal
@@ -11,7 +12,7 @@ loop-key-preserved-in-Ok g c =
     let put = c.in-Ok.ensures in let i = c.loop-key.invariant in
     record {
       extended = HasExtended-put g.met.K.Eq.laws i.extended c.in-Some.ensures.steps.0
-          put.pairs put.capacity put.settings;
+          put.pairs put.capacity put.rechained put.valid.within put.settings;
       visit = MayEndVisit-trans i.visit (MayEndVisit-insert c.in-Ok._old put.ends_visit put.to_visit);
     }
 
@@ -20,7 +21,7 @@ loop-key-preserved g c =
     let put = c.in-Ok.ensures in let i = c.loop-key.invariant in
     record {
       extended = HasExtended-put g.met.K.Eq.laws i.extended c.in-Some.ensures.steps.0
-          put.pairs put.capacity put.settings;
+          put.pairs put.capacity put.rechained put.valid.within put.settings;
       visit = MayEndVisit-trans i.visit (MayEndVisit-insert c.in-Ok._old put.ends_visit put.to_visit);
     }
 
@@ -37,5 +38,6 @@ returns-in-Err g c =
       );
       defines = λ start log defines. Defines-taken laws so_far steps defines refused.unchanged;
       hasher = ap (λ m. m.hasher) refused.unchanged ∙ so_far.hasher;
+      rechained = ap (λ m. m.rechained) refused.unchanged ∙ so_far.rechained ∙ ap (λ n. rechained_each c.args.map.now.rechained c.args.map.now.capacity (n - c.args.map.now.capacity)) (sym (ap (λ m. m.capacity) refused.unchanged));
       visit = MayEndVisit-trans c.loop-key.invariant.visit (inr (ap to_visit refused.unchanged));
     }

@@ -1,8 +1,10 @@
-use Rattle.std.proofs.Common.{sym, ap, ◌∙◌, inr}
+use Rattle.std.proofs.Common.{◌+◌, ◌≤◌, length, sym, ap, ◌∙◌, inr, subst}
+use Rattle.linked_hash_map.proofs.pairs.Inserts.{length-put_most}
 use Rattle.linked_hash_map.specs.Cursor.{to_visit}
 use Rattle.linked_hash_map.proofs.runs.Effects.{IsFull-contents, IsAbsent-found, IsAbsent-value}
 use Rattle.linked_hash_map.proofs.runs.Effects.{HasValue-value, Defines-put, Defines-nothing}
 use Rattle.linked_hash_map.proofs.runs.VisitEnds.{MayEndVisit-insert}
+use Rattle.linked_hash_map.proofs.pairs.RehashCounts.{rechained_each-insert, rechained_each-same}
 use Rattle.linked_hash_map.proofs.replay.insert.Goals as goal
 
 pub returns-in-Ok-None : goal.returns-in-Ok-None
@@ -13,6 +15,7 @@ returns-in-Ok-None g c =
       defines = λ start log defines. Defines-put g.met.K.Eq.laws defines c.args.key c.args.value
           done.pairs done.capacity done.settings.mode;
       hasher = done.settings.hasher;
+      rechained = rechained_each-insert _ done.valid.within (subst (λ ps. length ps ≤ length c.args.map.now.pairs + 1) (sym done.pairs) (length-put_most g.K.PartialEq.eq c.args.map.now.mode c.args.map.now.pairs c.args.key c.args.value)) done.capacity done.rechained;
       visit = MayEndVisit-insert c.in-Ok-None.field-0 done.ends_visit done.to_visit;
     }
 
@@ -24,6 +27,7 @@ returns-in-Ok-Some g c =
       defines = λ start log defines. Defines-put g.met.K.Eq.laws defines c.args.key c.args.value
           done.pairs done.capacity done.settings.mode;
       hasher = done.settings.hasher;
+      rechained = rechained_each-insert _ done.valid.within (subst (λ ps. length ps ≤ length c.args.map.now.pairs + 1) (sym done.pairs) (length-put_most g.K.PartialEq.eq c.args.map.now.mode c.args.map.now.pairs c.args.key c.args.value)) done.capacity done.rechained;
       visit = MayEndVisit-insert c.in-Ok-Some.field-0 done.ends_visit done.to_visit;
     }
 
@@ -43,5 +47,6 @@ returns-in-Err g c =
           Defines-nothing g.met.K.Eq.laws defines (ap (λ m. m.pairs) refused.unchanged)
           (ap (λ m. m.capacity) refused.unchanged) (ap (λ m. m.mode) refused.unchanged);
       hasher = ap (λ m. m.hasher) refused.unchanged;
+      rechained = rechained_each-same _ (ap (λ m. m.capacity) refused.unchanged) (ap (λ m. m.rechained) refused.unchanged);
       visit = inr (ap to_visit refused.unchanged);
     }

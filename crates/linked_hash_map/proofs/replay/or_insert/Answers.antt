@@ -1,16 +1,19 @@
 use Rattle.std.proofs.Common.{rules, ◌≡◌, true, false, max, length, is_some, None, Some, option_map, sym, ap, ◌∙◌}
-use Rattle.std.proofs.Common.{arith, unwrap_or, inl, inr}
+use Rattle.std.proofs.Common.{◌+◌, ◌≤◌, arith, subst, unwrap_or, inl, inr}
 use Rattle.linked_hash_map.specs.Cursor.{to_visit}
 use Rattle.linked_hash_map.specs.Changes.{set_or_pushed}
 use Rattle.linked_hash_map.specs.Pairs.{key_or, find, value_at, put, set_or_push}
 use Rattle.linked_hash_map.specs.Entry.{is_occupied, entry_map, entry_key}
 use Rattle.linked_hash_map.proofs.log.LiveKeys.{none_is}
+use Rattle.linked_hash_map.proofs.pairs.Inserts.{length-put_most}
+use Rattle.linked_hash_map.specs.Counts.{rechained_raised}
 use Rattle.linked_hash_map.proofs.pairs.Calls.{is_some-value_at, find-none, set_or_push-present, set_or_push-absent, put-absent}
 use Rattle.linked_hash_map.proofs.pairs.Indexes.{set_value-own}
 use Rattle.linked_hash_map.proofs.lists.Options.{Some-unwrap_or}
 use Rattle.linked_hash_map.proofs.runs.Effects.{IsFull-contents, IsAbsent-found, IsAbsent-value}
 use Rattle.linked_hash_map.proofs.runs.Effects.{HasValue-value, Defines-put, Defines-nothing}
 use Rattle.linked_hash_map.proofs.runs.Steps.{Serves-same}
+use Rattle.linked_hash_map.proofs.pairs.RehashCounts.{rechained_each-insert, rechained_each-same}
 use Rattle.linked_hash_map.proofs.replay.or_insert.Goals as goal
 
 pub returns-then-present : goal.returns-then-present
@@ -38,6 +41,7 @@ returns-then-present g c =
       answers = λ start log defines. (HasValue-value g.met.K.Eq.laws defines k own).0;
       defines = λ start log defines. Defines-nothing g.met.K.Eq.laws defines pairs_stay room entry.keeps.mode;
       hasher = entry.keeps.hasher;
+      rechained = rechained_each-insert _ entry.valid.within (let at_most : length left.pairs ≤ length m.pairs + 1 = (let as_long = ap length pairs_stay in omega arith) in at_most) (ap (λ n. max n (length left.pairs)) entry.keeps.capacity) (λ i. rechained_raised (entry.keeps.rechained i) (length (entry.pairs i)) (entry.keeps.capacity i) left.capacity);
       visit = inl (c.in-Ok.ensures.to_visit value ∙ ap to_visit (entry.ends_visit occupied));
     })
 
@@ -63,6 +67,7 @@ returns-else-present g c =
       defines = λ start log defines. Defines-put g.met.K.Eq.laws defines k c.args.value pushed
           (ap (λ n. max n (length left.pairs)) entry.keeps.capacity) entry.keeps.mode;
       hasher = entry.keeps.hasher;
+      rechained = rechained_each-insert _ entry.valid.within (subst (λ ps. length ps ≤ length m.pairs + 1) (sym pushed) (length-put_most eq m.mode m.pairs k c.args.value)) (ap (λ n. max n (length left.pairs)) entry.keeps.capacity) (λ i. rechained_raised (entry.keeps.rechained i) (length (entry.pairs i)) (entry.keeps.capacity i) left.capacity);
       visit = inr (c.in-Ok.ensures.to_visit value ∙ ap to_visit (entry.unchanged (entry.value ∙ ap (option_map (λ pair. pair.1)) absent)));
     })
 
@@ -87,5 +92,6 @@ returns-in-Err g c =
       defines = λ start log defines. Defines-nothing g.met.K.Eq.laws defines
           (ap (λ n. n.pairs) same_map) (ap (λ n. n.capacity) same_map) (ap (λ n. n.mode) same_map);
       hasher = ap (λ n. n.hasher) same_map;
+      rechained = rechained_each-same _ (ap (λ m. m.capacity) same_map) (ap (λ m. m.rechained) same_map);
       visit = inr (ap to_visit same_map);
     })

@@ -1,5 +1,6 @@
 use Rattle.std.proofs.Common.{◌-◌, ◌∙◌, sym, ap, take, length, inl}
 use Rattle.linked_hash_map.proofs.runs.Effects.{no_last_is_nil, Defines-nothing, Defines-pop_back, slice_get_last-contents, pairs-no_last}
+use Rattle.linked_hash_map.proofs.pairs.RehashCounts.{rechained_each-same}
 use Rattle.linked_hash_map.proofs.replay.pop_back.Goals as goal
 
 pub returns-in-Some : goal.returns-in-Some
@@ -10,6 +11,7 @@ returns-in-Some g c =
       defines = λ start log defines. Defines-pop_back g.met.K.Eq.laws defines c.in-Some.key
           c.in-Some.value done.pair done.pairs done.keeps.capacity done.keeps.mode;
       hasher = done.keeps.hasher;
+      rechained = rechained_each-same _ done.keeps.capacity done.keeps.rechained;
       visit = inl done.ends_visit;
     }
 
@@ -22,5 +24,6 @@ returns-in-None g c =
           (done.pairs ∙ ap (λ pairs. take (length pairs - 1) pairs) none ∙ sym none)
           done.keeps.capacity done.keeps.mode;
       hasher = done.keeps.hasher;
+      rechained = rechained_each-same _ done.keeps.capacity done.keeps.rechained;
       visit = inl done.ends_visit;
     }

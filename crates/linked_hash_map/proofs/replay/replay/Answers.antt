@@ -1,7 +1,9 @@
-use Rattle.std.proofs.Common.{refl, ◌∷◌, [], ◌∙◌, sym, subst, map-id, arith, length-append, inr}
+use Rattle.std.proofs.Common.{◌≡◌, refl, ◌∷◌, [], length, ap₂, append-nil, ◌∙◌, sym, subst, map-id, arith, length-append, inr}
 use Rattle.std.proofs.lemmas.Iterator.Adapters.{YieldsList-from_vec}
 use Rattle.std.proofs.lemmas.Iterator.Consumers.{YieldsList-end}
+use Rattle.linked_hash_map.specs.Rehashes.{rechained_after_all}
 use Rattle.linked_hash_map.specs.Run.{Replayed, first_log, last_log}
+use Rattle.linked_hash_map.proofs.runs.Rehashes.{GoesOn-snoc}
 use Rattle.linked_hash_map.proofs.runs.Steps.{IsRun-snoc, last_log-snoc, Defines-first_log}
 use Rattle.linked_hash_map.proofs.runs.VisitEnds.{MayEndVisit-trans}
 use Rattle.linked_hash_map.proofs.replay.replay.Goals as goal
@@ -12,6 +14,7 @@ loop-command-init g c = record {
   defines = Defines-first_log g.met.K.Eq.laws c.args.map.now.mode c.args.map.now.pairs
       c.args.map.now.capacity c.allocator.ensures.valid.distinct c.allocator.ensures.valid.within;
   hasher = refl;
+  rechained = rw c.in-Ok.ensures.items (record { from = λ commands replies. refl });
   visit = inr refl;
   valid = c.allocator.ensures.valid;
   count = c.in-Ok.ensures.len;
@@ -31,6 +34,8 @@ loop-command-preserved g c =
           c.loop-command.yielded replies i.run (c.reply_to.ensures.reply start log i.defines));
       defines = rw (c.push_reserved.ensures.items, last) (c.reply_to.ensures.defines start log i.defines);
       hasher = c.reply_to.ensures.hasher ∙ i.hasher;
+      rechained = rw c.push_reserved.ensures.items (GoesOn-snoc command reply i.rechained
+          c.reply_to.ensures.rechained c.reply_to.ensures.len c.reply_to.ensures.capacity);
       visit = MayEndVisit-trans i.visit c.reply_to.ensures.visit;
       valid = c.reply_to.ensures.stays_valid;
       count = let l = length-append c.loop-command.yielded (command ∷ []) in
@@ -64,3 +69,16 @@ returns-clause-capacity g c = (returns-clause-replayed g c).capacity
 
 pub returns-clause-mode : goal.returns-clause-mode
 returns-clause-mode g c = (returns-clause-replayed g c).mode
+
+pub returns-clause-rechained : goal.returns-clause-rechained
+returns-clause-rechained g c =
+    let gives = c.into_iter-command-iterator.ensures.into_iter_gives in
+    let end = YieldsList-end
+    (YieldsList-from_vec c.args.commands.items gives.0 (gives.1 ∙ c.args.commands.ok.0))
+    c.loop-command.yielded c.loop-command.command-iterator c.loop-command.yielded_by c.next.result
+    c.next.new.self c.in-None.is c.next.ensures.steps in
+    let m = c.args.map.now in let i = c.loop-command.invariant in let replies = c.loop-command.replies.items in
+    subst (λ cs. c.loop-command.map.rechained ≡ rechained_after_all m.rechained (length m.pairs) m.capacity cs replies)
+    (sym (map-id c.loop-command.yielded) ∙ end.0)
+    (sym (i.rechained.from [] []) ∙ ap₂ (rechained_after_all m.rechained (length m.pairs) m.capacity)
+    (append-nil c.loop-command.yielded) (append-nil replies))

@@ -2,6 +2,7 @@ use Rattle.std.proofs.Common.{◌≡◌, ◌≤◌, length, vec_len, vec_capacit
 use Rattle.linked_hash_map.specs.Log.{Defines}
 use Rattle.linked_hash_map.specs.Run.{MayEndVisit, IsRun, first_log, last_log}
 use Rattle.linked_hash_map.specs.Validity.{IsValid}
+use Rattle.linked_hash_map.proofs.runs.Rehashes.{GoesOn}
 use Rattle.linked_hash_map.proofs.replay.replay.Given as goal
 
 -- the commands so far and their replies are a run, whose last log defines the map
@@ -12,6 +13,7 @@ invariant-loop-command g l =
       run : IsRun eq l.fn.map.capacity first l.yielded l.replies.items;
       defines : Defines eq l.fn.map.capacity (last_log eq first l.yielded l.replies.items) l.map.pairs l.map.capacity l.map.mode;
       hasher : l.map.hasher ≡ l.fn.map.hasher;
+      rechained : GoesOn l.fn.map l.yielded l.replies.items l.map;
       visit : MayEndVisit l.fn.map l.map;
       valid : IsValid eq l.map;
       count : vec_len l.replies ≡ length l.yielded;

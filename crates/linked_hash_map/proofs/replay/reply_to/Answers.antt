@@ -1,5 +1,6 @@
 use Rattle.std.proofs.Common.{length, sym, ◌∙◌, ap}
 use Rattle.linked_hash_map.specs.AllowedAnswers.{log_after}
+use Rattle.linked_hash_map.specs.Rehashes.{rechained_after}
 use Rattle.linked_hash_map.proofs.log.HighWater.{size-pairs}
 use Rattle.linked_hash_map.proofs.replay.reply_to.Goals as goal
 
@@ -15,3 +16,9 @@ returns-clause-reply g c start log defines =
           (log_after g.K.PartialEq.eq log c.args.command c.answer_to-answer.result));
       capacity = c.capacity.ensures.capacity ∙ sym after.same_capacity;
     }
+
+pub returns-clause-rechained : goal.returns-clause-rechained
+returns-clause-rechained g c =
+    let m = c.args.map.now in
+    c.answer_to-answer.ensures.rechained
+    ∙ ap (rechained_after c.args.command m.rechained (length m.pairs) m.capacity) (sym c.capacity.ensures.capacity)

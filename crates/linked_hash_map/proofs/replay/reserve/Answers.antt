@@ -1,4 +1,6 @@
-use Rattle.std.proofs.Common.{Err, ap, arith, inr}
+use Rattle.std.proofs.Common.{◌∙◌, length, sym, Err, ap, arith, inr}
+use Rattle.lhm_ring.proofs.indexes.BucketCounts.{rechained_raised-same}
+use Rattle.linked_hash_map.specs.Counts.{rechained_raised}
 use Rattle.linked_hash_map.proofs.runs.Effects.{size-contents, Defines-reserve, Defines-nothing}
 use Rattle.linked_hash_map.proofs.replay.reserve.Goals as goal
 
@@ -11,6 +13,7 @@ returns-in-Ok g c =
           omega arith;
       defines = λ start log defines. Defines-reserve g.met.K.Eq.laws defines c.args.additional done.pairs done.capacity done.settings.mode;
       hasher = done.settings.hasher;
+      rechained = done.rechained;
       visit = inr done.to_visit;
     }
 
@@ -26,6 +29,7 @@ returns-in-Err-TooLarge g c =
           Defines-nothing g.met.K.Eq.laws defines (ap (λ m. m.pairs) refused.unchanged)
           (ap (λ m. m.capacity) refused.unchanged) refused.settings.mode;
       hasher = refused.settings.hasher;
+      rechained = ap (λ m. m.rechained) refused.unchanged ∙ sym (ap (rechained_raised c.args.map.now.rechained (length c.args.map.now.pairs) c.args.map.now.capacity) (ap (λ m. m.capacity) refused.unchanged) ∙ rechained_raised-same c.args.map.now.rechained (length c.args.map.now.pairs) c.args.map.now.capacity);
       visit = inr refused.to_visit;
     }
 
@@ -42,5 +46,6 @@ returns-in-Err-NoRoom g c =
           Defines-nothing g.met.K.Eq.laws defines (ap (λ m. m.pairs) refused.unchanged)
           (ap (λ m. m.capacity) refused.unchanged) refused.settings.mode;
       hasher = refused.settings.hasher;
+      rechained = ap (λ m. m.rechained) refused.unchanged ∙ sym (ap (rechained_raised c.args.map.now.rechained (length c.args.map.now.pairs) c.args.map.now.capacity) (ap (λ m. m.capacity) refused.unchanged) ∙ rechained_raised-same c.args.map.now.rechained (length c.args.map.now.pairs) c.args.map.now.capacity);
       visit = inr refused.to_visit;
     }

@@ -1,4 +1,6 @@
-use Rattle.std.proofs.Common.{ap, arith, inr}
+use Rattle.std.proofs.Common.{◌∙◌, sym, ap, arith, inr}
+use Rattle.lhm_ring.proofs.indexes.BucketCounts.{rechained_fitted-same}
+use Rattle.linked_hash_map.specs.Counts.{rechained_fitted}
 use Rattle.linked_hash_map.proofs.runs.Effects.{size-contents, Defines-shrink, Defines-nothing}
 use Rattle.linked_hash_map.proofs.replay.shrink.Goals as goal
 
@@ -9,6 +11,7 @@ returns-in-Ok g c =
       answers = λ start log defines. tt;
       defines = λ start log defines. Defines-shrink g.met.K.Eq.laws defines done.pairs done.capacity done.settings.mode;
       hasher = done.settings.hasher;
+      rechained = done.rechained ∙ ap (λ n. rechained_fitted c.args.map.now.rechained n c.args.map.now.capacity) (sym done.capacity);
       visit = inr done.to_visit;
     }
 
@@ -25,5 +28,6 @@ returns-in-Err g c =
           Defines-nothing g.met.K.Eq.laws defines (ap (λ m. m.pairs) refused.unchanged)
           (ap (λ m. m.capacity) refused.unchanged) refused.settings.mode;
       hasher = refused.settings.hasher;
+      rechained = ap (λ m. m.rechained) refused.unchanged ∙ sym (rechained_fitted-same c.args.map.now.rechained _ c.args.map.now.capacity (sym (ap (λ m. m.capacity) refused.unchanged)));
       visit = inr refused.to_visit;
     }
