@@ -1,5 +1,5 @@
 //! Loops over a map, of every kind.
-ghost use Rattle.std.specs.Prelude.{◌≡◌, ◌^◌, ◌<◌, ◌+◌, ℕ, [], ◌∷◌, ◌++◌, None, cond, sum, length, map, reverse, take, filter, slice_get, nat_eq, IsTrue, IsFalse, IfSome, IfOk};
+ghost use Rattle.std.specs.Prelude.{◌≡◌, ◌^◌, ◌<◌, ◌+◌, [], ◌∷◌, ◌++◌, None, cond, sum, length, map, reverse, take, filter, slice_get, nat_eq, IsTrue, IsFalse, IfSome, IfOk};
 ghost use Rattle.std.specs.Map.{keys_of, values_of};
 ghost use Rattle.linked_hash_map.specs.Cursor.{to_visit};
 ghost use Rattle.linked_hash_map.specs.Pairs.{first, value_at};
@@ -225,15 +225,25 @@ pub fn visit_by_value(
     Ok(visited)
 }
 
-/// Inserts a pair behind the others if its key is absent, and returns whether it did. A visit goes
-/// on, and does not come to that pair. If it did not, the pairs stand, and the key is present or
-/// the map is full.
-fn insert_behind(map: &mut LinkedHashMap<u64, u64>, key: u64, value: u64) -> bool
-    ensures pairs { map.new.pairs ≡ cond result (map.old.pairs ++ (key, value) ∷ []) map.old.pairs }
+/// Inserts a copy of a pair behind the others, with `offset` added to its key, and returns whether
+/// it did. A visit goes on, and does not come to the copy. If it did not, the pairs stand, and the
+/// sum is too large, the key is present or the map is full.
+fn copy_pair_behind(
+    map: &mut LinkedHashMap<u64, u64>,
+    key: u64,
+    value: u64,
+    offset: u64,
+) -> bool
+    ensures pairs { map.new.pairs
+        ≡ cond result (map.old.pairs ++ (key + offset, value) ∷ []) map.old.pairs }
     ensures to_visit { IsTrue result → to_visit map.new ≡ to_visit map.old }
-    ensures full { IsFalse result → value_at nat_eq map.old.pairs key ≡ None
+    ensures full { IsFalse result → key + offset < 2 ^ 64
+        → value_at nat_eq map.old.pairs (key + offset) ≡ None
         → length map.new.pairs ≡ map.new.capacity }
 {
+    let Some(key) = key.checked_add(offset) else {
+        return false;
+    };
     match map.entry(key) {
         Entry::Occupied(_entry) => false,
         Entry::Vacant(entry) => match entry.insert(value) {
@@ -245,21 +255,20 @@ fn insert_behind(map: &mut LinkedHashMap<u64, u64>, key: u64, value: u64) -> boo
 
 /// Puts a copy of each pair behind the others, with `offset` added to its key, and returns how many
 /// copies there are: a visit that inserts, and comes to the old pairs only. It stops at a copy
-/// whose key is present, or whose insertion is refused by a full map.
+/// whose key is too large or present, or whose insertion a full map refuses.
 pub fn copy_behind(counts: &mut LinkedHashMap<u64, u64>, offset: u64) -> usize
-    requires fits { (index : ℕ) → IfSome (slice_get counts.old.pairs index)
-        (λ pair. pair.0 + offset < 2 ^ 64) }
     ensures pairs { counts.new.pairs ≡ counts.old.pairs
         ++ map (λ pair. (pair.0 + offset, pair.1)) (take result counts.old.pairs) }
     ensures stops { IfSome (slice_get counts.old.pairs result)
-        (λ pair. value_at nat_eq counts.new.pairs (pair.0 + offset) ≡ None
+        (λ pair. pair.0 + offset < 2 ^ 64
+        → value_at nat_eq counts.new.pairs (pair.0 + offset) ≡ None
         → length counts.new.pairs ≡ counts.new.capacity) }
 {
     let mut copied = 0;
     let entries = counts.visit();
     while let Some(entry) = entries.next_entry() {
         let (key, value) = (*entry.key(), *entry.get());
-        if !insert_behind(entries, key + offset, value) {
+        if !copy_pair_behind(entries, key, value, offset) {
             return copied;
         }
         copied += 1;

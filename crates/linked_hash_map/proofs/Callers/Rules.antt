@@ -19,7 +19,7 @@ use Rattle.linked_hash_map.proofs.Callers.Dense.{values_of_dense_push, value_at_
 use Rattle.linked_hash_map.proofs.Callers.Lookups.{value_at-append}
 use Rattle.linked_hash_map.proofs.Callers.Rounds.{IsTurned-start, IsTurned-turn, IsTurned-round}
 use Rattle.linked_hash_map.proofs.Callers.Turns.{cons-keys_of_first, put-without_first}
-use Rattle.linked_hash_map.proofs.Callers.Visits.{VisitKeeps-passed, VisitKeeps-removed, append-visited, VisitAppends-start, VisitAppends-end}
+use Rattle.linked_hash_map.proofs.Callers.Visits.{VisitKeeps-passed, VisitKeeps-removed, append-visited}
 use Rattle.linked_hash_map.proofs.Callers.WritingVisits.{VisitMaps-written, VisitMaps-removed, VisitMaps-start}
 
 -- at numbers
@@ -71,9 +71,6 @@ pub ruleset end_keys = (keys_of-append, keys_of-without_first, keys_of-without_l
 -- a visit that keeps some pairs and takes the others out, and one that lists the keys that it
 -- visits
 pub ruleset visits = (VisitKeeps-passed, VisitKeeps-removed, append-visited)
-
--- a visit that puts what it makes of each pair behind the others
-pub ruleset appends = (VisitAppends-start, VisitAppends-end)
 
 -- a visit that keeps some pairs and changes their values
 pub ruleset changes = (VisitMaps-written, VisitMaps-removed, VisitMaps-start)

@@ -162,11 +162,6 @@ pub record VisitAppends {K V : Type 0} (change : K × V → K × V) (start now :
   pub now_is : now ≡ start ++ map change (take n start)
   pub left_is : left ≡ drop n (keys_of start)
 
-pub VisitAppends-start : {K V : Type 0} {change : K × V → K × V} {start now : List (K × V)} {left : List K}
-    → now ≡ start → left ≡ keys_of start → VisitAppends change start now left 0
-VisitAppends-start {start = start} same all =
-    record { now_is = same ∙ sym (append-nil start); left_is = all }
-
 -- with no pair left to visit, all are passed
 pub VisitAppends-end : {K V : Type 0} {change : K × V → K × V} {start now : List (K × V)} {left : List K} {n : ℕ}
     → VisitAppends change start now left n → left ≡ [] → slice_get start n ≡ None
@@ -184,9 +179,6 @@ module _ {K V : Type 0} {eq : K → K → Bool} (laws : IsEquivalence eq) {chang
     (distinct : IsDistinct eq (keys_of now)) (has : value_at eq now k ≡ Some v) where
   abbrev copies : List (K × V)
   copies = map change (take n start)
-
-  pub VisitAppends-within : n < length start
-  VisitAppends-within = within-visited laws start copies n w.now_is w.left_is visits distinct has
 
   -- the pair at hand was there at the start, with this value
   pub VisitAppends-at : slice_get start n ≡ Some (k, v)
