@@ -41,10 +41,7 @@ pub fn count_known<K: Eq + Hash, S: BuildHasher>(counts: &mut LinkedHashMap<K, u
 }
 
 /// Counts one more of an item if the map has it, and otherwise changes nothing.
-pub fn count_if_known<K: Eq + Hash, S: BuildHasher>(
-    counts: &mut LinkedHashMap<K, u64, S>,
-    item: &K,
-)
+pub fn count_if_known<K: Eq + Hash, S: BuildHasher>(counts: &mut LinkedHashMap<K, u64, S>, item: &K)
     requires fits { (count : ℕ) → value_at K.eq counts.old.pairs item.now ≡ Some count
         → count + 1 < 2 ^ 64 }
     ensures { Updates K.eq counts.old.pairs counts.new.pairs item.now

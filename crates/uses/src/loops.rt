@@ -228,12 +228,7 @@ pub fn visit_by_value(
 /// Inserts a copy of a pair behind the others, with `offset` added to its key, and returns whether
 /// it did. A visit goes on, and does not come to the copy. If it did not, the pairs stand, and the
 /// sum is too large, the key is present or the map is full.
-fn copy_pair_behind(
-    map: &mut LinkedHashMap<u64, u64>,
-    key: u64,
-    value: u64,
-    offset: u64,
-) -> bool
+fn copy_pair_behind(map: &mut LinkedHashMap<u64, u64>, key: u64, value: u64, offset: u64) -> bool
     ensures pairs { map.new.pairs
         ≡ cond result (map.old.pairs ++ (key + offset, value) ∷ []) map.old.pairs }
     ensures to_visit { IsTrue result → to_visit map.new ≡ to_visit map.old }

@@ -1,6 +1,7 @@
--- For callers: a visit that keeps some of the pairs and takes the others out, step by step.
+-- For callers: a visit that keeps some of the pairs and takes the others out, and one that puts pairs
+-- behind the others, step by step.
 use Rattle.std.proofs.Common.{◌≡◌, ℕ, ◌+◌, ◌<◌, Bool, true, false, cond, List, [], ◌∷◌, ◌++◌, length, map, take, drop, slice_get, get_or}
-use Rattle.std.proofs.Common.{option_map, Some, None, IfSome, filter, refl, sym, ap, subst, ◌∙◌, append_assoc, append-nil, length-append, arith}
+use Rattle.std.proofs.Common.{option_map, Some, None, filter, refl, sym, ap, subst, ◌∙◌, append_assoc, append-nil, length-append, arith}
 use Rattle.std.specs.Cmp.{IsEquivalence}
 use Rattle.std.specs.List.{IsDistinct, remove}
 use Rattle.std.specs.Map.{keys_of}
@@ -183,10 +184,6 @@ module _ {K V : Type 0} {eq : K → K → Bool} (laws : IsEquivalence eq) {chang
   -- the pair at hand was there at the start, with this value
   pub VisitAppends-at : slice_get start n ≡ Some (k, v)
   VisitAppends-at = slice_get-visited laws start copies n w.now_is w.left_is visits distinct has
-
-  -- so what holds of each pair at the start holds of it
-  pub VisitAppends-holds : (P : K × V → Type 0) → ((i : ℕ) → IfSome (slice_get start i) P) → P (k, v)
-  VisitAppends-holds P each = subst (λ o. IfSome o P) VisitAppends-at (each n)
 
   pub VisitAppends-appended : {pairs after : List (K × V)} {to_come_after : List K} → pairs ≡ now
       → after ≡ pairs ++ change (k, v) ∷ [] → to_come_after ≡ left
