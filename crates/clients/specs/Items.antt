@@ -14,7 +14,3 @@ module _ {K : Type 0} (eq : K → K → Bool) where
   abbrev pub first_seen : List K → List K
   first_seen items =
       fold (λ seen item. if list_any (eq item) seen then seen else seen ++ item ∷ []) [] items
-
-  -- both
-  abbrev pub CountsInOrder : List (K × ℕ) → List K → Type 0
-  CountsInOrder counts items = HasCounts counts items × (keys_of counts ≡ first_seen items)

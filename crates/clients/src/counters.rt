@@ -36,9 +36,19 @@ pub fn count_known<K: Eq + Hash, S: BuildHasher>(counts: &mut LinkedHashMap<K, u
         (value_at K.eq counts.old.pairs item) }
 {
     for item in items {
-        if let Some(count) = counts.get_mut(item) {
-            *count += 1;
-        }
+        count_if_known(counts, item);
+    }
+}
+
+/// Counts one more of an item if the map has it, and otherwise changes nothing.
+pub fn count_if_known<K: Eq + Hash, S: BuildHasher>(counts: &mut LinkedHashMap<K, u64, S>, item: &K)
+    requires fits { (count : ℕ) → value_at K.eq counts.old.pairs item.now ≡ Some count
+        → count + 1 < 2 ^ 64 }
+    ensures { Updates K.eq counts.old.pairs counts.new.pairs item.now
+        (option_map (λ count. count + 1) (value_at K.eq counts.old.pairs item.now)) }
+{
+    if let Some(count) = counts.get_mut(item) {
+        *count += 1;
     }
 }
 

@@ -17,6 +17,7 @@ pub mod places;
 pub mod prices;
 pub mod printing;
 pub mod queue;
+pub mod recent;
 pub mod refusal;
 pub mod replaying;
 pub mod retains;

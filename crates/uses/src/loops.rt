@@ -1,10 +1,11 @@
 //! Loops over a map, of every kind.
-ghost use Rattle.std.specs.Prelude.{◌≡◌, ◌^◌, ◌<◌, ◌+◌, [], ◌∷◌, sum, length, filter, IfOk};
+ghost use Rattle.std.specs.Prelude.{◌≡◌, ◌^◌, ◌<◌, ◌+◌, [], ◌∷◌, ◌++◌, None, cond, sum, length, map, reverse, take, filter, slice_get, nat_eq, IsTrue, IsFalse, IfSome, IfOk};
 ghost use Rattle.std.specs.Map.{keys_of, values_of};
-ghost use Rattle.linked_hash_map.specs.Pairs.{first};
+ghost use Rattle.linked_hash_map.specs.Cursor.{to_visit};
+ghost use Rattle.linked_hash_map.specs.Pairs.{first, value_at};
 ghost use Rattle.uses.specs.Counting.{has_count};
 
-use linked_hash_map::{LinkedHashMap, Mode};
+use linked_hash_map::{Entry, LinkedHashMap, Mode};
 use std::alloc::{AllocError, Global};
 use std::hash::{BuildHasher, Hash};
 use std::mem;
@@ -55,6 +56,16 @@ pub fn into_list<K: Eq + Hash + Drop, V: Drop, S: BuildHasher + Drop>(
         list.push(pair)?;
     }
     Ok(list)
+}
+
+/// Returns the pairs, the last first: by the iterator that owns them, from the back.
+pub fn into_reversed<K: Eq + Hash + Drop, V: Drop, S: BuildHasher + Drop>(
+    alloc: Global,
+    map: LinkedHashMap<K, V, S>,
+) -> Result<Vec<(K, V)>, AllocError>
+    ensures { IfOk result (λ list. list.items ≡ reverse map.pairs) }
+{
+    map.into_iter().rev().collect(alloc)
 }
 
 /// Sets every value to zero: a loop over `&mut map`. The keys stand.
@@ -212,4 +223,50 @@ pub fn visit_by_value(
         }
     }
     Ok(visited)
+}
+
+/// Inserts a copy of a pair behind the others, with `offset` added to its key, and returns whether
+/// it did. A visit goes on, and does not come to the copy. If it did not, the pairs stand, and the
+/// sum is too large, the key is present or the map is full.
+fn copy_pair_behind(map: &mut LinkedHashMap<u64, u64>, key: u64, value: u64, offset: u64) -> bool
+    ensures pairs { map.new.pairs
+        ≡ cond result (map.old.pairs ++ (key + offset, value) ∷ []) map.old.pairs }
+    ensures to_visit { IsTrue result → to_visit map.new ≡ to_visit map.old }
+    ensures full { IsFalse result → key + offset < 2 ^ 64
+        → value_at nat_eq map.old.pairs (key + offset) ≡ None
+        → length map.new.pairs ≡ map.new.capacity }
+{
+    let Some(key) = key.checked_add(offset) else {
+        return false;
+    };
+    match map.entry(key) {
+        Entry::Occupied(_entry) => false,
+        Entry::Vacant(entry) => match entry.insert(value) {
+            Ok(_value) => true,
+            Err(_refused) => false,
+        },
+    }
+}
+
+/// Puts a copy of each pair behind the others, with `offset` added to its key, and returns how many
+/// copies there are: a visit that inserts, and comes to the old pairs only. It stops at a copy
+/// whose key is too large or present, or whose insertion a full map refuses.
+pub fn copy_behind(counts: &mut LinkedHashMap<u64, u64>, offset: u64) -> usize
+    ensures pairs { counts.new.pairs ≡ counts.old.pairs
+        ++ map (λ pair. (pair.0 + offset, pair.1)) (take result counts.old.pairs) }
+    ensures stops { IfSome (slice_get counts.old.pairs result)
+        (λ pair. pair.0 + offset < 2 ^ 64
+        → value_at nat_eq counts.new.pairs (pair.0 + offset) ≡ None
+        → length counts.new.pairs ≡ counts.new.capacity) }
+{
+    let mut copied = 0;
+    let entries = counts.visit();
+    while let Some(entry) = entries.next_entry() {
+        let (key, value) = (*entry.key(), *entry.get());
+        if !copy_pair_behind(entries, key, value, offset) {
+            return copied;
+        }
+        copied += 1;
+    }
+    copied
 }

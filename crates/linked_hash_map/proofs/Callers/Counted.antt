@@ -1,8 +1,8 @@
 -- For callers: a count for each item of a list, one item after another, and the keys in the order
 -- in which they first come.
-use Rattle.std.proofs.Common.{◌≡◌, ℕ, ◌+◌, ◌<◌, Bool, true, false, cond, List, [], ◌∷◌, ◌++◌, length, take, get_or}
-use Rattle.std.proofs.Common.{fold, Option, Some, None, option_map, unwrap_or}
-use Rattle.std.proofs.Common.{refl, sym, ap, ◌∙◌, arith, length-take}
+use Rattle.std.proofs.Common.{◌≡◌, ℕ, ◌+◌, ◌<◌, Bool, true, false, cond, List, [], ◌∷◌, ◌++◌, length, take, get_or, fold, Option, Some}
+use Rattle.std.proofs.Common.{None, option_map, unwrap_or}
+use Rattle.std.proofs.Common.{refl, sym, ap, subst, ◌∙◌, arith, length-take}
 use Rattle.std.specs.Prelude.{if◌then◌else◌}
 use Rattle.std.specs.List.{count_by, list_any}
 use Rattle.std.specs.Map.{keys_of}
@@ -15,7 +15,7 @@ use Rattle.linked_hash_map.proofs.Callers.Keys.{keys_of-set_or_push, is_some-fin
 
 module _ {K : Type 0} {eq : K → K → Bool} (laws : IsEquivalence eq) (pairs : List (K × ℕ)) (items : List K) where
   -- the next item is counted
-  pub count_by-set_or_push : (d q : K) (n i : ℕ) → i < length items
+  count_by-set_or_push : (d q : K) (n i : ℕ) → i < length items
       → ((q : K) → unwrap_or (value_at eq pairs q) 0 ≡ count_by (eq q) (take i items))
       → n ≡ unwrap_or (value_at eq pairs (get_or items i d)) 0 + 1
       → unwrap_or (value_at eq (set_or_push eq pairs (get_or items i d) n) q) 0
@@ -42,7 +42,7 @@ module _ {K : Type 0} {eq : K → K → Bool} (laws : IsEquivalence eq) (pairs :
           ∙ sym (count_by_more_no (eq q) items i d within (laws.symm q item ∙ apart))
 
   -- a count is at most the number of items so far
-  pub count-lt-length : (d : K) (i : ℕ) → i < length items
+  count-lt-length : (d : K) (i : ℕ) → i < length items
       → ((q : K) → unwrap_or (value_at eq pairs q) 0 ≡ count_by (eq q) (take i items))
       → unwrap_or (value_at eq pairs (get_or items i d)) 0 < length items
   count-lt-length d i within before =
@@ -51,7 +51,7 @@ module _ {K : Type 0} {eq : K → K → Bool} (laws : IsEquivalence eq) (pairs :
       omega arith
 
   -- and its key stands behind the others, if it is new
-  pub keys_of-set_or_push_first_seen : (d : K) (n i : ℕ) → i < length items
+  keys_of-set_or_push_first_seen : (d : K) (n i : ℕ) → i < length items
       → keys_of pairs ≡ fold (λ seen item.
       if list_any (eq item) seen then seen else seen ++ item ∷ []) [] (take i items)
       → keys_of (set_or_push eq pairs (get_or items i d) n)
@@ -65,29 +65,46 @@ module _ {K : Type 0} {eq : K → K → Bool} (laws : IsEquivalence eq) (pairs :
       ∙ ap (λ seen. seen_with seen item) before
       ∙ sym (fold_more seen_with [] items i d within)
 
--- a step of the loop, as the clauses of `entry` and of `or_insert` say it: the entry's key stands
--- for the item k, whose count is n
-module _ {K : Type 0} {eq : K → K → Bool} (laws : IsEquivalence eq) (before after : List (K × ℕ)) (items : List K) (stored k : K) where
-  own : (n i : ℕ) → k ≡ get_or items i k → ActsAs eq before stored k
-      → after ≡ set_or_push eq before stored n → after ≡ set_or_push eq before (get_or items i k) n
-  own n i item_is acts written = written ∙ acts.sets_or_pushes n ∙ ap (λ j. set_or_push eq before j n) item_is
+-- each item has as its count how often it comes, which is 0 if it has none; the keys stand in the
+-- order in which the items first come
+pub record CountsItems {K : Type 0} (eq : K → K → Bool) (counts : List (K × ℕ)) (items : List K) :
+    Type 0 where
+  pub count : (q : K) → unwrap_or (value_at eq counts q) 0 ≡ count_by (eq q) items
+  pub order : keys_of counts
+      ≡ fold (λ seen item. if list_any (eq item) seen then seen else seen ++ item ∷ []) [] items
 
-  pub count_by-counted : (q : K) (n i : ℕ) → i < length items → k ≡ get_or items i k
-      → ActsAs eq before stored k → after ≡ set_or_push eq before stored n
-      → ((q : K) → unwrap_or (value_at eq before q) 0 ≡ count_by (eq q) (take i items))
-      → n ≡ unwrap_or (value_at eq before k) 0 + 1
-      → unwrap_or (value_at eq after q) 0 ≡ count_by (eq q) (take (i + 1) items)
-  count_by-counted q n i within item_is acts written so_far more =
-      ap (λ pairs. unwrap_or (value_at eq pairs q) 0) (own n i item_is acts written)
-      ∙ count_by-set_or_push laws before items k q n i within so_far (more ∙ ap (λ j. unwrap_or (value_at eq before j) 0 + 1) item_is)
+pub CountsItems-start : {K : Type 0} (eq : K → K → Bool) (counts : List (K × ℕ)) → counts ≡ []
+    → CountsItems eq counts []
+CountsItems-start eq counts empty = record {
+  count = λ q. ap (λ pairs. unwrap_or (value_at eq pairs q) 0) empty;
+  order = ap keys_of empty;
+}
 
-  pub keys_of-counted : (n i : ℕ) → i < length items → k ≡ get_or items i k
-      → ActsAs eq before stored k → after ≡ set_or_push eq before stored n
-      → keys_of before ≡ fold (λ seen item.
-      if list_any (eq item) seen then seen else seen ++ item ∷ []) [] (take i items)
-      → keys_of after ≡ fold (λ seen item. if list_any (eq item) seen then seen else seen ++ item ∷ []) [] (take (i + 1) items)
-  keys_of-counted n i within item_is acts written so_far =
-      ap keys_of (own n i item_is acts written) ∙ keys_of-set_or_push_first_seen laws before items k n i within so_far
+-- a step of the loop, as the clauses of `entry` and of `or_insert` say it: the item k is counted,
+-- and `stored` is the key of its entry
+module _ {K : Type 0} {eq : K → K → Bool} (laws : IsEquivalence eq) {before : List (K × ℕ)}
+    (items : List K) (i : ℕ) (w : CountsItems eq before (take i items)) (within : i < length items)
+    {k : K} (item_is : k ≡ get_or items i k) where
+  pub CountsItems-counted : {after : List (K × ℕ)} {stored : K} → ActsAs eq before stored k
+      → after ≡ set_or_push eq before stored (unwrap_or (value_at eq before k) 0 + 1)
+      → CountsItems eq after (take (i + 1) items)
+  CountsItems-counted {after} {stored} acts written = record {
+    count = λ q. ap (λ pairs. unwrap_or (value_at eq pairs q) 0) own
+        ∙ count_by-set_or_push laws before items k q n i within w.count (ap (λ j. unwrap_or (value_at eq before j) 0 + 1) item_is);
+    order = ap keys_of own ∙ keys_of-set_or_push_first_seen laws before items k n i within w.order;
+  }
+    where
+      n : ℕ
+      n = unwrap_or (value_at eq before k) 0 + 1
+
+      own : after ≡ set_or_push eq before (get_or items i k) n
+      own = written ∙ acts.sets_or_pushes n ∙ ap (λ j. set_or_push eq before j n) item_is
+
+  -- its count so far is below the number of items
+  pub CountsItems-below : unwrap_or (value_at eq before k) 0 < length items
+  CountsItems-below =
+      subst (λ j. unwrap_or (value_at eq before j) 0 < length items) (sym item_is)
+      (count-lt-length laws before items k i within w.count)
 
 -- each key has the count that it had at the start, and one more for each of the items that is the
 -- same; a key that had none has none
@@ -112,46 +129,27 @@ module _ {K : Type 0} {eq : K → K → Bool} (laws : IsEquivalence eq) {start n
   same_item : (q : K) → eq q k ≡ eq q (get_or items i k)
   same_item q = ap (eq q) item_is
 
-  pub CountsKnown-counted : {after : List (K × ℕ)} (n : ℕ) → value_at eq now k ≡ Some n
-      → Updates eq now after k (Some (n + 1)) → CountsKnown eq start after (take (i + 1) items)
-  CountsKnown-counted {after} n own written = record { counts = λ q. by_test q (eq k q) refl }
+  pub CountsKnown-counted : {after : List (K × ℕ)}
+      → Updates eq now after k (option_map (λ n. n + 1) (value_at eq now k))
+      → CountsKnown eq start after (take (i + 1) items)
+  CountsKnown-counted {after} written = record { counts = λ q. by_test q (eq k q) refl }
     where
-      by_value : (c : ℕ) (o : Option ℕ) → Some n ≡ option_map (λ m. m + c) o
-          → Some (n + 1) ≡ option_map (λ m. m + (c + 1)) o
-      by_value c None is = absurd (let no : Some n ≡ None = is in cc)
-      by_value c (Some m) is = let same : n ≡ m + c = cc in let more : n + 1 ≡ m + (c + 1) = omega arith in ap (λ (i : ℕ). Some i) more
+      one_more : (c : ℕ) (o : Option ℕ)
+          → option_map (λ n. n + 1) (option_map (λ m. m + c) o) ≡ option_map (λ m. m + (c + 1)) o
+      one_more c None = refl
+      one_more c (Some m) = let same : m + c + 1 ≡ m + (c + 1) = omega arith in ap (λ (n : ℕ). Some n) same
 
       by_test : (q : K) (b : Bool) → eq k q ≡ b
           → value_at eq after q
           ≡ option_map (λ m. m + count_by (eq q) (take (i + 1) items)) (value_at eq start q)
       by_test q true same =
           sym (value_at-same laws after k q same) ∙ written.here
-          ∙ by_value (count_by (eq q) (take i items)) (value_at eq start q)
-          (sym own ∙ value_at-same laws now k q same ∙ w.counts q)
+          ∙ ap (option_map (λ n. n + 1)) (value_at-same laws now k q same ∙ w.counts q)
+          ∙ one_more (count_by (eq q) (take i items)) (value_at eq start q)
           ∙ ap (λ c. option_map (λ m. m + c) (value_at eq start q))
           (sym (count_by_more_yes (eq q) items i k within (sym (same_item q) ∙ laws.symm q k ∙ same)))
       by_test q false apart =
           written.others q apart ∙ w.counts q
-          ∙ ap (λ c. option_map (λ m. m + c) (value_at eq start q))
-          (sym (count_by_more_no (eq q) items i k within (sym (same_item q) ∙ laws.symm q k ∙ apart)))
-
-  pub CountsKnown-absent : value_at eq now k ≡ None → CountsKnown eq start now (take (i + 1) items)
-  CountsKnown-absent none = record { counts = λ q. by_test q (eq k q) refl }
-    where
-      by_value : (c d : ℕ) (o : Option ℕ) → None ≡ option_map (λ m. m + c) o
-          → None ≡ option_map (λ m. m + d) o
-      by_value c d None is = refl
-      by_value c d (Some m) is = absurd (let no : None ≡ Some (m + c) = is in cc)
-
-      by_test : (q : K) (b : Bool) → eq k q ≡ b
-          → value_at eq now q
-          ≡ option_map (λ m. m + count_by (eq q) (take (i + 1) items)) (value_at eq start q)
-      by_test q true same =
-          let missing = sym (value_at-same laws now k q same) ∙ none in
-          missing ∙ by_value (count_by (eq q) (take i items)) (count_by (eq q) (take (i + 1) items))
-          (value_at eq start q) (sym missing ∙ w.counts q)
-      by_test q false apart =
-          w.counts q
           ∙ ap (λ c. option_map (λ m. m + c) (value_at eq start q))
           (sym (count_by_more_no (eq q) items i k within (sym (same_item q) ∙ laws.symm q k ∙ apart)))
 

@@ -1,9 +1,11 @@
 -- For callers: which pairs and keys there are after each call, and how many.
-use Rattle.std.proofs.Common.{◌≡◌, ℕ, zero, suc, ◌+◌, ◌-◌, ◌≤◌, Bool, true, false, cond, not, ◌||◌, IsTrue, List, []}
-use Rattle.std.proofs.Common.{◌∷◌, ◌++◌, length, take, drop, option_map}
-use Rattle.std.proofs.Common.{filter, Option, Some, None, is_some, refl, sym, ap, ap₂, ◌∙◌, subst, true≢false, arith, length-append}
+use Rattle.std.proofs.Common.{◌≡◌, ℕ, zero, suc, ◌+◌, ◌-◌, ◌≤◌, Bool, true, false, cond, not, ◌||◌, IsTrue, List, [], ◌∷◌, ◌++◌, length}
+use Rattle.std.proofs.Common.{take, drop, option_map}
+use Rattle.std.proofs.Common.{filter, Option, Some, None, is_some, unwrap_or, refl, sym, ap, ap₂, ◌∙◌, subst, true≢false, arith}
+use Rattle.std.proofs.Common.{length-append}
 use Rattle.std.specs.Option.{IsSome}
 use Rattle.std.specs.List.{IsDistinct, list_any}
+use Rattle.std.specs.List as lists
 use Rattle.std.specs.Map.{lookup_entry, keys_of}
 use Rattle.std.specs.Cmp.{IsEquivalence}
 use Rattle.std.proofs.lemmas.List.{map-append, drop-map, take-map, length-map}
@@ -32,6 +34,18 @@ is_some-lookup_entry test (pair ∷ pairs) = by_test (test pair.0) (is_some-look
     by_test true rest = refl
     by_test false rest = rest
 
+key_or-lookup_entry : {K V : Type 0} (test : K → Bool) (k : K) (pairs : List (K × V))
+    → key_or k (lookup_entry test pairs) ≡ unwrap_or (lists.find test (keys_of pairs)) k
+key_or-lookup_entry test k [] = refl
+key_or-lookup_entry test k (pair ∷ pairs) = by_test (test pair.0) (key_or-lookup_entry test k pairs)
+  where
+    by_test : (b : Bool)
+        → key_or k (lookup_entry test pairs) ≡ unwrap_or (lists.find test (keys_of pairs)) k
+        → key_or k (cond b (Some pair) (lookup_entry test pairs))
+        ≡ unwrap_or (cond b (Some pair.0) (lists.find test (keys_of pairs))) k
+    by_test true rest = refl
+    by_test false rest = rest
+
 module _ {K V : Type 0} (eq : K → K → Bool) (pairs : List (K × V)) (k : K) where
   -- as after a `contains_key` that returned false
   pub find-absent : is_some (find eq pairs k) ≡ false → find eq pairs k ≡ None
@@ -43,6 +57,10 @@ module _ {K V : Type 0} (eq : K → K → Bool) (pairs : List (K × V)) (k : K) 
 
   pub IsSome-find : (v : V) → value_at eq pairs k ≡ Some v → IsSome (find eq pairs k)
   IsSome-find v found = sym (is_some-value_at eq pairs k) ∙ ap is_some found
+
+  -- the stored key of a key, or the key itself if it has none, in words of the keys alone
+  pub key_or-find : key_or k (find eq pairs k) ≡ unwrap_or (lists.find (eq k) (keys_of pairs)) k
+  key_or-find = key_or-lookup_entry (eq k) k pairs
 
 -- the keys
 keys_of-filter : {K V : Type 0} (kept : K → Bool) (pairs : List (K × V))

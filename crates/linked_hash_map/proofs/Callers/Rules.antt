@@ -12,13 +12,12 @@ use Rattle.std.proofs.lemmas.Bool.{eqb-true}
 use Rattle.linked_hash_map.specs.declared.map.Mode.{Mode}
 use Rattle.linked_hash_map.specs.declared.map.Mode.TheVariants.{Touch}
 use Rattle.linked_hash_map.specs.Pairs.{find, value_at, without, set_or_push, put}
-use Rattle.linked_hash_map.proofs.Callers.Keys.{length-put_most, keys_of-to_back_own, keys_of-without}
-use Rattle.linked_hash_map.proofs.Callers.Keys.{keys_of-set_or_push, keys_of-append, keys_of-without_first}
-use Rattle.linked_hash_map.proofs.Callers.Keys.{keys_of-without_last, first-keys_of}
+use Rattle.linked_hash_map.proofs.Callers.Keys.{length-put_most, key_or-find, keys_of-to_back, keys_of-to_back_own, keys_of-without}
+use Rattle.linked_hash_map.proofs.Callers.Keys.{keys_of-set_or_push, keys_of-append, keys_of-without_first, keys_of-without_last}
+use Rattle.linked_hash_map.proofs.Callers.Keys.{first-keys_of}
 use Rattle.linked_hash_map.proofs.Callers.Collected.{insert_each-append, insert_each-snoc}
-use Rattle.linked_hash_map.proofs.Callers.Counted.{count_by-set_or_push, count-lt-length}
-use Rattle.linked_hash_map.proofs.Callers.Counted.{keys_of-set_or_push_first_seen, CountsKnown-start}
-use Rattle.linked_hash_map.proofs.Callers.Counted.{CountsKnown-counted, CountsKnown-absent, CountsKnown-fits}
+use Rattle.linked_hash_map.proofs.Callers.Counted.{CountsItems-start, CountsItems-counted, CountsItems-below, CountsKnown-start}
+use Rattle.linked_hash_map.proofs.Callers.Counted.{CountsKnown-counted, CountsKnown-fits}
 use Rattle.linked_hash_map.proofs.Callers.Dense.{values_of_dense_push, value_at_dense_each, eq-dense}
 use Rattle.linked_hash_map.proofs.Callers.Lookups.{value_at-append}
 use Rattle.linked_hash_map.proofs.Callers.Rounds.{IsTurned-start, IsTurned-turn, IsTurned-round}
@@ -66,6 +65,9 @@ pub ruleset number_keys = (keys_of-put_number, length-put_number, cons-keys_of_f
 -- the keys after an insertion in Keep, and after a removal, at texts
 pub ruleset text_keys = (keys_of-without_text, keys_of-set_or_push_text)
 
+-- the keys after an insertion in Touch, in words of the keys alone
+pub ruleset stored_keys = (keys_of-to_back, key_or-find)
+
 -- keys at the ends
 pub ruleset end_keys = (keys_of-append, keys_of-without_first, keys_of-without_last, first-keys_of)
 
@@ -80,10 +82,10 @@ pub ruleset changes = (VisitMaps-written, VisitMaps-removed, VisitMaps-start)
 pub ruleset dense = (values_of_dense_push, value_at_dense_each, eq-dense)
 
 -- maps that count items, in the order in which these first come
-pub ruleset counts = (count_by-set_or_push, count-lt-length, keys_of-set_or_push_first_seen)
+pub ruleset counts = (CountsItems-start, CountsItems-counted, CountsItems-below)
 
 -- counts of items that the map has
-pub ruleset known_counts = (CountsKnown-start, CountsKnown-counted, CountsKnown-absent, CountsKnown-fits)
+pub ruleset known_counts = (CountsKnown-start, CountsKnown-counted, CountsKnown-fits)
 
 -- insertions one after another, as lists that are inserted one after another
 pub ruleset insertions = (insert_each-append, insert_each-snoc)

@@ -1,6 +1,6 @@
 use Rattle.std.proofs.Common.{take}
-use Rattle.clients.specs.Items.{CountsInOrder}
+use Rattle.linked_hash_map.proofs.Callers.Counted.{CountsItems}
 use Rattle.clients.proofs.counters.count_all.Given as goal
 
 abbrev pub invariant-loop-item : goal.invariant-loop-item
-invariant-loop-item g l = CountsInOrder g.K.PartialEq.eq l.counts.pairs (take l.item-index l.items)
+invariant-loop-item g l = CountsItems g.K.PartialEq.eq l.counts.pairs (take l.item-index l.items)
