@@ -160,6 +160,7 @@ pub fn run_in_memory(alloc: Global, input: &[u8], output: &mut Vec<u8>, faults: 
 
 /// Returns whether the program is called with an argument. It need not be UTF-8.
 fn has_arguments<E: Env>(env: &E) -> bool {
+    // One that is longer than the buffer is `TooLong`.
     !matches!(env.arg(1, &mut [0]), Err(FillError::NotPresent))
 }
 
