@@ -22,14 +22,13 @@ module _ (line : List ℕ) (lines : List (List ℕ)) where
   AreCommandsOf-said command commands says said = filter-said command commands (words_of line) (map words_of lines) says said
 
   -- an invalid line
-  pub IsFirstInvalid-one : IsInvalid line → IsFirstInvalid (line ∷ lines) 1
-  IsFirstInvalid-one invalid = record { before = []; line = line; after = lines; parts = refl; number = refl; valid = All-nil IsValid; invalid = invalid }
+  pub IsFirstInvalid-one : IsInvalid line → IsFirstInvalid (line ∷ lines) 1 line
+  IsFirstInvalid-one invalid = record { before = []; after = lines; parts = refl; number = refl; valid = All-nil IsValid; invalid = invalid }
 
   -- a valid line
-  pub IsFirstInvalid-add : (n : ℕ) → IsValid line → IsFirstInvalid lines n → IsFirstInvalid (line ∷ lines) (1 + n)
-  IsFirstInvalid-add n valid first = record {
+  pub IsFirstInvalid-add : (n : ℕ) (found : List ℕ) → IsValid line → IsFirstInvalid lines n found → IsFirstInvalid (line ∷ lines) (1 + n) found
+  IsFirstInvalid-add n found valid first = record {
     before = line ∷ first.before;
-    line = first.line;
     after = first.after;
     parts = ap (λ (ls : List (List ℕ)). line ∷ ls) first.parts;
     number = let e = first.number in omega arith;

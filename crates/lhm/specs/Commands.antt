@@ -114,9 +114,8 @@ abbrev pub IsInvalid : List ℕ → Type 0
 IsInvalid line = (words_of line ≢ []) × SayNoCommand (words_of line)
 
 -- line n, counted from 1, is the first invalid one
-pub record IsFirstInvalid (lines : List (List ℕ)) (n : ℕ) : Type 0 where
+pub record IsFirstInvalid (lines : List (List ℕ)) (n : ℕ) (line : List ℕ) : Type 0 where
   pub before : List (List ℕ)
-  pub line : List ℕ
   pub after : List (List ℕ)
   pub parts : lines ≡ before ++ line ∷ after
   pub number : n ≡ length before + 1

@@ -15,12 +15,13 @@ ghost use Rattle.std.specs.Prelude.{◌≡◌, ◌⊎◌, ◌++◌, ◌∷◌, �
 ghost use Rattle.std.specs.Io.KnownBytes.{Keeps, Appends};
 ghost use Rattle.lhm.specs.Grammar.{lines_of};
 ghost use Rattle.lhm.specs.Commands.{IsValid, IsFirstInvalid};
-ghost use Rattle.lhm.specs.Stop.{status_of, stop_text, StopsLines, StopsInput};
+ghost use Rattle.lhm.specs.Stop.{status_of, stop_text, StopsLines};
 ghost use Rattle.lhm.specs.Run.{IsRunOf};
 
 mod grammar;
 mod input;
 mod parser;
+mod quote;
 mod stop;
 #[cfg(test)]
 mod tests;
@@ -29,13 +30,14 @@ mod text;
 use linked_hash_map::LinkedHashMap;
 use linked_hash_map::replay::replay;
 use std::alloc::Global;
+use std::env::{Env, FillError};
 use std::io;
 use std::io::{Read, Write};
 use std::process::ExitCode;
 use stop::Stop;
 
 /// Runs the commands in these bytes on a new map, and returns the whole text of the output.
-fn respond(alloc: Global, bytes: &[u8]) -> Result<String, Stop>
+fn respond(alloc: Global, bytes: &[u8]) -> Result<String, Stop<'_>>
     ensures text { IfOk result (λ text. IsRunOf bytes.now (string_bytes text)) }
     ensures stop { IfErr result (StopsLines (lines_of bytes.now)) }
 {
@@ -52,18 +54,8 @@ fn respond(alloc: Global, bytes: &[u8]) -> Result<String, Stop>
     }
 }
 
-/// Reads the input to its end, runs its commands and returns the whole text of the output.
-fn read_and_respond<R: Read>(alloc: Global, input: &mut R) -> Result<String, Stop>
-    ensures text { IfOk result (λ text.
-        IfSome (R.remaining input.old) (λ bytes. IsRunOf bytes (string_bytes text))) }
-    ensures stop { IfErr result (StopsInput (R.remaining input.old)) }
-{
-    let bytes = input::read_all(alloc, input)?;
-    respond(alloc, bytes.as_slice())
-}
-
 /// Writes all of the bytes and flushes.
-fn write_output<W: Write>(output: &mut W, bytes: &[u8]) -> Result<(), Stop>
+fn write_output<W: Write>(output: &mut W, bytes: &[u8]) -> Result<(), Stop<'static>>
     ensures written { OnOk result
         (Appends (W.contents output.old) (W.contents output.new) bytes.now) }
     ensures failed { IfErr result (λ stop. stop ≡ Stop.OutputFailed) }
@@ -75,7 +67,7 @@ fn write_output<W: Write>(output: &mut W, bytes: &[u8]) -> Result<(), Stop>
 }
 
 /// Writes a line that says why the run stopped.
-fn write_fault<F: Write>(faults: &mut F, stop: &Stop) -> io::Result<()>
+fn write_fault<F: Write>(faults: &mut F, stop: &Stop<'_>) -> io::Result<()>
     ensures { OnOk result
         (Appends (F.contents faults.old) (F.contents faults.new) (stop_text stop.now ++ 10 ∷ [])) }
 {
@@ -85,11 +77,33 @@ fn write_fault<F: Write>(faults: &mut F, stop: &Stop) -> io::Result<()>
 
 /// Tells why the run stopped, and returns the status. A writer of faults that fails changes no
 /// status.
-fn report<F: Write>(faults: &mut F, stop: &Stop) -> u8
+fn report<F: Write>(faults: &mut F, stop: &Stop<'_>) -> u8
     ensures { result ≡ status_of stop.now }
 {
     let _ = write_fault(faults, stop);
     stop.status()
+}
+
+/// Runs the commands in these bytes on a new map, and writes the replies and the final list, or why
+/// there are none. Returns the exit status of the program.
+fn run_bytes<W: Write, F: Write>(alloc: Global, bytes: &[u8], output: &mut W, faults: &mut F) -> u8
+    ensures statuses { (result ≡ 0) ⊎ (result ≡ 2) ⊎ (result ≡ 3) ⊎ (result ≡ 4) }
+    ensures done { result ≡ 0 → (text : List ℕ) × (IsRunOf bytes.now text
+        × Appends (W.contents output.old) (W.contents output.new) text) }
+    ensures no_fault { result ≡ 0 → Keeps (F.contents faults.old) (F.contents faults.new) }
+    ensures valid { result ≡ 0 → All IsValid (lines_of bytes.now) }
+    ensures invalid { result ≡ 2
+        → (n : ℕ) × (line : List ℕ) × IsFirstInvalid (lines_of bytes.now) n line }
+    ensures silent { (result ≡ 2) ⊎ (result ≡ 3)
+        → Keeps (W.contents output.old) (W.contents output.new) }
+{
+    match respond(alloc, bytes) {
+        Ok(text) => match write_output(output, text.as_bytes()) {
+            Ok(()) => 0,
+            Err(stop) => report(faults, &stop),
+        },
+        Err(stop) => report(faults, &stop),
+    }
 }
 
 /// Reads commands from `input` to its end, runs them on a new map and writes the replies and the
@@ -97,8 +111,8 @@ fn report<F: Write>(faults: &mut F, stop: &Stop) -> u8
 ///
 /// The status is 0 for a run, 2 if a line is no command, 3 if memory is refused for the
 /// input, the commands, the replies or the output, and 4 if reading or writing fails. A status
-/// other than 0 is explained by a line on `faults`. The output is built whole before its first byte
-/// is written.
+/// other than 0 is explained by a line on `faults`, which quotes at most 40 bytes of the line that
+/// is no command. The output is built whole before its first byte is written.
 pub fn run<R: Read, W: Write, F: Write>(
     alloc: Global,
     input: &mut R,
@@ -118,15 +132,12 @@ pub fn run<R: Read, W: Write, F: Write>(
     ensures valid { result ≡ 0 → IfSome (R.remaining input.old) (λ bytes.
         All IsValid (lines_of bytes)) }
     ensures invalid { result ≡ 2 → IfSome (R.remaining input.old) (λ bytes.
-        (line : ℕ) × IsFirstInvalid (lines_of bytes) line) }
+        (n : ℕ) × (line : List ℕ) × IsFirstInvalid (lines_of bytes) n line) }
     ensures silent { (result ≡ 2) ⊎ (result ≡ 3)
         → Keeps (W.contents output.old) (W.contents output.new) }
 {
-    match read_and_respond(alloc, input) {
-        Ok(text) => match write_output(output, text.as_bytes()) {
-            Ok(()) => 0,
-            Err(stop) => report(faults, &stop),
-        },
+    match input::read_all(alloc, input) {
+        Ok(bytes) => run_bytes(alloc, bytes.as_slice(), output, faults),
         Err(stop) => report(faults, &stop),
     }
 }
@@ -140,14 +151,23 @@ pub fn run_in_memory(alloc: Global, input: &[u8], output: &mut Vec<u8>, faults: 
     ensures no_fault { result ≡ 0 → faults.new.items ≡ faults.old.items }
     ensures valid { result ≡ 0 → All IsValid (lines_of input.now) }
     ensures invalid { result ≡ 2
-        → (line : ℕ) × IsFirstInvalid (lines_of input.now) line }
+        → (n : ℕ) × (line : List ℕ) × IsFirstInvalid (lines_of input.now) n line }
     ensures silent { (result ≡ 2) ⊎ (result ≡ 3) → output.new.items ≡ output.old.items }
 {
     let mut rest = input;
     run(alloc, &mut rest, output, faults)
 }
 
+/// Returns whether the program is called with an argument. It need not be UTF-8.
+fn has_arguments<E: Env>(env: &E) -> bool {
+    // One that is longer than the buffer is `TooLong`.
+    !matches!(env.arg(1, &mut [0]), Err(FillError::NotPresent))
+}
+
 fn main(rt: HostRuntime) -> ExitCode {
+    if has_arguments(&rt) {
+        return ExitCode::from(report(&mut rt.stderr(), &Stop::HasArguments));
+    }
     ExitCode::from(run(
         rt.alloc(),
         &mut rt.stdin(),

@@ -3,15 +3,18 @@ ghost use Rattle.std.specs.Prelude.{◌≡◌, Some};
 ghost use Rattle.lhm.specs.declared.stop.Stop.TheVariants.{OutOfMemory};
 ghost use Rattle.lhm.specs.Stop.{status_of, stop_text};
 
+use super::quote::Quote;
 use std::alloc::{AllocError, AllocFailed};
 use std::error::Error;
 use std::fmt;
 
 /// Why a run stops before all of its output is written.
 #[derive(Clone, Copy, Debug, PartialEq)]
-pub enum Stop {
-    /// The first line that has words and is no command, counted from 1.
-    NotACommand(usize),
+pub enum Stop<'a> {
+    /// The program is called with an argument.
+    HasArguments,
+    /// The number, counted from 1, and the bytes of the first line that has words and is no command.
+    NotACommand(usize, &'a [u8]),
     /// Memory was refused for the input, the commands, the replies or the output.
     OutOfMemory,
     /// The input could not be read to its end.
@@ -20,13 +23,14 @@ pub enum Stop {
     OutputFailed,
 }
 
-impl Stop {
+impl Stop<'_> {
     /// Returns the exit status of the program.
     pub fn status(&self) -> u8
         ensures { result ≡ status_of self.now }
     {
         match self {
-            Stop::NotACommand(_) => 2,
+            Stop::HasArguments => 2,
+            Stop::NotACommand(_, _) => 2,
             Stop::OutOfMemory => 3,
             Stop::InputFailed => 4,
             Stop::OutputFailed => 4,
@@ -34,12 +38,13 @@ impl Stop {
     }
 }
 
-impl fmt::Display for Stop {
+impl fmt::Display for Stop<'_> {
     ghost output = { λ stop. Some (stop_text stop) };
 
     fn fmt<W: fmt::Write>(&self, f: &mut fmt::Formatter<W>) -> fmt::Result {
         match self {
-            Stop::NotACommand(line) => write!(f, "line {line}: not a command"),
+            Stop::HasArguments => write!(f, "usage: lhm < FILE"),
+            Stop::NotACommand(n, line) => write!(f, "line {n}: not a command: {}", Quote(line)),
             Stop::OutOfMemory => write!(f, "out of memory"),
             Stop::InputFailed => write!(f, "input failed"),
             Stop::OutputFailed => write!(f, "output failed"),
@@ -47,20 +52,20 @@ impl fmt::Display for Stop {
     }
 }
 
-impl Error for Stop {}
+impl Error for Stop<'_> {}
 
-impl From<AllocError> for Stop {
+impl From<AllocError> for Stop<'_> {
     ghost from_gives = { λ _ stop. stop ≡ OutOfMemory };
 
-    fn from(_error: AllocError) -> Stop {
+    fn from(_error: AllocError) -> Self {
         Stop::OutOfMemory
     }
 }
 
-impl<T: Drop> From<AllocFailed<T>> for Stop {
+impl<T: Drop> From<AllocFailed<T>> for Stop<'_> {
     ghost from_gives = { λ _ stop. stop ≡ OutOfMemory };
 
-    fn from(_error: AllocFailed<T>) -> Stop {
+    fn from(_error: AllocFailed<T>) -> Self {
         Stop::OutOfMemory
     }
 }

@@ -1,8 +1,10 @@
-//! Readers and writers over memory, which move a few bytes at once and fail when they are told to.
-//! Their contracts tell their bytes, so what is proved of `run` holds of it with them.
+//! Readers and writers over memory, which move a few bytes at once and fail when they are told to,
+//! and the words of a command line. The contracts of the first tell their bytes, so what is proved
+//! of `run` holds of it with them.
 ghost use Rattle.std.specs.Prelude.{Some, ◌<◌, take};
 
 use std::alloc::Global;
+use std::env::{Env, FillError};
 use std::io;
 use std::io::{ErrorKind, Read, Write};
 
@@ -188,5 +190,31 @@ impl Write for Output {
 
     fn flush(&mut self) -> io::Result<()> {
         self.calls.count()
+    }
+}
+
+/// The words of a command line: the program's name, and then its arguments.
+#[derive(Clone, Copy)]
+pub struct Words<'a>(pub &'a [&'a str]);
+
+impl Env for Words<'_> {
+    fn arg(&self, i: usize, buf: &mut [u8]) -> Result<usize, FillError> {
+        if i >= self.0.len() {
+            return Err(FillError::NotPresent);
+        }
+        let word = self.0[i].as_bytes();
+        if word.len() > buf.len() {
+            return Err(FillError::TooLong);
+        }
+        buf[..word.len()].copy_from_slice(word);
+        Ok(word.len())
+    }
+
+    fn var(&self, _name: &str, _buf: &mut [u8]) -> Result<usize, FillError> {
+        Err(FillError::NotPresent)
+    }
+
+    fn var_at(&self, _i: usize, _buf: &mut [u8]) -> Result<usize, FillError> {
+        Err(FillError::NotPresent)
     }
 }
