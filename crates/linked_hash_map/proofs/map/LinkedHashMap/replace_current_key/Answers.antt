@@ -8,7 +8,8 @@ use Rattle.linked_hash_map.proofs.nodes.CutNodes.{CutAt, slice_get-held}
 use Rattle.linked_hash_map.proofs.nodes.HeldPairs.{length-pairs_of}
 use Rattle.linked_hash_map.proofs.nodes.Kept.{distinct_keys, IsValid-kept}
 use Rattle.linked_hash_map.proofs.nodes.Outside.{IsElsewhere}
-use Rattle.linked_hash_map.proofs.nodes.ReplacedKey.{cursor_at-rekeyed, slice_get-rekeyed, length-rekeyed_nodes, to_visit-rekeyed, set_key-rekeyed, IsKept-rekeyed}
+use Rattle.linked_hash_map.proofs.nodes.ReplacedKey.{cursor_at-rekeyed, slice_get-rekeyed, length-rekeyed_nodes}
+use Rattle.linked_hash_map.proofs.nodes.ReplacedKey.{to_visit-rekeyed, set_key-rekeyed, IsKept-rekeyed}
 use Rattle.linked_hash_map.proofs.map.LinkedHashMap.replace_current_key.Goals as goal
 use Rattle.lhm_ring.proofs.lists.Options.{Some-injective}
 use Rattle.lhm_ring.specs.Pointer.{pointer_of}

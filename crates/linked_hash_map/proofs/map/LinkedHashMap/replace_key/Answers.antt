@@ -17,7 +17,7 @@ use Rattle.lhm_ring.specs.Search.{HasKey}
 has : (g : _) (c : goal.After-replace_key g)
     → HasKey (g.K.PartialEq.eq c.args.key) c.hash_one-hash.result c.self.inside.table.held
     (pointer_of c.in-Some.at)
-has g c = of-Some _ c.in-Some.is c.position.ensures.found
+has g c = of-Some _ c.in-Some.is c.position-found.ensures.found
 
 -- and the pairs have the key there
 pairs : (g : _) (c : goal.After-replace_key g) → pairs_of c.replace_key.new.self.held
@@ -33,7 +33,7 @@ absent g c =
     let m = c.self.inside in
     find-IsAbsent (hash_by-respects g.S.Hasher.Hasher.finish g.S.Hasher.Hasher.write
     g.S.BuildHasher.build_hasher g.met.K.Hash.respects_eq) m.hasher c.args.key c.hash_one-hash.ensures m.table.held
-    c.self.invariant.hashed (of-None c.in-None.is c.position.ensures.absent)
+    c.self.invariant.hashed (of-None c.in-None.is c.position-found.ensures.absent)
 
 same_keys : (g : _) (c : goal.In-None g) → keys_of (pairs_of c.self.inside.table.held)
     ≡ map (replaced g.K.PartialEq.eq c.args.key) (keys_of (pairs_of c.self.inside.table.held))
@@ -42,7 +42,7 @@ same_keys g c =
     sym (ap keys_of (set_key-absent g.K.PartialEq.eq ps c.args.key (absent g c))) ∙ keys_of-set_key g.K.PartialEq.eq ps c.args.key
 
 pub replace_key-requires : goal.replace_key-requires
-replace_key-requires g c = (of-Some _ c.in-Some.is c.position.ensures.found).held
+replace_key-requires g c = (of-Some _ c.in-Some.is c.position-found.ensures.found).held
 
 pub invariant_of-self : goal.invariant_of-self
 invariant_of-self g c =
