@@ -1,7 +1,6 @@
 -- Counts of items.
 use Rattle.std.specs.Prelude.{◌≡◌, ℕ, ◌∷◌, [], ◌++◌, fold, unwrap_or, if◌then◌else◌, Bool, List}
 use Rattle.std.specs.List.{count_by, list_any}
-use Rattle.std.specs.Map.{keys_of}
 use Rattle.linked_hash_map.specs.Pairs.{value_at}
 
 module _ {K : Type 0} (eq : K → K → Bool) where

@@ -1,6 +1,6 @@
 -- For callers: the laws of iterators, for a wrapper that has an iterator of its own. It is seen as
 -- the list of what it has left.
-use Rattle.std.proofs.Common.{◌≡◌, List, [], ◌∷◌, length, reverse, Option, Result, IfOk, Vec, vec_items, subst, ap, ◌∙◌}
+use Rattle.std.proofs.Common.{◌≡◌, List, [], ◌∷◌, length, reverse, Result, IfOk, Vec, vec_items, subst, ap, ◌∙◌}
 use Rattle.std.specs.Iterator.Adapters.{rev_source, rev_steps}
 use Rattle.std.specs.Map.Iter.{TakesLast}
 use Rattle.std.proofs.lemmas.List.{length-reverse, reverse-append}

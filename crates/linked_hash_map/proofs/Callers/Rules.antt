@@ -12,12 +12,12 @@ use Rattle.std.proofs.lemmas.Bool.{eqb-true}
 use Rattle.linked_hash_map.specs.declared.map.Mode.{Mode}
 use Rattle.linked_hash_map.specs.declared.map.Mode.TheVariants.{Touch}
 use Rattle.linked_hash_map.specs.Pairs.{find, value_at, without, set_or_push, put}
-use Rattle.linked_hash_map.proofs.Callers.Keys.{length-put_most, key_or-find, keys_of-to_back, keys_of-to_back_own, keys_of-without}
-use Rattle.linked_hash_map.proofs.Callers.Keys.{keys_of-set_or_push, keys_of-append, keys_of-without_first, keys_of-without_last}
-use Rattle.linked_hash_map.proofs.Callers.Keys.{first-keys_of}
+use Rattle.linked_hash_map.proofs.Callers.Keys.{length-put_most, key_or-find, keys_of-to_back, keys_of-to_back_own}
+use Rattle.linked_hash_map.proofs.Callers.Keys.{keys_of-without, keys_of-set_or_push, keys_of-append, keys_of-without_first}
+use Rattle.linked_hash_map.proofs.Callers.Keys.{keys_of-without_last, first-keys_of}
 use Rattle.linked_hash_map.proofs.Callers.Collected.{insert_each-append, insert_each-snoc}
-use Rattle.linked_hash_map.proofs.Callers.Counted.{CountsItems-start, CountsItems-counted, CountsItems-below, CountsKnown-start}
-use Rattle.linked_hash_map.proofs.Callers.Counted.{CountsKnown-counted, CountsKnown-fits}
+use Rattle.linked_hash_map.proofs.Callers.Counted.{CountsItems-start, CountsItems-counted, CountsItems-below}
+use Rattle.linked_hash_map.proofs.Callers.Counted.{CountsKnown-start, CountsKnown-counted, CountsKnown-fits}
 use Rattle.linked_hash_map.proofs.Callers.Dense.{values_of_dense_push, value_at_dense_each, eq-dense}
 use Rattle.linked_hash_map.proofs.Callers.Lookups.{value_at-append}
 use Rattle.linked_hash_map.proofs.Callers.Rounds.{IsTurned-start, IsTurned-turn, IsTurned-round}
