@@ -43,7 +43,8 @@ pub rechained_each-insert : (rechained : ℕ) {len longer capacity capacity' the
     → then ≡ rechained_each rechained capacity (capacity' - capacity)
 rechained_each-insert rechained {capacity = capacity} within one room counted =
     let none : capacity - capacity ≡ 0 = omega arith in
-    rechained_each-put rechained capacity {capacity = capacity} (omega arith) (sym (ap (rechained_each rechained capacity) none)) within one room counted
+    rechained_each-put rechained capacity {capacity = capacity}
+    (omega arith) (sym (ap (rechained_each rechained capacity) none)) within one room counted
 
 pub rechained_each-same : (rechained : ℕ) {capacity capacity' then : ℕ} → capacity' ≡ capacity → then ≡ rechained
     → then ≡ rechained_each rechained capacity (capacity' - capacity)

@@ -70,7 +70,8 @@ module _ {K V S : Type 0} {eq : K → K → Bool} (laws : IsEquivalence eq)
     hasher = same.hasher ∙ so_far.hasher;
     above = let start = so_far.above in omega (arith, start, raised);
     rechained = rechained_each-put old.rechained old.capacity so_far.above so_far.rechained within
-        (subst (λ ps. length ps ≤ length before.pairs + 1) (sym pairs_are) (length-put_most eq before.mode before.pairs k v)) raised counted;
+        (subst (λ ps. length ps ≤ length before.pairs + 1) (sym pairs_are)
+        (length-put_most eq before.mode before.pairs k v)) raised counted;
   }
 
   whole : first ++ (k, v) ∷ rest ≡ all

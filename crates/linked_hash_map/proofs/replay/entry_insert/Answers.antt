@@ -1,4 +1,5 @@
-use Rattle.std.proofs.Common.{rules, ◌≡◌, ◌+◌, ◌++◌, ◌∷◌, [], max, length, cond, refl, sym, ap, ◌∙◌, arith, length-append, Some, inl, inr, subst, ◌≤◌}
+use Rattle.std.proofs.Common.{rules, ◌≡◌, ◌+◌, ◌++◌, ◌∷◌, [], max, length, cond, refl, sym, ap, ◌∙◌, arith}
+use Rattle.std.proofs.Common.{length-append, Some, inl, inr, subst, ◌≤◌}
 use Rattle.linked_hash_map.specs.Cursor.{to_visit}
 use Rattle.linked_hash_map.specs.Changes.{pushed}
 use Rattle.linked_hash_map.specs.Pairs.{key_or, find, put}
@@ -56,7 +57,10 @@ returns-in-Ok g c =
       answers = λ start log defines. IsAbsent-found g.met.K.Eq.laws defines c.args.key absent;
       defines = λ start log defines. Defines-put g.met.K.Eq.laws defines c.args.key c.args.value went_in room entry.keeps.mode;
       hasher = entry.keeps.hasher;
-      rechained = rechained_each-insert _ entry.valid.within (subst (λ ps. length ps ≤ length m.pairs + 1) (sym went_in) (length-put_most eq m.mode m.pairs c.args.key c.args.value)) room (λ i. rechained_raised (entry.keeps.rechained i) (length (entry.pairs i)) (entry.keeps.capacity i) left.capacity);
+      rechained = rechained_each-insert _ entry.valid.within
+          (subst (λ ps. length ps ≤ length m.pairs + 1) (sym went_in)
+          (length-put_most eq m.mode m.pairs c.args.key c.args.value))
+          room (λ i. rechained_raised (entry.keeps.rechained i) (length (entry.pairs i)) (entry.keeps.capacity i) left.capacity);
       visit = inr (c.in-Ok.ensures.to_visit value ∙ ap to_visit same_map);
     })
 

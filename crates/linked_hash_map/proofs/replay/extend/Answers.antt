@@ -38,6 +38,8 @@ returns-in-Err g c =
       );
       defines = λ start log defines. Defines-taken laws so_far steps defines refused.unchanged;
       hasher = ap (λ m. m.hasher) refused.unchanged ∙ so_far.hasher;
-      rechained = ap (λ m. m.rechained) refused.unchanged ∙ so_far.rechained ∙ ap (λ n. rechained_each c.args.map.now.rechained c.args.map.now.capacity (n - c.args.map.now.capacity)) (sym (ap (λ m. m.capacity) refused.unchanged));
+      rechained = ap (λ m. m.rechained) refused.unchanged
+          ∙ so_far.rechained ∙ ap (λ n. rechained_each c.args.map.now.rechained c.args.map.now.capacity (n - c.args.map.now.capacity))
+          (sym (ap (λ m. m.capacity) refused.unchanged));
       visit = MayEndVisit-trans c.loop-key.invariant.visit (inr (ap to_visit refused.unchanged));
     }

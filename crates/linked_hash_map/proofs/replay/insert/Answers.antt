@@ -15,7 +15,10 @@ returns-in-Ok-None g c =
       defines = λ start log defines. Defines-put g.met.K.Eq.laws defines c.args.key c.args.value
           done.pairs done.capacity done.settings.mode;
       hasher = done.settings.hasher;
-      rechained = rechained_each-insert _ done.valid.within (subst (λ ps. length ps ≤ length c.args.map.now.pairs + 1) (sym done.pairs) (length-put_most g.K.PartialEq.eq c.args.map.now.mode c.args.map.now.pairs c.args.key c.args.value)) done.capacity done.rechained;
+      rechained = rechained_each-insert _ done.valid.within
+          (subst (λ ps. length ps ≤ length c.args.map.now.pairs + 1) (sym done.pairs)
+          (length-put_most g.K.PartialEq.eq c.args.map.now.mode c.args.map.now.pairs c.args.key c.args.value))
+          done.capacity done.rechained;
       visit = MayEndVisit-insert c.in-Ok-None.field-0 done.ends_visit done.to_visit;
     }
 
@@ -27,7 +30,10 @@ returns-in-Ok-Some g c =
       defines = λ start log defines. Defines-put g.met.K.Eq.laws defines c.args.key c.args.value
           done.pairs done.capacity done.settings.mode;
       hasher = done.settings.hasher;
-      rechained = rechained_each-insert _ done.valid.within (subst (λ ps. length ps ≤ length c.args.map.now.pairs + 1) (sym done.pairs) (length-put_most g.K.PartialEq.eq c.args.map.now.mode c.args.map.now.pairs c.args.key c.args.value)) done.capacity done.rechained;
+      rechained = rechained_each-insert _ done.valid.within
+          (subst (λ ps. length ps ≤ length c.args.map.now.pairs + 1) (sym done.pairs)
+          (length-put_most g.K.PartialEq.eq c.args.map.now.mode c.args.map.now.pairs c.args.key c.args.value))
+          done.capacity done.rechained;
       visit = MayEndVisit-insert c.in-Ok-Some.field-0 done.ends_visit done.to_visit;
     }
 

@@ -41,7 +41,10 @@ returns-then-present g c =
       answers = λ start log defines. (HasValue-value g.met.K.Eq.laws defines k own).0;
       defines = λ start log defines. Defines-nothing g.met.K.Eq.laws defines pairs_stay room entry.keeps.mode;
       hasher = entry.keeps.hasher;
-      rechained = rechained_each-insert _ entry.valid.within (let at_most : length left.pairs ≤ length m.pairs + 1 = (let as_long = ap length pairs_stay in omega arith) in at_most) (ap (λ n. max n (length left.pairs)) entry.keeps.capacity) (λ i. rechained_raised (entry.keeps.rechained i) (length (entry.pairs i)) (entry.keeps.capacity i) left.capacity);
+      rechained = rechained_each-insert _ entry.valid.within
+          (let at_most : length left.pairs ≤ length m.pairs + 1 = (let as_long = ap length pairs_stay in omega arith) in at_most)
+          (ap (λ n. max n (length left.pairs)) entry.keeps.capacity)
+          (λ i. rechained_raised (entry.keeps.rechained i) (length (entry.pairs i)) (entry.keeps.capacity i) left.capacity);
       visit = inl (c.in-Ok.ensures.to_visit value ∙ ap to_visit (entry.ends_visit occupied));
     })
 
@@ -67,7 +70,10 @@ returns-else-present g c =
       defines = λ start log defines. Defines-put g.met.K.Eq.laws defines k c.args.value pushed
           (ap (λ n. max n (length left.pairs)) entry.keeps.capacity) entry.keeps.mode;
       hasher = entry.keeps.hasher;
-      rechained = rechained_each-insert _ entry.valid.within (subst (λ ps. length ps ≤ length m.pairs + 1) (sym pushed) (length-put_most eq m.mode m.pairs k c.args.value)) (ap (λ n. max n (length left.pairs)) entry.keeps.capacity) (λ i. rechained_raised (entry.keeps.rechained i) (length (entry.pairs i)) (entry.keeps.capacity i) left.capacity);
+      rechained = rechained_each-insert _ entry.valid.within
+          (subst (λ ps. length ps ≤ length m.pairs + 1) (sym pushed) (length-put_most eq m.mode m.pairs k c.args.value))
+          (ap (λ n. max n (length left.pairs)) entry.keeps.capacity)
+          (λ i. rechained_raised (entry.keeps.rechained i) (length (entry.pairs i)) (entry.keeps.capacity i) left.capacity);
       visit = inr (c.in-Ok.ensures.to_visit value ∙ ap to_visit (entry.unchanged (entry.value ∙ ap (option_map (λ pair. pair.1)) absent)));
     })
 

@@ -29,7 +29,10 @@ returns-in-Err-TooLarge g c =
           Defines-nothing g.met.K.Eq.laws defines (ap (λ m. m.pairs) refused.unchanged)
           (ap (λ m. m.capacity) refused.unchanged) refused.settings.mode;
       hasher = refused.settings.hasher;
-      rechained = ap (λ m. m.rechained) refused.unchanged ∙ sym (ap (rechained_raised c.args.map.now.rechained (length c.args.map.now.pairs) c.args.map.now.capacity) (ap (λ m. m.capacity) refused.unchanged) ∙ rechained_raised-same c.args.map.now.rechained (length c.args.map.now.pairs) c.args.map.now.capacity);
+      rechained = ap (λ m. m.rechained) refused.unchanged
+          ∙ sym (ap (rechained_raised c.args.map.now.rechained (length c.args.map.now.pairs) c.args.map.now.capacity)
+          (ap (λ m. m.capacity) refused.unchanged)
+          ∙ rechained_raised-same c.args.map.now.rechained (length c.args.map.now.pairs) c.args.map.now.capacity);
       visit = inr refused.to_visit;
     }
 
@@ -46,6 +49,9 @@ returns-in-Err-NoRoom g c =
           Defines-nothing g.met.K.Eq.laws defines (ap (λ m. m.pairs) refused.unchanged)
           (ap (λ m. m.capacity) refused.unchanged) refused.settings.mode;
       hasher = refused.settings.hasher;
-      rechained = ap (λ m. m.rechained) refused.unchanged ∙ sym (ap (rechained_raised c.args.map.now.rechained (length c.args.map.now.pairs) c.args.map.now.capacity) (ap (λ m. m.capacity) refused.unchanged) ∙ rechained_raised-same c.args.map.now.rechained (length c.args.map.now.pairs) c.args.map.now.capacity);
+      rechained = ap (λ m. m.rechained) refused.unchanged
+          ∙ sym (ap (rechained_raised c.args.map.now.rechained (length c.args.map.now.pairs) c.args.map.now.capacity)
+          (ap (λ m. m.capacity) refused.unchanged)
+          ∙ rechained_raised-same c.args.map.now.rechained (length c.args.map.now.pairs) c.args.map.now.capacity);
       visit = inr refused.to_visit;
     }

@@ -28,6 +28,7 @@ returns-in-Err g c =
           Defines-nothing g.met.K.Eq.laws defines (ap (λ m. m.pairs) refused.unchanged)
           (ap (λ m. m.capacity) refused.unchanged) refused.settings.mode;
       hasher = refused.settings.hasher;
-      rechained = ap (λ m. m.rechained) refused.unchanged ∙ sym (rechained_fitted-same c.args.map.now.rechained _ c.args.map.now.capacity (sym (ap (λ m. m.capacity) refused.unchanged)));
+      rechained = ap (λ m. m.rechained) refused.unchanged
+          ∙ sym (rechained_fitted-same c.args.map.now.rechained _ c.args.map.now.capacity (sym (ap (λ m. m.capacity) refused.unchanged)));
       visit = inr refused.to_visit;
     }
