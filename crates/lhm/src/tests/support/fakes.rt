@@ -1,6 +1,6 @@
 //! Readers and writers over memory, which move a few bytes at once and fail when they are told to,
-//! and the words of a command line. The contracts of the first tell their bytes, so what is proved
-//! of `run` holds of it with them.
+//! and command lines. The contracts of the first tell their bytes, so what is proved of `run` holds
+//! of it with them.
 ghost use Rattle.std.specs.Prelude.{Some, ◌<◌, take};
 
 use std::alloc::Global;
@@ -193,21 +193,22 @@ impl Write for Output {
     }
 }
 
-/// The words of a command line: the program's name, and then its arguments.
+/// A command line with so many arguments behind the program's name, each of so many bytes.
 #[derive(Clone, Copy)]
-pub struct Words<'a>(pub &'a [&'a str]);
+pub struct Arguments {
+    pub count: usize,
+    pub len: usize,
+}
 
-impl Env for Words<'_> {
+impl Env for Arguments {
     fn arg(&self, i: usize, buf: &mut [u8]) -> Result<usize, FillError> {
-        if i >= self.0.len() {
+        if i > self.count {
             return Err(FillError::NotPresent);
         }
-        let word = self.0[i].as_bytes();
-        if word.len() > buf.len() {
+        if self.len > buf.len() {
             return Err(FillError::TooLong);
         }
-        buf[..word.len()].copy_from_slice(word);
-        Ok(word.len())
+        Ok(self.len)
     }
 
     fn var(&self, _name: &str, _buf: &mut [u8]) -> Result<usize, FillError> {
