@@ -25,6 +25,10 @@ PACKAGES = {
 # The libraries of the driver and of the benchmark.
 LIBRARIES = ("linked_hash_set", "lru_cache", "linked_hash_map", "lhm_ring", "equivalent")
 
+# The workloads of the cache and the set. The name of the same by a map has an ending.
+PRODUCTS = ("cache_insert", "cache_hit", "set_insert", "set_contains", "set_iterate")
+BY_MAP = "_by_map"
+
 
 def stop(message):
     """Ends the program, which could not compare anything."""

@@ -32,10 +32,7 @@ pub fn push_pairs<'m>(
 }
 
 /// Appends the items in order, or a digest of them if they are many, and ends the line.
-pub fn push_items<'m>(
-    items: impl ExactSizeIterator<Item = &'m Key>,
-    text: &mut String,
-) -> Result {
+pub fn push_items<'m>(items: impl ExactSizeIterator<Item = &'m Key>, text: &mut String) -> Result {
     let len = items.len();
     write!(text, "| {len}")?;
     if len <= SHOWN {
