@@ -1,0 +1,4 @@
+mod Clones
+mod Filters
+pub mod Kept
+mod Retained
