@@ -78,7 +78,7 @@ fn run_on_all(name: &str, line: &mut Line<'_>, set: &mut Set, text: &mut String)
         "pop_back" => write!(text, "{:?} ", set.pop_back())?,
         "len" => write!(text, "{} {} ", set.len(), set.is_empty())?,
         "clear" => set.clear(),
-        // With items it panics if it allocates.
+        // With items it panics, since it hashes them by a hasher that is never to be called.
         "reserve" if set.is_empty() => set.reserve(line.small_number()),
         "reserve" => {}
         "shrink_to_fit" => set.shrink_to_fit(),
