@@ -21,6 +21,15 @@ fn digest(pairs: Iter<'_, Key, u64>) -> u64 {
     digest
 }
 
+/// Returns a digest of the items in order.
+fn digest_of_items(items: linked_hash_set::Iter<'_, Key>) -> u64 {
+    let mut digest = 0;
+    for item in items {
+        digest = mixed(digest, item.number());
+    }
+    digest
+}
+
 /// Appends a pair.
 fn push_pair(key: &Key, value: u64, text: &mut String) -> Result<(), AllocError> {
     write!(text, " {key:?}:{value}")
@@ -34,6 +43,17 @@ fn push_all_pairs(pairs: Iter<'_, Key, u64>, text: &mut String) -> Result<(), Al
     Ok(())
 }
 
+/// Appends the items in order.
+fn push_all_items(
+    items: linked_hash_set::Iter<'_, Key>,
+    text: &mut String,
+) -> Result<(), AllocError> {
+    for item in items {
+        write!(text, " {item:?}")?;
+    }
+    Ok(())
+}
+
 /// Appends the pairs in order, or a digest of them if they are many, and ends the line.
 pub fn push_pairs(pairs: Iter<'_, Key, u64>, text: &mut String) -> Result<(), AllocError> {
     let len = pairs.len();
@@ -42,6 +62,21 @@ pub fn push_pairs(pairs: Iter<'_, Key, u64>, text: &mut String) -> Result<(), Al
         push_all_pairs(pairs, text)?;
     } else {
         write!(text, " {}", digest(pairs))?;
+    }
+    writeln!(text)
+}
+
+/// Appends the items in order, or a digest of them if they are many, and ends the line.
+pub fn push_items(
+    items: linked_hash_set::Iter<'_, Key>,
+    text: &mut String,
+) -> Result<(), AllocError> {
+    let len = items.len();
+    write!(text, "| {len}")?;
+    if len <= SHOWN {
+        push_all_items(items, text)?;
+    } else {
+        write!(text, " {}", digest_of_items(items))?;
     }
     writeln!(text)
 }

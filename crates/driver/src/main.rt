@@ -20,6 +20,7 @@ mod line;
 mod list;
 mod lookups;
 mod making;
+mod sets;
 mod show;
 mod stop;
 
@@ -28,6 +29,7 @@ use hasher::BuildKeyHasher;
 use key::Key;
 use line::Line;
 use linked_hash_map::LinkedHashMap;
+use sets::Set;
 use std::alloc::Global;
 use std::io;
 use std::io::{Read, Write};
@@ -44,6 +46,8 @@ struct All {
     map_b: Map,
     cache_a: Cache,
     cache_b: Cache,
+    set_a: Set,
+    set_b: Set,
 }
 
 impl All {
@@ -55,6 +59,8 @@ impl All {
             map_b: Map::with_hasher(alloc, hasher),
             cache_a: Cache::with_hasher(alloc, 0, hasher),
             cache_b: Cache::with_hasher(alloc, 0, hasher),
+            set_a: Set::with_hasher(alloc, hasher),
+            set_b: Set::with_hasher(alloc, hasher),
         }
     }
 }
@@ -95,6 +101,12 @@ fn run_call(
             caches::run(alloc, name, line, &mut all.cache_b, &all.cache_a, text)
         } else {
             caches::run(alloc, name, line, &mut all.cache_a, &all.cache_b, text)
+        }
+    } else if let Some(name) = name.strip_prefix("set_") {
+        if is_b {
+            sets::run(alloc, name, line, &mut all.set_b, &all.set_a, text)
+        } else {
+            sets::run(alloc, name, line, &mut all.set_a, &all.set_b, text)
         }
     } else if is_b {
         run_on_map(alloc, name, line, &mut all.map_b, &mut all.map_a, text)
