@@ -28,6 +28,37 @@ fn with_capacity(alloc: Global, line: &mut Line<'_>) -> Result<Set, AllocError> 
     Ok(Set::with_capacity_and_hasher(alloc, capacity, hasher)?)
 }
 
+/// Reads the items that are left of a line.
+fn items(alloc: Global, line: &mut Line<'_>) -> Result<Vec<Key>, AllocError> {
+    let mut items = Vec::new(alloc);
+    for _ in 0..u64::MAX {
+        let Some(text) = line.next_word() else {
+            break;
+        };
+        items.push(Key::new(text))?;
+    }
+    Ok(items)
+}
+
+fn collect(alloc: Global, line: &mut Line<'_>) -> Result<Set, AllocError> {
+    let items = items(alloc, line)?;
+    Ok(Set::from_iter(alloc, items)?)
+}
+
+fn extend(alloc: Global, line: &mut Line<'_>, set: &mut Set) -> Result<(), AllocError> {
+    let items = items(alloc, line)?;
+    set.extend(items)?;
+    Ok(())
+}
+
+/// Inserts the items of another set.
+fn extend_refs(set: &mut Set, other: &Set) -> Result<(), AllocError> {
+    for item in other {
+        set.insert(*item)?;
+    }
+    Ok(())
+}
+
 /// Puts a set in the place of another, which is dropped.
 fn replace_set(set: &mut Set, new: Set) {
     *set = new;
@@ -54,6 +85,9 @@ fn make(
         "new" => show_new(alloc, line.number(), text)?,
         "with_hasher" => replace_set(set, new(alloc, line)),
         "with_capacity" => replace_set(set, with_capacity(alloc, line)?),
+        "from_iter" => replace_set(set, collect(alloc, line)?),
+        "extend" => extend(alloc, line, set)?,
+        "extend_refs" => extend_refs(set, other)?,
         "clone" => replace_set(set, other.clone()?),
         _ => return Ok(false),
     }
