@@ -1,9 +1,11 @@
 """Runs of calls, drawn at random."""
 
+import collections
+
 HASHERS = ("spread", "same", "letter", "wide")
 
 # The calls that leave most of a map, each with how often it comes and the forms of its words.
-CALLS = (
+MAP_CALLS = (
     ("insert", 30, "key value"),
     ("remove", 8, "key"),
     ("get", 3, "key"),
@@ -41,7 +43,7 @@ CALLS = (
 )
 
 # Those that print every pair.
-LONG_CALLS = (
+LONG_MAP_CALLS = (
     ("loop", 1, ""),
     ("loop_mut", 1, "value"),
     ("debug", 1, ""),
@@ -49,7 +51,7 @@ LONG_CALLS = (
 )
 
 # Those after which little is left of a map, or all of it is another.
-RARE_CALLS = (
+RARE_MAP_CALLS = (
     ("clear", 2, ""),
     ("drain", 4, "steps forget"),
     ("into_iter", 3, "steps steps"),
@@ -63,19 +65,105 @@ RARE_CALLS = (
     ("clone", 3, ""),
 )
 
-NAMES = [name for name, _, _ in CALLS + LONG_CALLS + RARE_CALLS]
+# Those of a cache.
+CACHE_CALLS = (
+    ("insert", 30, "key value"),
+    ("get_mut", 8, "key value"),
+    ("get", 4, "key"),
+    ("contains_key", 3, "key"),
+    ("peek", 3, "key"),
+    ("peek_mut", 3, "key value"),
+    ("remove", 4, "key"),
+    ("remove_lru", 3, ""),
+    ("set_capacity", 2, "limit"),
+    ("len", 1, ""),
+    ("extend", 3, "pairs"),
+    ("iter", 2, "steps steps"),
+    ("iter_mut", 2, "steps value"),
+    ("into_iter", 1, "steps"),
+    ("new", 1, "value"),
+)
+LONG_CACHE_CALLS = (
+    ("loop", 1, ""),
+    ("loop_mut", 1, "value"),
+    ("debug", 1, ""),
+)
+RARE_CACHE_CALLS = (
+    ("with_hasher", 2, "hasher limit"),
+    ("clear", 2, ""),
+    ("drain", 2, "steps"),
+    ("clone", 2, ""),
+)
 
-# The most pairs that a run begins with.
+# Those of a set.
+SET_CALLS = (
+    ("insert", 20, "key"),
+    ("contains", 4, "key"),
+    ("get", 4, "key"),
+    ("take", 5, "key"),
+    ("remove", 5, "key"),
+    ("to_front", 4, "key"),
+    ("to_back", 4, "key"),
+    ("front", 1, ""),
+    ("back", 1, ""),
+    ("pop_front", 2, ""),
+    ("pop_back", 2, ""),
+    ("len", 1, ""),
+    ("reserve", 1, "value"),
+    ("shrink_to_fit", 1, ""),
+    ("extend", 3, "items"),
+    ("iter", 3, "steps steps"),
+    ("into_iter", 1, "steps"),
+    ("is_subset", 2, ""),
+    ("is_superset", 2, ""),
+    ("is_disjoint", 2, ""),
+    ("eq", 2, ""),
+    ("hash", 1, ""),
+    ("new", 1, "value"),
+)
+LONG_SET_CALLS = (
+    ("difference", 2, ""),
+    ("symmetric_difference", 2, ""),
+    ("intersection", 2, ""),
+    ("union", 2, ""),
+    ("loop", 1, ""),
+    ("debug", 1, ""),
+)
+RARE_SET_CALLS = (
+    ("with_hasher", 2, "hasher"),
+    ("with_capacity", 2, "hasher value"),
+    ("from_iter", 2, "items"),
+    ("extend_refs", 2, ""),
+    ("clone", 2, ""),
+    ("retain", 2, "value"),
+    ("drain", 2, "steps"),
+    ("clear", 2, ""),
+)
+
+# A kind: what its calls begin with, the words of a new one, the form of what it takes in, and its
+# calls: those that leave most of it, those that print all of it, and those after which little is
+# left of it, or all of it is another.
+Kind = collections.namedtuple("Kind", "prefix first_forms many calls long_calls rare_calls")
+MAPS = Kind("", "hasher", "pairs", MAP_CALLS, LONG_MAP_CALLS, RARE_MAP_CALLS)
+CACHES = Kind("cache_", "hasher limit", "pairs", CACHE_CALLS, LONG_CACHE_CALLS, RARE_CACHE_CALLS)
+SETS = Kind("set_", "hasher", "items", SET_CALLS, LONG_SET_CALLS, RARE_SET_CALLS)
+KINDS = (MAPS, CACHES, SETS)
+
+NAMES = [kind.prefix + name for kind in KINDS
+         for name, _, _ in kind.calls + kind.long_calls + kind.rare_calls]
+
+# The most pairs or items that a run begins with.
 MOST_AT_FIRST = 1000
 
 
 class Drawing:
-    """Draws runs over some number of keys."""
+    """Draws runs on one kind over some number of keys."""
 
-    def __init__(self, rng, keys, rare=None):
+    def __init__(self, kind, rng, keys, rare=None):
+        self.kind = kind
         self.rng = rng
         self.keys = keys
-        self.calls = CALLS if keys > 100 else CALLS + LONG_CALLS
+        self.calls = kind.calls if keys > 100 else kind.calls + kind.long_calls
         self.rare = min(0.06, 3 / keys) if rare is None else rare
 
     def key(self):
@@ -89,6 +177,8 @@ class Drawing:
             return self.key()
         if form == "value":
             return str(rng.randrange(100))
+        if form == "limit":
+            return str(rng.randrange(min(self.keys + 2, MOST_AT_FIRST)))
         if form == "hasher":
             return rng.choice(HASHERS)
         if form == "edit":
@@ -99,21 +189,28 @@ class Drawing:
             return "".join(rng.choice("fffbb") for _ in range(rng.randrange(1, 7)))
         if form == "forget":
             return rng.choice(("drop", "forget"))
-        pairs = (f"{self.key()} {rng.randrange(100)}" for _ in range(rng.randrange(6)))
-        return " ".join(pairs)
+        return self.many(form, rng.randrange(6))
 
-    def call(self):
-        calls = RARE_CALLS if self.rng.random() < self.rare else self.calls
-        weights = [weight for _, weight, _ in calls]
-        (name, _, forms), = self.rng.choices(calls, weights)
-        words = [name, self.rng.choice("aab")] + [self.word(form) for form in forms.split()]
+    def many(self, form, count):
+        """Draws so many pairs or items."""
+        words = (f"{self.key()} {self.rng.randrange(100)}" if form == "pairs" else self.key()
+                 for _ in range(count))
+        return " ".join(words)
+
+    def line(self, name, which, forms):
+        words = [self.kind.prefix + name, which] + [self.word(form) for form in forms.split()]
         return " ".join(words).rstrip()
 
+    def call(self):
+        calls = self.kind.rare_calls if self.rng.random() < self.rare else self.calls
+        weights = [weight for _, weight, _ in calls]
+        (name, _, forms), = self.rng.choices(calls, weights)
+        return self.line(name, self.rng.choice("aab"), forms)
+
     def run(self, calls):
-        """Draws a run of so many calls, on maps that are new at its start."""
-        first = [f"with_hasher {name} {self.word('hasher')}" for name in "ab"]
+        """Draws a run of so many calls, on two that are new at its start."""
+        first = [self.line("with_hasher", which, self.kind.first_forms) for which in "ab"]
         if self.keys > 3:
             count = min(self.keys, MOST_AT_FIRST)
-            pairs = (f"{self.key()} {self.rng.randrange(100)}" for _ in range(count))
-            first.append("extend a " + " ".join(pairs))
+            first.append(f"{self.kind.prefix}extend a " + self.many(self.kind.many, count))
         return first + [self.call() for _ in range(calls - len(first))]

@@ -1,9 +1,15 @@
-"""The examples of the original's documentation and of this repository's, as calls."""
+"""The examples of the originals' documentation and of this repository's, as calls."""
 
-# New maps for an example.
-FIRST = ["with_hasher a spread", "with_hasher b spread"]
+# New maps, caches of two pairs and sets, for an example.
+FIRST = {
+    "map": ["with_hasher a spread", "with_hasher b spread"],
+    "cache": ["cache_with_hasher a spread 2", "cache_with_hasher b spread 2"],
+    "set": ["set_with_hasher a spread", "set_with_hasher b spread"],
+}
 
-EXAMPLES = {
+EXAMPLES = {}
+
+EXAMPLES["map"] = {
     "the crate": [
         "insert a 2 20", "insert a 1 10", "insert a 3 30",
         "index a 1", "index a 2", "index a 3", "iter a ffff f",
@@ -55,4 +61,57 @@ EXAMPLES = {
     ],
     "draining": ["insert a x 1", "insert a y 2", "drain a f", "len a"],
     "debug text": ["insert a x 1", "debug a", "debug_pretty a", "clone b", "debug b"],
+}
+
+EXAMPLES["cache"] = {
+    "the crate": [
+        "cache_insert a 1 10", "cache_insert a 2 20", "cache_insert a 3 30",
+        "cache_get_mut a 1 10", "cache_get_mut a 2 20", "cache_get_mut a 3 30",
+        "cache_insert a 2 22", "cache_get_mut a 2 22", "cache_insert a 6 60",
+        "cache_get_mut a 3 30", "cache_set_capacity a 1", "cache_get_mut a 2 22",
+    ],
+    "insert": [
+        "cache_insert a x 1", "cache_insert a X 2", "cache_insert a y 3", "cache_insert a z 4",
+        "cache_contains_key a x", "cache_contains_key a y", "cache_debug a",
+    ],
+    "a limit of 0": ["cache_set_capacity a 0", "cache_insert a x 1", "cache_len a"],
+    "lookups that use no pair": [
+        "cache_insert a x 1", "cache_insert a y 2", "cache_peek a x", "cache_peek_mut a x 3",
+        "cache_insert a z 4", "cache_peek a x", "cache_get a y", "cache_insert a x 5",
+        "cache_peek a z",
+    ],
+    "remove": [
+        "cache_insert a 2 1", "cache_remove a 1", "cache_remove a 2", "cache_remove a 2",
+        "cache_len a",
+    ],
+    "set_capacity": [
+        "cache_extend a 1 1 2 2 3 3", "cache_set_capacity a 3", "cache_extend a 1 1 2 2",
+        "cache_get a 1", "cache_get a 2", "cache_get a 3", "cache_set_capacity a 1",
+        "cache_get a 1", "cache_get a 2", "cache_get a 3",
+    ],
+    "remove_lru": ["cache_extend a 1 1 2 2", "cache_remove_lru a", "cache_len a"],
+    "iter": ["cache_extend a 1 10 2 20 3 30", "cache_iter a fff b", "cache_loop a"],
+    "iter_mut": [
+        "cache_extend a 1 10 2 20 3 30", "cache_iter_mut a ff 200", "cache_get_mut a 2 200",
+        "cache_get_mut a 3 300",
+    ],
+}
+
+EXAMPLES["set"] = {
+    "insert": [
+        "set_insert a x", "set_insert a y", "set_insert a X", "set_front a", "set_back a",
+        "set_get a X", "set_debug a",
+    ],
+    "two sets": [
+        "set_from_iter a x y z", "set_from_iter b z w y", "set_union a", "set_intersection a",
+        "set_difference a", "set_symmetric_difference a", "set_is_disjoint a", "set_is_subset a",
+        "set_take a x", "set_pop_front b", "set_is_superset b", "set_eq a",
+    ],
+    "equal sets": [
+        "set_extend a x y", "set_extend b y x", "set_eq a", "set_to_back b y", "set_eq b",
+    ],
+    "order": [
+        "set_extend a x y z", "set_to_front a y", "set_to_back a X", "set_to_front a w",
+        "set_pop_back a", "set_pop_front a",
+    ],
 }

@@ -18,8 +18,16 @@ FLAGS = "--cap-lints allow -C target-cpu=x86-64-v2"
 # What is built over, and the package that has it.
 PACKAGES = {
     "linked-hash-map-0.5.6": "librust-linked-hash-map-dev",
+    "lru-cache-0.1.2": "librust-lru-cache-dev",
     "hashlink-0.8.0": "librust-hashlink-dev",
 }
+
+# The libraries of the driver and of the benchmark.
+LIBRARIES = ("linked_hash_set", "lru_cache", "linked_hash_map", "lhm_ring", "equivalent")
+
+# The workloads of the cache and the set. The name of the same by a map has an ending.
+PRODUCTS = ("cache_insert", "cache_hit", "set_insert", "set_contains", "set_iterate")
+BY_MAP = "_by_map"
 
 
 def stop(message):
@@ -53,11 +61,11 @@ def built_by_cargo(folder, crates, registry=REGISTRY):
 
 
 class Original:
-    """The driver over the original, which lies in a folder of cargo packages."""
+    """The driver over the originals, which lie in a folder of cargo packages."""
 
     def __init__(self, registry=REGISTRY):
         folder = COMPARE / "original"
-        self.program = built_by_cargo(folder, ["linked-hash-map-0.5.6"], registry) / "original"
+        self.program = built_by_cargo(folder, PACKAGES, registry) / "original"
 
     def outputs(self, runs):
         """Returns the lines that each run prints."""
@@ -103,7 +111,7 @@ def is_up_to_date(program, crate):
     if not program.exists():
         return False
     built = program.stat().st_mtime
-    sources = [path for name in (crate, "linked_hash_map", "lhm_ring")
+    sources = [path for name in (crate, *LIBRARIES)
                for path in (TOP / "crates" / name / "src").rglob("*.rt")]
     return all(path.stat().st_mtime < built for path in sources)
 

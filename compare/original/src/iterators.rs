@@ -1,5 +1,6 @@
 //! Iterators and loops over the pairs.
 
+use crate::key::Key;
 use crate::line::Line;
 use crate::{Known, Map};
 use std::fmt::{Debug, Result, Write};
@@ -15,7 +16,7 @@ fn step<T>(items: &mut impl DoubleEndedIterator<Item = T>, letter: u8) -> Option
 }
 
 /// Makes a step for each letter, and appends what each gives and how much is left.
-fn iterate<T: Debug>(
+pub fn iterate<T: Debug>(
     items: &mut (impl DoubleEndedIterator<Item = T> + ExactSizeIterator),
     steps: &str,
     text: &mut String,
@@ -28,7 +29,7 @@ fn iterate<T: Debug>(
 }
 
 /// Iterates, clones the iterator, and iterates by the clone and then by the iterator itself.
-fn iterate_and_clone<T: Debug>(
+pub fn iterate_and_clone<T: Debug>(
     mut items: impl DoubleEndedIterator<Item = T> + ExactSizeIterator + Clone,
     line: &mut Line<'_>,
     text: &mut String,
@@ -42,8 +43,12 @@ fn iterate_and_clone<T: Debug>(
 }
 
 /// Iterates by `iter_mut`, and writes each value that is lent.
-fn iterate_and_write(map: &mut Map, steps: &str, value: u64, text: &mut String) -> Result {
-    let mut pairs = map.iter_mut();
+pub fn iterate_and_write<'m>(
+    mut pairs: impl DoubleEndedIterator<Item = (&'m Key, &'m mut u64)> + ExactSizeIterator,
+    steps: &str,
+    value: u64,
+    text: &mut String,
+) -> Result {
     for letter in steps.bytes() {
         match step(&mut pairs, letter) {
             Some((key, lent)) => {
@@ -81,7 +86,7 @@ pub fn run(name: &str, line: &mut Line<'_>, map: &mut Map, text: &mut String) ->
         "iter" => iterate_and_clone(map.iter(), line, text)?,
         "keys" => iterate_and_clone(map.keys(), line, text)?,
         "values" => iterate_and_clone(map.values(), line, text)?,
-        "iter_mut" => iterate_and_write(map, line.word(), line.number(), text)?,
+        "iter_mut" => iterate_and_write(map.iter_mut(), line.word(), line.number(), text)?,
         "into_iter" => iterate_and_clone(mem::take(map).into_iter(), line, text)?,
         "into_iter_forget" => iterate_and_forget(mem::take(map), line.word(), text)?,
         "drain" => drain(map, line, text)?,

@@ -5,6 +5,7 @@ use std::str::SplitWhitespace;
 
 /// The words of a line that are left. A word that is missing is empty, and one that is no number
 /// is 0.
+#[derive(Clone)]
 pub struct Line<'a> {
     words: SplitWhitespace<'a>,
 }

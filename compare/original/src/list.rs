@@ -1,6 +1,6 @@
-//! The list of a map, at the end of each line of the output.
+//! The list of a map, a cache or a set, at the end of each line of the output.
 
-use crate::Map;
+use crate::key::Key;
 use std::fmt::{Result, Write};
 
 /// The longest list that is shown whole.
@@ -11,23 +11,37 @@ fn mixed(digest: u64, number: u64) -> u64 {
     (digest ^ number).wrapping_mul(1_099_511_628_211)
 }
 
-/// Returns a digest of the pairs in order.
-fn digest(map: &Map) -> u64 {
-    map.iter().fold(0, |digest, (key, value)| {
-        mixed(mixed(digest, key.number()), *value)
-    })
-}
-
 /// Appends the pairs in order, or a digest of them if they are many, and ends the line.
-pub fn push_list(map: &Map, text: &mut String) -> Result {
-    let len = map.len();
+pub fn push_pairs<'m>(
+    pairs: impl ExactSizeIterator<Item = (&'m Key, &'m u64)>,
+    text: &mut String,
+) -> Result {
+    let len = pairs.len();
     write!(text, "| {len}")?;
     if len <= SHOWN {
-        for (key, value) in map.iter() {
+        for (key, value) in pairs {
             write!(text, " {key:?}:{value}")?;
         }
     } else {
-        write!(text, " {}", digest(map))?;
+        let digest = pairs.fold(0, |digest, (key, value)| {
+            mixed(mixed(digest, key.number()), *value)
+        });
+        write!(text, " {digest}")?;
+    }
+    writeln!(text)
+}
+
+/// Appends the items in order, or a digest of them if they are many, and ends the line.
+pub fn push_items<'m>(items: impl ExactSizeIterator<Item = &'m Key>, text: &mut String) -> Result {
+    let len = items.len();
+    write!(text, "| {len}")?;
+    if len <= SHOWN {
+        for item in items {
+            write!(text, " {item:?}")?;
+        }
+    } else {
+        let digest = items.fold(0, |digest, item| mixed(digest, item.number()));
+        write!(text, " {digest}")?;
     }
     writeln!(text)
 }

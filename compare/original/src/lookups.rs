@@ -5,7 +5,7 @@ use crate::{Known, Map};
 use std::fmt::{Result, Write};
 
 /// Writes a value that is lent, and appends what it was.
-fn write_lent(lent: Option<&mut u64>, value: u64, text: &mut String) -> Result {
+pub fn write_lent(lent: Option<&mut u64>, value: u64, text: &mut String) -> Result {
     match lent {
         Some(lent) => {
             write!(text, "{} ", *lent)?;

@@ -8,13 +8,13 @@ use std::fmt::Write;
 use std::mem;
 
 /// Reads the build hasher that the next word names.
-fn hasher(line: &mut Line<'_>) -> BuildKeyHasher {
+pub fn hasher(line: &mut Line<'_>) -> BuildKeyHasher {
     let choice = Choice::named(line.word());
     BuildKeyHasher { choice }
 }
 
 /// Reads the pairs that are left of a line.
-fn pairs(line: &mut Line<'_>) -> Vec<(Key, u64)> {
+pub fn pairs(line: &mut Line<'_>) -> Vec<(Key, u64)> {
     let mut pairs = Vec::new();
     while let Some(text) = line.next_word() {
         pairs.push((Key::new(text), line.number()));

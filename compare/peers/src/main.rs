@@ -1,20 +1,23 @@
-//! Times the calls of other maps: what `crates/bench` does with the port.
+//! Times the calls of other maps, caches and sets: what `crates/bench` does with the ports.
 //!
 //! `peers PEER ORDER ROUNDS N ..` prints for each size N a line `workload n ns_per_op check` for
 //! each workload: the nanoseconds of processor time of this thread that the best of the rounds
-//! took, divided by N, and the sum of what the rounds returned. PEER is `original`, `hashlink` or
-//! `twin`, ORDER `repeated` or `random`.
+//! took, divided by N, and the sum of what the rounds returned. PEER is `original`, which has maps
+//! and, by lru-cache, caches; `hashlink`, which has sets too; or `twin`, which has maps alone. ORDER
+//! is `repeated` or `random`.
 
 mod clock;
 mod hasher;
 mod order;
 mod peer;
+mod products;
 mod twin;
 mod workloads;
 
 use hasher::Build;
 use order::{Order, Random, Repeated};
 use peer::Peer;
+use products::{Cache, Set};
 use std::process::ExitCode;
 use twin::Twin;
 use workloads::Workload;
@@ -23,49 +26,96 @@ type Original = linked_hash_map::LinkedHashMap<u64, u64, Build>;
 
 type Hashlink = hashlink::LinkedHashMap<u64, u64, Build>;
 
-/// Does a workload in each round, and returns the best time in nanoseconds and the sum of what the
-/// rounds returned.
-fn best_of<P: Peer, O: Order>(
-    workload: Workload,
-    map: &mut P,
-    order: &mut O,
-    rounds: u64,
-    n: u64,
-) -> (u64, u64) {
-    let mut nanoseconds = u64::MAX;
-    let mut check: u64 = 0;
-    for _ in 0..rounds {
-        workload.prepare(map, order, n);
-        let start = clock::thread_cpu_time();
-        let returned = workload.run(map, order, n);
-        let end = clock::thread_cpu_time();
-        nanoseconds = nanoseconds.min(end - start);
-        check = check.wrapping_add(returned);
-    }
-    (nanoseconds, check)
+type HashlinkCache = hashlink::LruCache<u64, u64, Build>;
+
+type HashlinkSet = hashlink::LinkedHashSet<u64, Build>;
+
+type OriginalCache = lru_cache::LruCache<u64, u64, Build>;
+
+/// Returns the nanoseconds that a call takes, and what it returns.
+fn timed(call: impl FnOnce() -> u64) -> (u64, u64) {
+    let start = clock::thread_cpu_time();
+    let returned = call();
+    (clock::thread_cpu_time() - start, returned)
 }
 
-/// Times each workload at a size, and prints a line for each.
-fn bench<P: Peer, O: Order>(order: &mut O, rounds: u64, n: u64) {
+/// Does the rounds of a workload, each of which is timed, and prints the best time and the sum of
+/// what they returned.
+fn time(workload: &str, rounds: u64, n: u64, mut round: impl FnMut() -> (u64, u64)) {
+    let mut best = u64::MAX;
+    let mut check: u64 = 0;
+    for _ in 0..rounds {
+        let (nanoseconds, returned) = round();
+        best = best.min(nanoseconds);
+        check = check.wrapping_add(returned);
+    }
+    let time = best as f64 / n as f64;
+    println!("{workload} {n} {time:.2} {check}");
+}
+
+/// Times each workload of a map.
+fn bench_map<P: Peer>(order: &mut impl Order, rounds: u64, n: u64) {
     let mut map = P::new();
     for workload in Workload::ALL {
-        let (nanoseconds, check) = best_of(workload, &mut map, order, rounds, n);
+        time(workload.name(), rounds, n, || {
+            workload.prepare(&mut map, order, n);
+            timed(|| workload.run(&mut map, order, n))
+        });
         // The others' map is filled only now, so that its nodes lie in memory that was used before.
         if workload == Workload::InsertNew {
             map = workloads::fill(0, n);
         }
-        let time = nanoseconds as f64 / n as f64;
-        println!("{} {n} {time:.2} {check}", workload.name());
     }
 }
 
-/// Times a map in an order, at each size.
-fn run<P: Peer>(order: &str, rounds: u64, sizes: &[u64]) {
+/// Times each workload of a cache.
+fn bench_cache<C: Cache>(order: &mut impl Order, rounds: u64, n: u64) {
+    time("cache_insert", rounds, n, || {
+        timed(|| products::fill_cache::<C>(order.start(), n / 2, n).len() as u64)
+    });
+    let mut cache: C = products::fill_cache(0, n, n);
+    time("cache_hit", rounds, n, || {
+        timed(|| products::cache_hit(&mut cache, order, n))
+    });
+}
+
+/// Times each workload of a set.
+fn bench_set<S: Set>(order: &mut impl Order, rounds: u64, n: u64) {
+    time("set_insert", rounds, n, || {
+        timed(|| products::fill_set::<S>(order.start(), n).len() as u64)
+    });
+    let set: S = products::fill_set(0, n);
+    time("set_contains", rounds, n, || {
+        timed(|| products::set_contains(&set, order, n))
+    });
+    time("set_iterate", rounds, n, || {
+        timed(|| products::set_iterate(&set))
+    });
+}
+
+/// Times what a peer has at a size, in an order.
+fn bench(peer: &str, order: &mut impl Order, rounds: u64, n: u64) {
+    match peer {
+        "original" => {
+            bench_map::<Original>(order, rounds, n);
+            bench_cache::<OriginalCache>(order, rounds, n);
+        }
+        "hashlink" => {
+            bench_map::<Hashlink>(order, rounds, n);
+            bench_cache::<HashlinkCache>(order, rounds, n);
+            bench_set::<HashlinkSet>(order, rounds, n);
+        }
+        _ => bench_map::<Twin>(order, rounds, n),
+    }
+}
+
+/// Times a peer at each size, in an order.
+fn run(peer: &str, order: &str, rounds: u64, sizes: &[u64]) {
     let (mut repeated, mut random) = (Repeated, Random::new());
     for n in sizes {
         match order {
-            "random" => bench::<P, _>(&mut random, rounds, *n),
-            _ => bench::<P, _>(&mut repeated, rounds, *n),
+            "random" => bench(peer, &mut random, rounds, *n),
+            _ => bench(peer, &mut repeated, rounds, *n),
         }
     }
 }
@@ -74,11 +124,7 @@ fn main() -> ExitCode {
     let words: Vec<String> = std::env::args().skip(1).collect();
     let numbers: Vec<u64> = words.iter().skip(2).flat_map(|word| word.parse()).collect();
     match (words.as_slice(), numbers.as_slice()) {
-        ([peer, order, ..], [rounds, sizes @ ..]) => match peer.as_str() {
-            "original" => run::<Original>(order, *rounds, sizes),
-            "hashlink" => run::<Hashlink>(order, *rounds, sizes),
-            _ => run::<Twin>(order, *rounds, sizes),
-        },
+        ([peer, order, ..], [rounds, sizes @ ..]) => run(peer, order, *rounds, sizes),
         _ => {
             eprintln!("usage: peers original|hashlink|twin repeated|random ROUNDS N ..");
             return ExitCode::from(2);

@@ -1,4 +1,4 @@
-//! Times the calls of the map.
+//! Times the calls of the map, the cache and the set.
 //!
 //! `bench ORDER [WORKLOAD] ROUNDS N ..` prints for each size N a line `workload n ns_per_op check`
 //! for each workload, or for the one that is named: the nanoseconds of processor time of this
@@ -10,6 +10,7 @@ ghost use Rattle.std.specs.Prelude.{◌≡◌, ◌<◌, ◌*◌, ◌/◌, ◌^�
 
 mod arguments;
 mod order;
+mod products;
 #[cfg(test)]
 mod tests;
 mod workloads;
@@ -21,7 +22,7 @@ use std::io::Write;
 use std::process::ExitCode;
 use std::time::CpuClock;
 use std::{env, io};
-use workloads::{Map, Workload, fill};
+use workloads::{Held, Workload};
 
 const USAGE: &str = "usage: bench repeated|random [WORKLOAD] ROUNDS N ..";
 
@@ -37,7 +38,7 @@ fn best_of<C: CpuClock, O: Order>(
     clock: &C,
     alloc: Global,
     workload: Workload,
-    map: &mut Map,
+    held: &mut Held,
     order: &mut O,
     rounds: u64,
     n: u64,
@@ -47,9 +48,9 @@ fn best_of<C: CpuClock, O: Order>(
     let mut nanoseconds = u128::MAX;
     let mut check: u64 = 0;
     for _ in 0..rounds {
-        workload.prepare(map, order, n)?;
+        workload.prepare(held, order, n)?;
         let start = clock.thread_cpu_time()?.as_nanos();
-        let returned = workload.run(alloc, map, order, n)?;
+        let returned = workload.run(alloc, held, order, n)?;
         let end = clock.thread_cpu_time()?.as_nanos();
         nanoseconds = nanoseconds.min(end.saturating_sub(start));
         check = check.wrapping_add(returned);
@@ -71,14 +72,14 @@ fn time<C: CpuClock, O: Order, W: Write>(
     alloc: Global,
     output: &mut W,
     workload: Workload,
-    map: &mut Map,
+    held: &mut Held,
     order: &mut O,
     rounds: u64,
     n: u64,
 ) -> io::Result<()>
     requires { 0 < n }
 {
-    let timed = best_of(clock, alloc, workload, map, order, rounds, n)?;
+    let timed = best_of(clock, alloc, workload, held, order, rounds, n)?;
     let time = hundredths(timed.nanoseconds, n);
     writeln!(
         output,
@@ -102,15 +103,12 @@ fn bench<C: CpuClock, O: Order, W: Write>(
 ) -> io::Result<()>
     requires { 0 < n }
 {
-    let mut map = Map::new(alloc);
+    let mut held = Held::new(alloc);
     for workload in Workload::ALL {
         if only.is_none() || only == Some(workload) {
-            time(clock, alloc, output, workload, &mut map, order, rounds, n)?;
+            time(clock, alloc, output, workload, &mut held, order, rounds, n)?;
         }
-        // The others' map is filled only now, so that its nodes lie in memory that was used before.
-        if workload == Workload::InsertNew {
-            map = fill(alloc, 0, n)?;
-        }
+        held.refill(alloc, workload, n)?;
     }
     Ok(())
 }

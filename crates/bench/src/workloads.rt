@@ -1,14 +1,20 @@
-//! The workloads: what is done with a map of `n` pairs, once.
+//! The workloads: what is done with a map, a cache or a set of `n` pairs or items, once.
 ghost use Rattle.std.specs.Prelude.{◌<◌};
 
 use super::order::{Order, mix};
+use super::products::{
+    Cache, CacheMap, Set, SetMap, cache_hit, cache_map_hit, fill_cache, fill_cache_map, fill_set,
+    fill_set_map, set_contains, set_iterate, set_map_contains, set_map_iterate,
+};
 use linked_hash_map::LinkedHashMap;
+use linked_hash_set::LinkedHashSet;
+use lru_cache::LruCache;
 use std::alloc::{AllocError, Global};
 
 /// The maps that are timed.
 pub type Map = LinkedHashMap<u64, u64>;
 
-/// A workload. Each except the first is done on the map that those before it have left.
+/// A workload. Each that makes nothing new is done on what those before it have left.
 #[derive(Clone, Copy, Debug, PartialEq)]
 pub enum Workload {
     /// Fills a new map, one pair at a time, and drops it.
@@ -31,11 +37,76 @@ pub enum Workload {
     Clone,
     /// Writes each value: a loop over `iter_mut`.
     WriteAll,
+    /// Fills a new cache of half as many pairs, one pair at a time, and drops it.
+    CacheInsert,
+    /// Uses each pair of a cache by its key.
+    CacheHit,
+    /// Fills a new set, one item at a time, and drops it.
+    SetInsert,
+    /// Looks up each item of a set.
+    SetContains,
+    /// Goes over the items of a set.
+    SetIterate,
+    /// These, by a map.
+    CacheInsertByMap,
+    CacheHitByMap,
+    SetInsertByMap,
+    SetContainsByMap,
+    SetIterateByMap,
+}
+
+/// What the workloads are done on. All except one are empty.
+#[derive(Drop)]
+pub struct Held {
+    map: Map,
+    cache: Cache,
+    set: Set,
+    cache_map: CacheMap,
+    set_map: SetMap,
+}
+
+impl Held {
+    /// Makes them, all empty.
+    pub fn new(alloc: Global) -> Held {
+        Held {
+            map: LinkedHashMap::new(alloc),
+            cache: LruCache::new(alloc, 0),
+            set: LinkedHashSet::new(alloc),
+            cache_map: LinkedHashMap::new(alloc),
+            set_map: LinkedHashMap::new(alloc),
+        }
+    }
+
+    /// After the first workload on another of them, fills that with `n` pairs or items, and empties
+    /// the rest. It comes so late so that the nodes lie in memory that was used before.
+    pub fn refill(&mut self, alloc: Global, done: Workload, n: u64) -> Result<(), AllocError> {
+        match done {
+            Workload::InsertNew => self.map = fill(alloc, 0, n)?,
+            Workload::CacheInsert => {
+                self.map = LinkedHashMap::new(alloc);
+                self.cache = fill_cache(alloc, 0, n, n)?;
+            }
+            Workload::SetInsert => {
+                self.cache = LruCache::new(alloc, 0);
+                self.set = fill_set(alloc, 0, n)?;
+            }
+            Workload::CacheInsertByMap => {
+                self.set = LinkedHashSet::new(alloc);
+                self.cache_map = fill_cache_map(alloc, 0, n, n)?;
+            }
+            Workload::SetInsertByMap => {
+                self.cache_map = LinkedHashMap::new(alloc);
+                self.set_map = fill_set_map(alloc, 0, n)?;
+            }
+            _ => {}
+        }
+        Ok(())
+    }
 }
 
 impl Workload {
     /// All workloads, in the order in which they are timed.
-    pub const ALL: [Workload; 10] = [
+    pub const ALL: [Workload; 20] = [
         Workload::InsertNew,
         Workload::GetHit,
         Workload::GetMiss,
@@ -46,6 +117,16 @@ impl Workload {
         Workload::RemoveReinsert,
         Workload::Clone,
         Workload::WriteAll,
+        Workload::CacheInsert,
+        Workload::CacheHit,
+        Workload::SetInsert,
+        Workload::SetContains,
+        Workload::SetIterate,
+        Workload::CacheInsertByMap,
+        Workload::CacheHitByMap,
+        Workload::SetInsertByMap,
+        Workload::SetContainsByMap,
+        Workload::SetIterateByMap,
     ];
 
     /// Returns the word that names the workload in the output.
@@ -61,23 +142,33 @@ impl Workload {
             Workload::RemoveReinsert => "remove_reinsert",
             Workload::Clone => "clone",
             Workload::WriteAll => "write_all",
+            Workload::CacheInsert => "cache_insert",
+            Workload::CacheHit => "cache_hit",
+            Workload::SetInsert => "set_insert",
+            Workload::SetContains => "set_contains",
+            Workload::SetIterate => "set_iterate",
+            Workload::CacheInsertByMap => "cache_insert_by_map",
+            Workload::CacheHitByMap => "cache_hit_by_map",
+            Workload::SetInsertByMap => "set_insert_by_map",
+            Workload::SetContainsByMap => "set_contains_by_map",
+            Workload::SetIterateByMap => "set_iterate_by_map",
         }
     }
 
     /// Prepares a round. In random order the map that is cloned gets other keys, so that no two
     /// clones are alike.
-    pub fn prepare<O: Order>(self, map: &mut Map, order: &O, n: u64) -> Result<(), AllocError> {
+    pub fn prepare<O: Order>(self, held: &mut Held, order: &O, n: u64) -> Result<(), AllocError> {
         if self == Workload::Clone && order.is_random() {
-            lru_cycle(map, n)?;
+            lru_cycle(&mut held.map, n)?;
         }
         Ok(())
     }
 
-    /// Does the workload once, and returns a number that depends on what the map returned.
+    /// Does the workload once, and returns a number that depends on what the calls returned.
     pub fn run<O: Order>(
         self,
         alloc: Global,
-        map: &mut Map,
+        held: &mut Held,
         order: &mut O,
         n: u64,
     ) -> Result<u64, AllocError>
@@ -85,15 +176,29 @@ impl Workload {
     {
         match self {
             Workload::InsertNew => Ok(fill(alloc, order.start(), n)?.len() as u64),
-            Workload::GetHit => Ok(get_hit(map, order, n)),
-            Workload::GetMiss => Ok(get_miss(map, order, n)),
-            Workload::Iterate => Ok(iterate(map)),
-            Workload::GetRefresh => Ok(get_refresh(map, order, n)),
-            Workload::InsertPresent => insert_present(map, order, n),
-            Workload::LruCycle => lru_cycle(map, n),
-            Workload::RemoveReinsert => remove_reinsert(alloc, map, order, n),
-            Workload::Clone => Ok(map.clone()?.len() as u64),
-            Workload::WriteAll => Ok(write_all(map)),
+            Workload::GetHit => Ok(get_hit(&held.map, order, n)),
+            Workload::GetMiss => Ok(get_miss(&held.map, order, n)),
+            Workload::Iterate => Ok(iterate(&held.map)),
+            Workload::GetRefresh => Ok(get_refresh(&mut held.map, order, n)),
+            Workload::InsertPresent => insert_present(&mut held.map, order, n),
+            Workload::LruCycle => lru_cycle(&mut held.map, n),
+            Workload::RemoveReinsert => remove_reinsert(alloc, &mut held.map, order, n),
+            Workload::Clone => Ok(held.map.clone()?.len() as u64),
+            Workload::WriteAll => Ok(write_all(&mut held.map)),
+            Workload::CacheInsert => {
+                Ok(fill_cache(alloc, order.start(), n / 2, n)?.len() as u64)
+            }
+            Workload::CacheHit => Ok(cache_hit(&mut held.cache, order, n)),
+            Workload::SetInsert => Ok(fill_set(alloc, order.start(), n)?.len() as u64),
+            Workload::SetContains => Ok(set_contains(&held.set, order, n)),
+            Workload::SetIterate => Ok(set_iterate(&held.set)),
+            Workload::CacheInsertByMap => {
+                Ok(fill_cache_map(alloc, order.start(), n / 2, n)?.len() as u64)
+            }
+            Workload::CacheHitByMap => Ok(cache_map_hit(&mut held.cache_map, order, n)),
+            Workload::SetInsertByMap => Ok(fill_set_map(alloc, order.start(), n)?.len() as u64),
+            Workload::SetContainsByMap => Ok(set_map_contains(&held.set_map, order, n)),
+            Workload::SetIterateByMap => Ok(set_map_iterate(&held.set_map)),
         }
     }
 }

@@ -6,6 +6,7 @@ use super::key::Key;
 use super::line::Line;
 use super::show::{show, show_pair};
 use super::stop::Stop;
+use linked_hash_map::IterMut;
 use std::alloc::{AllocError, Global};
 use std::fmt::Debug;
 use std::mem;
@@ -31,7 +32,7 @@ fn show_left(
 }
 
 /// Makes a step for each letter, and appends what each gives and how much is left.
-fn iterate<T: Debug + Drop, I: DoubleEndedIterator<Item = T> + ExactSizeIterator>(
+pub fn iterate<T: Debug + Drop, I: DoubleEndedIterator<Item = T> + ExactSizeIterator>(
     items: &mut I,
     steps: &str,
     text: &mut String,
@@ -47,7 +48,7 @@ fn iterate<T: Debug + Drop, I: DoubleEndedIterator<Item = T> + ExactSizeIterator
 }
 
 /// Iterates, clones the iterator, and iterates by the clone and then by the iterator itself.
-fn iterate_and_clone<
+pub fn iterate_and_clone<
     T: Debug + Drop,
     I: DoubleEndedIterator<Item = T> + ExactSizeIterator + Clone + Drop,
 >(items: I, line: &mut Line<'_>, text: &mut String) -> Result<(), AllocError>
@@ -69,14 +70,14 @@ fn write_pair(key: &Key, lent: &mut u64, value: u64, text: &mut String) -> Resul
     Ok(())
 }
 
-/// Iterates by `iter_mut`, and writes each value that is lent.
-fn iterate_and_write(
-    map: &mut Map,
+/// Iterates by what `iter_mut` returns, and writes each value that is lent.
+pub fn iterate_and_write(
+    pairs: IterMut<'_, Key, u64>,
     steps: &str,
     value: u64,
     text: &mut String,
 ) -> Result<(), AllocError> {
-    let mut pairs = map.iter_mut();
+    let mut pairs = pairs;
     for letter in steps.bytes() {
         let pair = if letter == b'b' {
             pairs.next_back()
@@ -158,7 +159,7 @@ pub fn run(
         "iter" => iter(map, line, text)?,
         "keys" => keys(map, line, text)?,
         "values" => values(map, line, text)?,
-        "iter_mut" => iterate_and_write(map, line.word(), line.number(), text)?,
+        "iter_mut" => iterate_and_write(map.iter_mut(), line.word(), line.number(), text)?,
         "into_iter" => into_iter(take(alloc, map), line, text)?,
         "into_iter_forget" => iterate_and_forget(take(alloc, map), line.word(), text)?,
         "drain" => drain(map, line, text)?,

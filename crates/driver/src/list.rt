@@ -1,7 +1,7 @@
-//! The list of a map, at the end of each line of the output.
+//! The list of a map, a cache or a set, at the end of each line of the output.
 
-use super::Map;
 use super::key::Key;
+use linked_hash_map::Iter;
 use std::alloc::AllocError;
 
 /// The longest list that is shown whole.
@@ -13,10 +13,19 @@ fn mixed(digest: u64, number: u64) -> u64 {
 }
 
 /// Returns a digest of the pairs in order.
-fn digest(map: &Map) -> u64 {
+fn digest(pairs: Iter<'_, Key, u64>) -> u64 {
     let mut digest = 0;
-    for (key, value) in map.iter() {
+    for (key, value) in pairs {
         digest = mixed(mixed(digest, key.number()), *value);
+    }
+    digest
+}
+
+/// Returns a digest of the items in order.
+fn digest_of_items(items: linked_hash_set::Iter<'_, Key>) -> u64 {
+    let mut digest = 0;
+    for item in items {
+        digest = mixed(digest, item.number());
     }
     digest
 }
@@ -27,21 +36,47 @@ fn push_pair(key: &Key, value: u64, text: &mut String) -> Result<(), AllocError>
 }
 
 /// Appends the pairs in order.
-fn push_pairs(map: &Map, text: &mut String) -> Result<(), AllocError> {
-    for (key, value) in map.iter() {
+fn push_all_pairs(pairs: Iter<'_, Key, u64>, text: &mut String) -> Result<(), AllocError> {
+    for (key, value) in pairs {
         push_pair(key, *value, text)?;
     }
     Ok(())
 }
 
+/// Appends the items in order.
+fn push_all_items(
+    items: linked_hash_set::Iter<'_, Key>,
+    text: &mut String,
+) -> Result<(), AllocError> {
+    for item in items {
+        write!(text, " {item:?}")?;
+    }
+    Ok(())
+}
+
 /// Appends the pairs in order, or a digest of them if they are many, and ends the line.
-pub fn push_list(map: &Map, text: &mut String) -> Result<(), AllocError> {
-    let len = map.len();
+pub fn push_pairs(pairs: Iter<'_, Key, u64>, text: &mut String) -> Result<(), AllocError> {
+    let len = pairs.len();
     write!(text, "| {len}")?;
     if len <= SHOWN {
-        push_pairs(map, text)?;
+        push_all_pairs(pairs, text)?;
     } else {
-        write!(text, " {}", digest(map))?;
+        write!(text, " {}", digest(pairs))?;
+    }
+    writeln!(text)
+}
+
+/// Appends the items in order, or a digest of them if they are many, and ends the line.
+pub fn push_items(
+    items: linked_hash_set::Iter<'_, Key>,
+    text: &mut String,
+) -> Result<(), AllocError> {
+    let len = items.len();
+    write!(text, "| {len}")?;
+    if len <= SHOWN {
+        push_all_items(items, text)?;
+    } else {
+        write!(text, " {}", digest_of_items(items))?;
     }
     writeln!(text)
 }

@@ -27,7 +27,7 @@ fn index_mut(map: &mut Map, key: Key, value: u64, text: &mut String) -> Result<(
 }
 
 /// Appends a value that is lent, and writes another, if there is one.
-fn write_lent(lent: Option<&mut u64>, value: u64, text: &mut String) -> Result<(), AllocError> {
+pub fn write_lent(lent: Option<&mut u64>, value: u64, text: &mut String) -> Result<(), AllocError> {
     match lent {
         Some(lent) => show_and_write(lent, value, text),
         None => write!(text, "absent "),

@@ -1,13 +1,15 @@
-//! Runs calls of the map's public API from standard input to standard output, one a line.
+//! Runs calls of the public API of the map, the cache and the set from standard input to standard
+//! output, one a line.
 //!
-//! `compare/run` compares the output with that of the Rust crate linked-hash-map 0.5.6, and
-//! `compare/run --help` says what the lines are. What is proved of this program is that it is safe
-//! and ends.
+//! `compare/run` compares the output with that of the Rust crates linked-hash-map 0.5.6, lru-cache
+//! 0.1.2 and hashlink 0.8.0, and `compare/run --help` says what the lines are. What is proved of this
+//! program is that it is safe and ends.
 //!
 //! The exit status is 0; 3 if an allocation fails; 4 if the input is no text, or reading or writing
 //! fails.
 #![tactic(auto)]
 
+mod caches;
 mod changes;
 mod comparisons;
 mod entries;
@@ -18,13 +20,16 @@ mod line;
 mod list;
 mod lookups;
 mod making;
+mod sets;
 mod show;
 mod stop;
 
+use caches::Cache;
 use hasher::BuildKeyHasher;
 use key::Key;
 use line::Line;
 use linked_hash_map::LinkedHashMap;
+use sets::Set;
 use std::alloc::Global;
 use std::io;
 use std::io::{Read, Write};
@@ -34,40 +39,90 @@ use stop::Stop;
 /// The maps that the lines speak of.
 type Map = LinkedHashMap<Key, u64, BuildKeyHasher>;
 
-/// Runs the call of a line, on `map` and, if it takes two, on `other` too, and appends what it
-/// returns and the list of `map`. For a line that is no call it appends `unknown`, and that list.
-fn run_call(
+/// What the lines speak of: two maps, two caches and two sets.
+#[derive(Drop)]
+struct All {
+    map_a: Map,
+    map_b: Map,
+    cache_a: Cache,
+    cache_b: Cache,
+    set_a: Set,
+    set_b: Set,
+}
+
+impl All {
+    /// Makes them, all empty.
+    fn new(alloc: Global) -> All {
+        let hasher = BuildKeyHasher::default();
+        All {
+            map_a: Map::with_hasher(alloc, hasher),
+            map_b: Map::with_hasher(alloc, hasher),
+            cache_a: Cache::with_hasher(alloc, 0, hasher),
+            cache_b: Cache::with_hasher(alloc, 0, hasher),
+            set_a: Set::with_hasher(alloc, hasher),
+            set_b: Set::with_hasher(alloc, hasher),
+        }
+    }
+}
+
+/// Runs the call of this name on `map` and, if it takes two, on `other` too, appends what it
+/// returns and the list of `map`, and tells whether there is such a call.
+fn run_on_map(
     alloc: Global,
     name: &str,
     line: &mut Line<'_>,
     map: &mut Map,
     other: &mut Map,
     text: &mut String,
-) -> Result<(), Stop> {
-    let known = lookups::run(name, line, map, text)?
+) -> Result<bool, Stop> {
+    let is_known = lookups::run(name, line, map, text)?
         || changes::run(name, line, map, text)?
         || making::run(alloc, name, line, map, other, text)?
         || entries::run(name, line, map, text)?
         || iterators::run(alloc, name, line, map, text)?
         || comparisons::run(alloc, name, line, map, other, text)?;
-    if !known {
-        write!(text, "unknown ")?;
+    if is_known {
+        list::push_pairs(map.iter(), text)?;
     }
-    Ok(list::push_list(map, text)?)
+    Ok(is_known)
 }
 
-/// Runs the lines on two new maps, and returns the whole text of the output.
+/// Runs the call of a line on what it names, and tells whether there is such a call.
+fn run_call(
+    alloc: Global,
+    line: &mut Line<'_>,
+    all: &mut All,
+    text: &mut String,
+) -> Result<bool, Stop> {
+    let name = line.word();
+    let is_b = line.word() == "b";
+    if let Some(name) = name.strip_prefix("cache_") {
+        if is_b {
+            caches::run(alloc, name, line, &mut all.cache_b, &all.cache_a, text)
+        } else {
+            caches::run(alloc, name, line, &mut all.cache_a, &all.cache_b, text)
+        }
+    } else if let Some(name) = name.strip_prefix("set_") {
+        if is_b {
+            sets::run(alloc, name, line, &mut all.set_b, &all.set_a, text)
+        } else {
+            sets::run(alloc, name, line, &mut all.set_a, &all.set_b, text)
+        }
+    } else if is_b {
+        run_on_map(alloc, name, line, &mut all.map_b, &mut all.map_a, text)
+    } else {
+        run_on_map(alloc, name, line, &mut all.map_a, &mut all.map_b, text)
+    }
+}
+
+/// Runs the lines on new maps, caches and sets, and returns the whole text of the output. For a
+/// line that is no call that is `unknown`.
 fn respond(alloc: Global, lines: &str) -> Result<String, Stop> {
     let mut text = String::new(alloc);
-    let mut map_a = Map::with_hasher(alloc, BuildKeyHasher::default());
-    let mut map_b = Map::with_hasher(alloc, BuildKeyHasher::default());
+    let mut all = All::new(alloc);
     for line in lines.lines() {
-        let mut line = Line::new(line);
-        let name = line.word();
-        if line.word() == "b" {
-            run_call(alloc, name, &mut line, &mut map_b, &mut map_a, &mut text)?;
-        } else {
-            run_call(alloc, name, &mut line, &mut map_a, &mut map_b, &mut text)?;
+        if !run_call(alloc, &mut Line::new(line), &mut all, &mut text)? {
+            writeln!(text, "unknown")?;
         }
     }
     Ok(text)

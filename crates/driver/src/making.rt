@@ -24,7 +24,7 @@ fn with_capacity(alloc: Global, line: &mut Line<'_>) -> Result<Map, Stop> {
 }
 
 /// Reads the pairs that are left of a line.
-fn pairs(alloc: Global, line: &mut Line<'_>) -> Result<Vec<(Key, u64)>, AllocError> {
+pub fn pairs(alloc: Global, line: &mut Line<'_>) -> Result<Vec<(Key, u64)>, AllocError> {
     let mut pairs = Vec::new(alloc);
     for _ in 0..u64::MAX {
         let Some(text) = line.next_word() else {

@@ -1,0 +1,2 @@
+mod Filters
+pub mod Kept

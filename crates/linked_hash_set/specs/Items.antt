@@ -1,0 +1,34 @@
+-- Single calls, on the list of a set's items, front to back.
+use Rattle.std.specs.Prelude.{Bool, not, List, [], ◌∷◌, ◌++◌, filter, find as find_first, Option, option_to_list, unwrap_or, if◌then◌else◌}
+use Rattle.std.specs.List.{list_any}
+
+-- by x, which is an item or looks one up: eq is whether it looks up an item
+module _ {A T : Type 0} (eq : A → T → Bool) where
+  -- an item is the same as x
+  abbrev pub contains : List T → A → Bool
+  contains items x = list_any (eq x) items
+
+  -- the item that is the same as x, or none
+  abbrev pub find : List T → A → Option T
+  find items x = find_first (eq x) items
+
+  -- the items except the one that is the same as x
+  abbrev pub without : List T → A → List T
+  without items x = filter (λ y. not (eq x y)) items
+
+  -- the items, with the one that is the same as x at the back, if there is one
+  abbrev pub to_back_as_is : List T → A → List T
+  to_back_as_is items x = without items x ++ option_to_list (find items x)
+
+  -- the items, with the one that is the same as x at the front, if there is one
+  abbrev pub to_front : List T → A → List T
+  to_front items x = option_to_list (find items x) ++ without items x
+
+module _ {T : Type 0} (eq : T → T → Bool) where
+  -- the items except the one that is the same as x, and then the stored item, or x if there is none
+  abbrev pub to_back : List T → T → List T
+  to_back items x = without eq items x ++ unwrap_or (find eq items x) x ∷ []
+
+  -- the items, with x at the back if none is the same
+  abbrev pub push_if_absent : List T → T → List T
+  push_if_absent items x = if contains eq items x then items else items ++ x ∷ []

@@ -1,0 +1,20 @@
+-- What a set is once a borrow has ended.
+use Rattle.std.specs.Prelude.{[]}
+use Rattle.std.specs.Borrow.{Fml, GName, RattleType, MutBor, Array, u8, follows}
+use Rattle.std.specs.HashMap.Lent.{HashMembers}
+use Rattle.std.specs.declared.hash.Hasher as hasher
+use Rattle.std.specs.declared.hash.BuildHasher as builder
+use Rattle.linked_hash_set.specs.LinkedSet.{LinkedSet}
+use Rattle.linked_hash_set.specs.contracts.set.LinkedHashSet.{the_row}
+
+module _ (T S H : RattleType) (item : HashMembers T.Denot) (build : builder.Ghosts S.Denot H.Denot)
+    (hash : hasher.Ghosts H.Denot) where
+  -- the set's type, as the logic holds it
+  abbrev pub set_row : RattleType
+  set_row =
+      the_row T S H (record { eq = item.eq }) (record { hash_input = item.hash_input }) build hash
+
+  module _ (s : MutBor (LinkedSet T.Denot S.Denot)) where
+    -- the set is empty once the borrow with this name, of no bytes, ends
+    abbrev pub lends_drained : GName → Fml
+    lends_drained name = follows set_row (Array u8 0) s.ghost_name name (λ _. record s.now { items = [] })

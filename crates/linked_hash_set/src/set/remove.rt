@@ -1,0 +1,191 @@
+//! Removal.
+#![tactic(auto, using(crate::proofs::Kept::kept))]
+
+ghost use Rattle.std.specs.Prelude.{◌≡◌, [], length};
+ghost use Rattle.std.specs.Borrow.{sem};
+ghost use Rattle.std.specs.Fn.{CalledAt};
+ghost use Rattle.std.specs.List.Retain.{IsFiltered};
+ghost use Rattle.linked_hash_map.specs.Pairs.{first, last, without_first, without_last};
+ghost use Rattle.linked_hash_set.specs.Items.{contains, find, without};
+ghost use Rattle.linked_hash_set.specs.LinkedSet.{Keeps};
+ghost use Rattle.linked_hash_set.specs.Validity.{IsValid};
+
+use super::LinkedHashSet;
+use crate::drain::Drain;
+use linked_hash_map::Equivalent;
+use std::hash::{BuildHasher, Hash};
+
+impl<T: Eq + Hash, S: BuildHasher> LinkedHashSet<T, S> {
+    ghost use Rattle.linked_hash_set.specs.Drains.{drain_rest, drain_name};
+    ghost use Rattle.linked_hash_set.specs.Lends.{lends_drained};
+
+    /// Removes and drops an item, and returns whether it was present, in O(1). The others keep their
+    /// order. Hashes the item once.
+    ///
+    /// # Examples
+    ///
+    /// ```rust
+    /// let mut set = LinkedHashSet::new(rt.alloc());
+    /// set.insert('x')?;
+    /// set.insert('y')?;
+    /// assert!(rt; set.remove(&'x'));
+    /// assert!(rt; !set.remove(&'x'));
+    /// assert_eq!(rt; (set.len(), set.capacity()), (1, 2));
+    /// ```
+    #[inline]
+    pub fn remove<Q: Equivalent<T>>(&mut self, item: Q) -> bool
+    where
+        T: Drop,
+        ensures present { result ≡ contains Q.equivalent self.old.items item }
+        ensures items { self.new.items ≡ without Q.equivalent self.old.items item }
+        ensures keeps { Keeps self.old self.new }
+        ensures stays_valid { IsValid T.eq self.new }
+    {
+        self.map.remove(item).is_some()
+    }
+
+    /// Removes and returns the stored item that is the same as a given one, if present, in O(1).
+    /// The others keep their order. Hashes the item once.
+    ///
+    /// # Examples
+    ///
+    /// ```rust
+    /// let mut set = LinkedHashSet::new(rt.alloc());
+    /// set.insert('x')?;
+    /// set.insert('y')?;
+    /// assert_eq!(rt; set.take(&'x'), Some('x'));
+    /// assert_eq!(rt; set.take(&'x'), None);
+    /// assert_eq!(rt; (set.len(), set.capacity()), (1, 2));
+    /// ```
+    #[inline]
+    pub fn take<Q: Equivalent<T>>(&mut self, item: Q) -> Option<T>
+        ensures stored { result ≡ find Q.equivalent self.old.items item }
+        ensures items { self.new.items ≡ without Q.equivalent self.old.items item }
+        ensures keeps { Keeps self.old self.new }
+        ensures stays_valid { IsValid T.eq self.new }
+    {
+        let (stored, _unit) = self.map.remove_entry(item)?;
+        Some(stored)
+    }
+
+    /// Removes and returns the front item, if any, in O(1). Hashes no item.
+    ///
+    /// # Examples
+    ///
+    /// ```rust
+    /// let mut set = LinkedHashSet::new(rt.alloc());
+    /// set.insert('x')?;
+    /// set.insert('y')?;
+    /// assert_eq!(rt; set.pop_front(), Some('x'));
+    /// assert_eq!(rt; set.front(), Some(&'y'));
+    /// ```
+    pub fn pop_front(&mut self) -> Option<T>
+        ensures item { result ≡ first self.old.items }
+        ensures items { self.new.items ≡ without_first self.old.items }
+        ensures keeps { Keeps self.old self.new }
+        ensures stays_valid { IsValid T.eq self.new }
+    {
+        let (item, _unit) = self.map.pop_front()?;
+        Some(item)
+    }
+
+    /// Removes and returns the back item, if any, in O(1). Hashes no item.
+    ///
+    /// # Examples
+    ///
+    /// ```rust
+    /// let mut set = LinkedHashSet::new(rt.alloc());
+    /// set.insert('x')?;
+    /// set.insert('y')?;
+    /// assert_eq!(rt; set.pop_back(), Some('y'));
+    /// assert_eq!(rt; set.back(), Some(&'x'));
+    /// ```
+    pub fn pop_back(&mut self) -> Option<T>
+        ensures item { result ≡ last self.old.items }
+        ensures items { self.new.items ≡ without_last self.old.items }
+        ensures keeps { Keeps self.old self.new }
+        ensures stays_valid { IsValid T.eq self.new }
+    {
+        let (item, _unit) = self.map.pop_back()?;
+        Some(item)
+    }
+
+    /// Keeps the items for which a closure returns `true`, in order, and drops the others, in O(n).
+    /// Hashes no item.
+    ///
+    /// The closure is called once with each item, front to back.
+    ///
+    /// # Examples
+    ///
+    /// ```rust
+    /// let mut set = LinkedHashSet::new(rt.alloc());
+    /// set.insert('x')?;
+    /// set.insert('y')?;
+    /// set.insert('z')?;
+    /// set.retain(|item| *item != 'y');
+    /// assert_eq!(rt; (set.len(), set.contains(&'y')), (2, false));
+    /// assert_eq!(rt; set.front(), Some(&'x'));
+    /// ```
+    pub fn retain<F: FnMut(&T) -> bool>(&mut self, mut keep: F)
+    where
+        T: Drop,
+        requires { F.IsAlwaysCallable keep }
+        ensures items { IsFiltered (CalledAt F.FnMut) keep self.old.items self.new.items }
+        ensures keeps { Keeps self.old self.new }
+        ensures stays_valid { IsValid T.eq self.new }
+    {
+        self.map.retain(
+            |item: &T, _unit: &mut ()|
+                requires { F.IsAlwaysCallable keep }
+                ensures called { CalledAt F.FnMut keep.entry item.now result keep.exit }
+            { keep(item) },
+        );
+    }
+
+    /// Drops all items, in O(capacity), or O(1) if the set is empty. The capacity stays.
+    ///
+    /// # Examples
+    ///
+    /// ```rust
+    /// let mut set = LinkedHashSet::new(rt.alloc());
+    /// set.insert('x')?;
+    /// set.clear();
+    /// assert_eq!(rt; (set.len(), set.capacity()), (0, 1));
+    /// ```
+    pub fn clear(&mut self)
+    where
+        T: Drop,
+        ensures items { self.new.items ≡ [] }
+        ensures keeps { Keeps self.old self.new }
+    {
+        self.map.clear();
+    }
+
+    /// Removes all items and returns them as a double-ended iterator, front to back, in
+    /// O(capacity), or O(1) if the set is empty. The set is empty at once and keeps its capacity;
+    /// forgetting the iterator leaks the items left.
+    ///
+    /// # Examples
+    ///
+    /// ```rust
+    /// let mut set = LinkedHashSet::new(rt.alloc());
+    /// set.insert('x')?;
+    /// set.insert('y')?;
+    /// let mut items = set.drain();
+    /// assert_eq!(rt; items.next(), Some('x'));
+    /// assert_eq!(rt; items.len(), 1);
+    /// drop(items);
+    /// assert_eq!(rt; (set.len(), set.capacity()), (0, 2));
+    /// ```
+    pub fn drain(&mut self) -> Drain<'_, T>
+    where
+        T: Drop,
+        ensures* writes_back { sem 𝓛
+            (lends_drained T.row S.row S.Hasher.row T.Hash S.BuildHasher S.Hasher.Hasher self.entry
+            (drain_name result)) }
+        ensures rest { drain_rest result ≡ self.old.items }
+        ensures valid { IsValid T.eq self.old }
+    {
+        Drain::new(self.map.drain())
+    }
+}
