@@ -1,0 +1,5 @@
+mod Distinct
+mod First
+mod Passes
+mod Remembered
+mod Said

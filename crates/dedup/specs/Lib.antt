@@ -1,0 +1,6 @@
+pub mod Arguments
+pub mod Kept
+pub mod Lines
+pub mod Push
+pub mod Recent
+pub mod Stop

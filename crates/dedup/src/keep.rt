@@ -1,0 +1,32 @@
+//! Which lines are kept.
+ghost use Rattle.std.specs.Prelude.{MatchOption};
+ghost use Rattle.dedup.specs.Arguments.{SayKeep, SayNothing, texts};
+
+/// Which lines are kept.
+#[derive(Clone, Copy, Debug, PartialEq)]
+pub enum Keep {
+    /// Each line at its first appearance.
+    First,
+    /// Each line at its last appearance.
+    Last,
+    /// Each line that is not among the last so many distinct lines.
+    Window(usize),
+}
+
+impl Keep {
+    /// Returns what the arguments of the program say, or `None` if they are wrong.
+    pub fn from_arguments(arguments: &[String]) -> Option<Keep>
+        ensures { MatchOption result (SayNothing (texts arguments.now))
+            (SayKeep (texts arguments.now)) }
+    {
+        match arguments {
+            [] => Some(Keep::First),
+            [option] if option.as_str() == "--last" => Some(Keep::Last),
+            [option, size] if option.as_str() == "--window" => match size.parse() {
+                Ok(size) => Some(Keep::Window(size)),
+                Err(_) => None,
+            },
+            _ => None,
+        }
+    }
+}

@@ -1,0 +1,108 @@
+//! Worked examples.
+
+use super::support::checks::{check_eq, given};
+use super::support::words::arguments;
+use crate::run_in_memory;
+use std::alloc::Global;
+use std::process::Abort;
+
+/// Arguments, an input, and the output of the run.
+type Run = (&'static [&'static str], &'static [u8], &'static [u8]);
+
+/// The lines that are printed were found by hand.
+const RUNS: [Run; 20] = [
+    (&[], b"", b""),
+    (&[], b"a\nb\na\nc\nb\n", b"a\nb\nc\n"),
+    (&["--last"], b"a\nb\na\nc\nb\n", b"a\nc\nb\n"),
+    (&["--last"], b"", b""),
+    // A window without lines, of one, of two, and of more than there are.
+    (&["--window", "0"], b"a\na\nb\n", b"a\na\nb\n"),
+    (&["--window", "1"], b"a\na\nb\na\nb\nb\n", b"a\nb\na\nb\n"),
+    (&["--window", "2"], b"a\nb\na\nc\na\nb\n", b"a\nb\nc\nb\n"),
+    (&["--window", "9"], b"a\nb\na\nc\na\nb\n", b"a\nb\nc\n"),
+    (&["--window", "+2"], b"a\nb\nc\na\n", b"a\nb\nc\na\n"),
+    (
+        &["--window", "18446744073709551615"],
+        b"a\nb\na\n",
+        b"a\nb\n",
+    ),
+    // Blank lines are lines, and the last line may lack its line feed.
+    (&[], b"\n\n", b"\n"),
+    (&[], b"\na\n\nb", b"\na\nb\n"),
+    (&[], b"a\na", b"a\n"),
+    (&["--last"], b"a\nb\na", b"b\na\n"),
+    // A carriage return and spaces are bytes of a line.
+    (&[], b"a\r\na\na \n a\n", b"a\r\na\na \n a\n"),
+    // Bytes that are no text.
+    (&[], b"\xff\xfe\n\x00\n\xff\xfe\n\x00", b"\xff\xfe\n\x00\n"),
+    (&["--last"], b"\xff\n\x80\n\xff\n", b"\x80\n\xff\n"),
+    // A line that begins as another.
+    (&[], b"ab\na\nab\nabc\na\n", b"ab\na\nabc\n"),
+    (&["--window", "1"], b"\n\na\n\n", b"\na\n\n"),
+    (
+        &["--window", "3"],
+        b"a\nb\nc\nd\na\nb\nd\n",
+        b"a\nb\nc\nd\na\nb\n",
+    ),
+];
+
+/// Checks a run: its status, its output and that it tells no fault.
+fn check_run(rt: &impl Abort, alloc: Global, wanted: Run) {
+    let words = given!(rt; arguments(alloc, wanted.0));
+    let mut output = Vec::new(alloc);
+    let mut faults = Vec::new(alloc);
+    let status = run_in_memory(alloc, words.as_slice(), wanted.1, &mut output, &mut faults);
+    check_eq!(rt; (output.as_slice(), status, faults.len()), (wanted.2, 0, 0));
+}
+
+/// Checks each run.
+fn check_runs(rt: &impl Abort, alloc: Global) {
+    for wanted in RUNS {
+        check_run(rt, alloc, wanted);
+    }
+}
+
+#[test]
+fn runs(rt: HostRuntime) {
+    check_runs(&rt, rt.alloc());
+}
+
+/// Arguments that are wrong.
+const WRONG: [&[&str]; 12] = [
+    &["--first"],
+    &["--last", "--last"],
+    &["--last", "2"],
+    &["--window"],
+    &["--window", ""],
+    &["--window", "x"],
+    &["--window", "-1"],
+    &["--window", "2 "],
+    &["--window", "18446744073709551616"],
+    &["--window", "2", "--last"],
+    &["last"],
+    &[""],
+];
+
+/// Checks that wrong arguments are told, and that nothing is written.
+fn check_wrong(rt: &impl Abort, alloc: Global, words: &[&str]) {
+    let words = given!(rt; arguments(alloc, words));
+    let mut output = Vec::new(alloc);
+    let mut faults = Vec::new(alloc);
+    let status = run_in_memory(alloc, words.as_slice(), b"a\n", &mut output, &mut faults);
+    check_eq!(rt;
+        (faults.as_slice(), status, output.len()),
+        (b"usage: dedup [--last | --window N]\n".as_slice(), 2, 0)
+    );
+}
+
+/// Checks all wrong arguments.
+fn check_each_wrong(rt: &impl Abort, alloc: Global) {
+    for words in WRONG {
+        check_wrong(rt, alloc, words);
+    }
+}
+
+#[test]
+fn wrong_arguments(rt: HostRuntime) {
+    check_each_wrong(&rt, rt.alloc());
+}
