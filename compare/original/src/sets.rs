@@ -30,9 +30,17 @@ fn show_all<'s>(items: impl Iterator<Item = &'s Key>, text: &mut String) -> Resu
     Ok(())
 }
 
+/// Makes a set with the default hasher, inserts a number twice, and shows it.
+fn show_new(number: u64, text: &mut String) -> Result {
+    let mut set = hashlink::LinkedHashSet::new();
+    write!(text, "{} {} ", set.insert(number), set.insert(number))?;
+    write!(text, "{set:?} ")
+}
+
 /// Runs the call of this name that makes a set or takes items in, and tells whether there is one.
 fn make(name: &str, line: &mut Line<'_>, set: &mut Set, other: &Set, text: &mut String) -> Known {
     match name {
+        "new" => show_new(line.number(), text)?,
         "with_hasher" => *set = Set::with_hasher(hasher(line)),
         "with_capacity" => {
             let hasher = hasher(line);
@@ -115,13 +123,6 @@ fn run_on_both(name: &str, set: &Set, other: &Set, text: &mut String) -> Known {
     Ok(true)
 }
 
-/// Makes a set with the default hasher, inserts a number twice, and shows it.
-fn show_new(number: u64, text: &mut String) -> Result {
-    let mut set = hashlink::LinkedHashSet::new();
-    write!(text, "{} {} ", set.insert(number), set.insert(number))?;
-    write!(text, "{set:?} ")
-}
-
 /// Runs the call of this name, appends what it returns and the list, and tells whether there is
 /// such a call.
 pub fn run(
@@ -131,17 +132,12 @@ pub fn run(
     other: &Set,
     text: &mut String,
 ) -> Known {
-    if name == "new" {
-        show_new(line.number(), text)?;
-    } else {
-        let known = make(name, line, set, other, text)?
-            || run_by_item(name, line, set, text)?
-            || run_on_all(name, line, set, text)?
-            || run_on_both(name, set, other, text)?;
-        if !known {
-            return Ok(false);
-        }
+    let known = make(name, line, set, other, text)?
+        || run_by_item(name, line, set, text)?
+        || run_on_all(name, line, set, text)?
+        || run_on_both(name, set, other, text)?;
+    if known {
+        push_items(set.iter(), text)?;
     }
-    push_items(set.iter(), text)?;
-    Ok(true)
+    Ok(known)
 }
