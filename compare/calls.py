@@ -98,6 +98,9 @@ RARE_CACHE_CALLS = (
 # Those of a set.
 SET_CALLS = (
     ("insert", 20, "key"),
+    ("replace", 6, "key"),
+    ("get_or_insert", 6, "key"),
+    ("get_or_insert_with", 6, "key"),
     ("contains", 4, "key"),
     ("get", 4, "key"),
     ("take", 5, "key"),

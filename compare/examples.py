@@ -102,6 +102,11 @@ EXAMPLES["set"] = {
         "set_insert a x", "set_insert a y", "set_insert a X", "set_front a", "set_back a",
         "set_get a X", "set_debug a",
     ],
+    "replace": ["set_extend a x y", "set_replace a X", "set_replace a z", "set_take a x"],
+    "get_or_insert": [
+        "set_get_or_insert a x", "set_get_or_insert a X", "set_get_or_insert_with a y",
+        "set_get_or_insert_with a Y",
+    ],
     "two sets": [
         "set_from_iter a x y z", "set_from_iter b z w y", "set_union a", "set_intersection a",
         "set_difference a", "set_symmetric_difference a", "set_is_disjoint a", "set_is_subset a",

@@ -60,6 +60,12 @@ fn make(name: &str, line: &mut Line<'_>, set: &mut Set, other: &Set, text: &mut 
 fn run_by_item(name: &str, line: &mut Line<'_>, set: &mut Set, text: &mut String) -> Known {
     match name {
         "insert" => write!(text, "{} ", set.insert(line.key()))?,
+        "replace" => write!(text, "{:?} ", set.replace(line.key()))?,
+        "get_or_insert" => write!(text, "{:?} ", set.get_or_insert(line.key()))?,
+        "get_or_insert_with" => {
+            let key = line.key();
+            write!(text, "{:?} ", set.get_or_insert_with(&key, |key| *key))?;
+        }
         "contains" => write!(text, "{} ", set.contains(&line.key()))?,
         "get" => write!(text, "{:?} ", set.get(&line.key()))?,
         "take" => write!(text, "{:?} ", set.take(&line.key()))?,

@@ -95,6 +95,11 @@ fn make(
     Ok(true)
 }
 
+fn get_or_insert_with(set: &mut Set, item: Key, text: &mut String) -> Result<(), AllocError> {
+    let lent = set.get_or_insert_with(&item, |item| *item)?;
+    show(lent, text)
+}
+
 /// Runs the call of this name by one item, and tells whether there is one.
 fn run_by_item(
     name: &str,
@@ -104,6 +109,9 @@ fn run_by_item(
 ) -> Result<bool, AllocError> {
     match name {
         "insert" => show(&set.insert(line.key())?, text)?,
+        "replace" => show(&set.replace(line.key())?, text)?,
+        "get_or_insert" => show(set.get_or_insert(line.key())?, text)?,
+        "get_or_insert_with" => get_or_insert_with(set, line.key(), text)?,
         "contains" => show(&set.contains(&line.key()), text)?,
         "get" => show(&set.get(&line.key()), text)?,
         "take" => show(&set.take(&line.key()), text)?,
