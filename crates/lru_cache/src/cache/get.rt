@@ -24,6 +24,7 @@ impl<K: Eq + Hash, V, S: BuildHasher> LruCache<K, V, S> {
     /// assert!(rt; cache.contains_key(&'x'));
     /// assert_eq!(rt; cache.remove_lru(), Some(('y', 2)));
     /// ```
+    #[inline]
     pub fn contains_key<Q: Equivalent<K>>(&mut self, key: Q) -> bool
         ensures present { result ≡ is_some (find Q.equivalent self.old.pairs key) }
         ensures pairs { self.new.pairs ≡ to_back_as_is Q.equivalent self.old.pairs key }
@@ -44,6 +45,7 @@ impl<K: Eq + Hash, V, S: BuildHasher> LruCache<K, V, S> {
     /// assert_eq!(rt; cache.remove_lru(), Some(('y', 2)));
     /// ```
     #[tactic(auto, using(crate::proofs::Used::used))]
+    #[inline]
     pub fn get<Q: Equivalent<K>>(&mut self, key: Q) -> Option<&V>
         ensures* uses { sem 𝓛
             (shows_used K.row V.row S.row S.Hasher.row K.Hash S.BuildHasher S.Hasher.Hasher
@@ -75,6 +77,7 @@ impl<K: Eq + Hash, V, S: BuildHasher> LruCache<K, V, S> {
     /// }
     /// assert_eq!(rt; cache.peek(&'x'), Some(&3));
     /// ```
+    #[inline]
     pub fn get_mut<Q: Equivalent<K>>(&mut self, key: Q) -> Option<&mut V>
         ensures* writes_back { sem 𝓛
             (lends_used K.row V.row S.row S.Hasher.row K.Hash S.BuildHasher S.Hasher.Hasher
