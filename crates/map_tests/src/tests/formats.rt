@@ -63,13 +63,20 @@ fn assert_fails<T: Debug>(rt: &impl Abort, value: &T) {
     assert_fails_at_each_call(rt, value, Form::Long);
 }
 
-/// Checks that the text of an error is an error if its writer fails at its first call.
+/// Writes the text of an error into a writer that fails at a call. Returns whether that failed, and
+/// how many calls the writer had.
+fn displayed<E: Display>(error: &E, fails_at: usize) -> (bool, usize) {
+    let mut writer = Failing { calls: 0, fails_at };
+    (write!(writer, "{error}").is_err(), writer.calls)
+}
+
+/// Checks that the text of an error fails at each call at which its writer fails, which is its last.
 fn assert_error_fails<E: Display>(rt: &impl Abort, error: &E) {
-    let mut writer = Failing {
-        calls: 0,
-        fails_at: 1,
-    };
-    check_eq!(rt; (write!(writer, "{error}").is_err(), writer.calls), (true, 1));
+    let (failed, calls) = displayed(error, NEVER);
+    check_eq!(rt; (failed, 0 < calls), (false, true));
+    for fails_at in 1..=calls {
+        check_eq!(rt; (fails_at, displayed(error, fails_at)), (fails_at, (true, fails_at)));
+    }
 }
 
 #[test]
@@ -95,7 +102,7 @@ fn assert_lists_fail(rt: &impl Abort, alloc: Global) {
 }
 
 /// How many pairs the map of a long text has.
-const MANY: u64 = 1001;
+const MANY: u64 = 10_001;
 
 /// Inserts the keys below `MANY`, each with itself as its value.
 fn insert_many(rt: &impl Abort, map: &mut LinkedHashMap<u64, u64>) {
@@ -121,9 +128,20 @@ fn assert_text_of_many(rt: &impl Abort, alloc: Global, map: &LinkedHashMap<u64, 
     check!(rt; text.as_str() == wanted.as_str());
 }
 
+/// Checks that the debug text of the map that `insert_many` leaves fails at the last call of its
+/// writer, if that fails, and at one half-way.
+fn assert_many_fail(rt: &impl Abort, map: &LinkedHashMap<u64, u64>) {
+    let (failed, calls) = debugged(map, Form::Short, NEVER);
+    // At least a call for each pair.
+    check_eq!(rt; (failed, 10_001 <= calls), (false, true));
+    check_eq!(rt; debugged(map, Form::Short, calls / 2), (true, calls / 2));
+    check_eq!(rt; debugged(map, Form::Short, calls), (true, calls));
+}
+
 #[test]
-fn shows_a_thousand_and_one_pairs(rt: HostRuntime) {
+fn shows_ten_thousand_and_one_pairs(rt: HostRuntime) {
     let mut map = LinkedHashMap::new(rt.alloc());
     insert_many(&rt, &mut map);
     assert_text_of_many(&rt, rt.alloc(), &map);
+    assert_many_fail(&rt, &map);
 }
