@@ -1,9 +1,9 @@
-use Rattle.std.proofs.Common.{◌≡◌, ◌++◌, ◌∷◌, None, ap, ◌∙◌, arith}
+use Rattle.std.proofs.Common.{◌≡◌, ◌++◌, ◌∷◌, ap, ◌∙◌, arith}
 use Rattle.lhm_ring.proofs.tables.Tables.{IsHeld-table, AtHeld-table, length-capacity, length-rekeyed, IsTable-rekeyed}
 use Rattle.lhm_ring.proofs.indexes.Entries.{entries-append}
 use Rattle.lhm_ring.proofs.table.Table.replace_key.Goals as goal
 use Rattle.lhm_ring.specs.Pointer.{pointer_of}
-use Rattle.lhm_ring.specs.Ring.{IsHeld, linked_to, rekeyed}
+use Rattle.lhm_ring.specs.Ring.{IsHeld, rekeyed}
 use Rattle.lhm_ring.specs.Index.{entries}
 
 -- the pair is held in the ring
