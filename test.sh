@@ -33,6 +33,8 @@ for script in documents dropped-counts; do
     run_part $script "scripts/$script"
     show_part $script
 done
+run_part wrong-body-texts scripts/wrong-bodies --texts
+show_part wrong-body-texts 'each text stands'
 for script in documents dropped-counts refused-growths programs; do
     run_part $script-self-test "scripts/$script" --self-test
     show_part $script-self-test

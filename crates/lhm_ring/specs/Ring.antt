@@ -110,6 +110,10 @@ pair k v = (k, v)
 abbrev pub revalued : {K V : Type 0} → V → Held (K × V) → Held (K × V)
 revalued w t = held t.at t.hash t.link (pair t.pair.0 w)
 
+-- the same triple with the key k
+abbrev pub rekeyed : {K V : Type 0} → K → Held (K × V) → Held (K × V)
+rekeyed k t = held t.at t.hash t.link (pair k t.pair.1)
+
 -- the values of what is held, in order
 abbrev pub held_values : {K V : Type 0} → List (Held (K × V)) → List V
 held_values = map (λ t. t.pair.1)

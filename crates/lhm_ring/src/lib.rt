@@ -17,6 +17,5 @@ pub(crate) mod pointer;
 pub(crate) mod resize;
 pub(crate) mod retain;
 pub mod ring;
-pub(crate) mod rotate;
 pub(crate) mod search;
 pub mod table;

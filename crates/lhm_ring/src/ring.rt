@@ -1,7 +1,7 @@
 //! The ring: the held nodes in order, and the spare ones.
 ghost use Rattle.std.specs.Prelude.{◌≡◌, ◌+◌, ◌≤◌, ◌^◌, [], length, IfOk, IsOk, ◌∷◌, ◌++◌, map, ◌-◌, ◌<◌, None, true};
 ghost use Rattle.std.specs.Borrow.{sem};
-ghost use Rattle.lhm_ring.specs.Ring.{triples, IsHeld, AtHeld, ChangesOnly, linked_to, first_at, last_at, held};
+ghost use Rattle.lhm_ring.specs.Ring.{triples, IsHeld, AtHeld, ChangesOnly, linked_to, rekeyed, first_at, last_at, held};
 ghost use Rattle.lhm_ring.specs.Nodes.{IsApart, AreBlocks, IsAt};
 ghost use Rattle.lhm_ring.specs.Links.{ring_cells, IsJoined, LeadsOn, LeadsBack, ChainsTo, is_there};
 
@@ -205,6 +205,21 @@ impl<K, V> Ring<K, V> {
         ensures alone { ChangesOnly self.old.held (pointer_of at) }
     {
         self.nodes.value_mut(at.pointer)
+    }
+
+    /// Replaces the key at a position and returns the old one.
+    pub fn replace_key(&mut self, at: Position<K, V>, key: K) -> K
+        requires { IsHeld self.old.held (pointer_of at) }
+        ensures held { AtHeld self.old.held (pointer_of at) (λ xs t ys.
+            self.new.held ≡ xs ++ rekeyed key t ∷ ys) }
+        ensures old { AtHeld self.old.held (pointer_of at) (λ xs t ys. result ≡ t.pair.0) }
+        ensures spares { self.new.spares ≡ self.old.spares }
+        ensures nodes { self.new.nodes ≡ self.old.nodes }
+    {
+        let at = at.pointer;
+        let (old, value) = self.nodes.take(at);
+        self.nodes.fill(at, key, value);
+        old
     }
 
     /// Returns the position of the front triple, if any.

@@ -1,10 +1,10 @@
 //! Pairs in insertion order with a hash index of their keys.
-ghost use Rattle.std.specs.Prelude.{◌≡◌, ◌+◌, ◌<◌, ◌≤◌, ◌^◌, ◌++◌, ◌∷◌, [], length, map, None, IfOk, IsOk, IfSome, IfNone, OnSome, IsTrue, IsFalse};
+ghost use Rattle.std.specs.Prelude.{◌≡◌, ◌+◌, ◌-◌, ◌<◌, ◌≤◌, ◌^◌, ◌++◌, ◌∷◌, [], length, take, drop, map, None, IfOk, IsOk, IfSome, IfNone, OnSome, IsTrue, IsFalse};
 ghost use Rattle.lhm_ring.specs.Nodes.{IsApart};
-ghost use Rattle.lhm_ring.specs.Ring.{IsHeld, AtHeld, first_at, last_at, held, pair};
+ghost use Rattle.lhm_ring.specs.Ring.{IsHeld, AtHeld, first_at, last_at, held, pair, rekeyed};
 ghost use Rattle.lhm_ring.specs.Pointer.{pointer_of, pointer_of_some};
 ghost use Rattle.lhm_ring.specs.Index.{spots, entries};
-ghost use Rattle.lhm_ring.specs.Search.{HasKey, IsAbsent, CountsSome, CountsAll};
+ghost use Rattle.lhm_ring.specs.Search.{HasKey, IsAbsent, CountsSome, CountsAll, CountsFiltered};
 ghost use Rattle.lhm_ring.specs.Buckets.{buckets};
 ghost use Rattle.lhm_ring.specs.Table.{KeepsCounts, Removes, WritesOnly};
 
@@ -17,6 +17,7 @@ use equivalent::Equivalent;
 use std::alloc::{AllocError, Global};
 use std::hash::Hash;
 use std::marker::Model;
+use std::snapshot::Snapshot;
 
 /// Pairs in insertion order, each with its hash, found by hash and key. A [`Position`] stays until
 /// its pair leaves or `shrink_to_fit` moves it.
@@ -187,6 +188,18 @@ impl<K, V> Table<K, V> {
         self.ring.value_mut(at)
     }
 
+    /// Replaces the key at a position and returns the old one. The hash stays: callers give a key
+    /// with the same.
+    pub fn replace_key(&mut self, at: Position<K, V>, key: K) -> K
+        requires { IsHeld self.old.held (pointer_of at) }
+        ensures held { AtHeld self.old.held (pointer_of at) (λ xs t ys.
+            self.new.held ≡ xs ++ rekeyed key t ∷ ys) }
+        ensures old { AtHeld self.old.held (pointer_of at) (λ xs t ys. result ≡ t.pair.0) }
+        ensures keeps { KeepsCounts self.old self.new }
+    {
+        self.ring.replace_key(at, key)
+    }
+
     /// Moves the pair at a position to the back. Positions stay.
     pub fn move_to_back(&mut self, at: Position<K, V>)
         requires { IsHeld self.old.held (pointer_of at) }
@@ -207,6 +220,46 @@ impl<K, V> Table<K, V> {
         ensures apart { IsApart (map (λ t. t.at) self.old.held) }
     {
         self.ring.move_to_front(at);
+    }
+
+    /// Moves the front pair to the back, so many times.
+    fn move_fronts(&mut self, count: usize)
+        requires { count ≤ length self.old.held }
+        ensures rotated { self.new.held ≡ drop count self.old.held ++ take count self.old.held }
+        ensures keeps { KeepsCounts self.old self.new }
+    {
+        for _moved in 0..count {
+            let front = self.first().unwrap();
+            self.move_to_back(front);
+        }
+    }
+
+    /// Moves the back pair to the front, so many times.
+    fn move_backs(&mut self, count: usize)
+        requires { count ≤ length self.old.held }
+        ensures rotated { self.new.held ≡ drop (length self.old.held - count) self.old.held
+            ++ take (length self.old.held - count) self.old.held }
+        ensures keeps { KeepsCounts self.old self.new }
+    {
+        for _moved in 0..count {
+            let back = self.last().unwrap();
+            self.move_to_front(back);
+        }
+    }
+
+    /// Moves the first `count` pairs behind the others, in order, in O(min(count, len - count)).
+    /// Positions stay.
+    pub fn rotate_left(&mut self, count: usize)
+        requires { count ≤ length self.old.held }
+        ensures rotated { self.new.held ≡ drop count self.old.held ++ take count self.old.held }
+        ensures keeps { KeepsCounts self.old self.new }
+    {
+        let others = self.len() - count;
+        if count <= others {
+            self.move_fronts(count);
+        } else {
+            self.move_backs(others);
+        }
     }
 
     /// Inserts a pair at the back and returns its position.
@@ -305,26 +358,51 @@ impl<K: Eq + Hash, V> Table<K, V> {
         self.index.find(&self.ring, hash, key)
     }
 
-    /// Returns the position of the pair with this hash and key, if any. It reads no pair if the
-    /// filter lacks the hash.
-    pub fn position<Q: Equivalent<K>>(&self, hash: u64, key: Q) -> Option<Position<K, V>>
-        ensures found { IfSome result (λ p.
+    /// Returns the position of the pair with this hash and key, if any, and the counts, which take
+    /// no instruction: contracts alone read a `Snapshot`. It reads no pair if the filter lacks the
+    /// hash.
+    pub fn position<Q: Equivalent<K>>(
+        &self,
+        hash: u64,
+        key: Q,
+    ) -> (Option<Position<K, V>>, Snapshot<Probe>)
+        ensures found { IfSome result.0 (λ p.
             HasKey (Q.equivalent key) hash self.now.held (pointer_of p)) }
-        ensures absent { IfNone result (IsAbsent (Q.equivalent key) hash self.now.held) }
+        ensures absent { IfNone result.0 (IsAbsent (Q.equivalent key) hash self.now.held) }
+        ensures counts_found { OnSome result.0
+            (CountsSome (spots self.now.held) (buckets self.now.capacity) hash
+            result.1.value.visited result.1.value.compared) }
+        ensures counts_absent { IfNone result.0
+            (CountsFiltered (spots self.now.held) (buckets self.now.capacity) hash
+            result.1.value.visited result.1.value.compared) }
     {
         self.index.position(&self.ring, hash, key)
     }
 
-    /// Removes and returns the pair with this hash and key, if any. Asks the filter first.
-    pub fn remove<Q: Equivalent<K>>(&mut self, hash: u64, key: Q) -> Option<(K, V)>
-        ensures removed { IfSome result
+    /// Removes and returns the pair with this hash and key, if any, and returns the counts, as
+    /// `position` does. Asks the filter first.
+    pub fn remove<Q: Equivalent<K>>(
+        &mut self,
+        hash: u64,
+        key: Q,
+    ) -> (Option<(K, V)>, Snapshot<Probe>)
+        ensures removed { IfSome result.0
             (Removes (Q.equivalent key) hash self.old.held self.new.held) }
-        ensures absent { IfNone result (IsAbsent (Q.equivalent key) hash self.old.held) }
-        ensures unchanged { IfNone result (self.new ≡ self.old) }
+        ensures absent { IfNone result.0 (IsAbsent (Q.equivalent key) hash self.old.held) }
+        ensures counts_found { OnSome result.0
+            (CountsSome (spots self.old.held) (buckets self.old.capacity) hash
+            result.1.value.visited result.1.value.compared) }
+        ensures counts_absent { IfNone result.0
+            (CountsFiltered (spots self.old.held) (buckets self.old.capacity) hash
+            result.1.value.visited result.1.value.compared) }
+        ensures unchanged { IfNone result.0 (self.new ≡ self.old) }
         ensures keeps { KeepsCounts self.old self.new }
     {
-        let at = self.index.take_out(&mut self.ring, hash, key)?;
+        let (found, counts) = self.index.take_out(&mut self.ring, hash, key);
+        let Some(at) = found else {
+            return (None, counts);
+        };
         let (_, key, value) = self.ring.unlink(at);
-        Some((key, value))
+        (Some((key, value)), counts)
     }
 }

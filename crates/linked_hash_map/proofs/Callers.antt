@@ -13,6 +13,7 @@ pub mod Keys
 pub mod Lookups
 pub mod Merges
 pub mod Moves
+pub mod ReplacedKeys
 pub mod Replay
 pub mod Retained
 pub mod Rounds

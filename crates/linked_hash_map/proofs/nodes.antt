@@ -15,6 +15,7 @@ pub mod MovedToFront
 pub mod Outside
 pub mod PushedPair
 pub mod PutPair
+pub mod ReplacedKey
 pub mod Retained
 pub mod Rotated
 pub mod StoredKeys

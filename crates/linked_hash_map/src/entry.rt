@@ -36,7 +36,8 @@ pub enum Entry<'a, K: Eq + Hash, V, S: BuildHasher = DefaultHashBuilder> {
     Vacant(VacantEntry<'a, K, V, S>),
 }
 
-/// The entry of a present key. Its methods are O(1), hash and compare no key, and end no visit.
+/// The entry of a present key. Its methods are O(1), hash no key, compare none, except
+/// `replace_key`, and end no visit.
 ///
 /// # Examples
 ///

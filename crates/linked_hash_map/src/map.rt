@@ -13,6 +13,7 @@ mod insert;
 mod iter;
 mod order;
 mod remove;
+mod replace;
 
 use self::cursor::Visit;
 pub use self::get::Probe;

@@ -21,26 +21,26 @@ pub none-IsChain : (rest : List Spot) → IsChain None rest → rest ≡ []
 none-IsChain [] h = refl
 none-IsChain (s ∷ rest) h = absurd (let e : None ≡ Some s.at = h.0 in cc)
 
-pub HasChain-push : (h : Option Ptr) (n b : ℕ) (s : Spot) (xs ys : List Spot) → HasChain h n b xs
+pub HasChain-push : {h : Option Ptr} {n b : ℕ} (s : Spot) (xs ys : List Spot) → HasChain h n b xs
     → s.link ≡ h → is_in n b s ≡ true → PutsIn s xs ys → HasChain (Some s.at) n b ys
-HasChain-push h n b s xs ys c e t p = record {
+HasChain-push {n = n} {b = b} s xs ys c e t p = record {
   chain = s ∷ c.chain;
   linked = (refl, subst (λ (v : Option Ptr). IsChain v c.chain) (sym e) c.linked);
   holds = record { without = filter (is_in n b) xs; puts = PutsIn-filter_in (is_in n b) s xs ys p t; others = c.holds };
 }
 
-pub HasChain-other : (h : Option Ptr) (n b : ℕ) (s : Spot) (xs ys : List Spot) → HasChain h n b xs
+pub HasChain-other : {h : Option Ptr} {n b : ℕ} (s : Spot) (xs ys : List Spot) → HasChain h n b xs
     → is_in n b s ≡ false → PutsIn s xs ys → HasChain h n b ys
-HasChain-other h n b s xs ys c t p = record {
+HasChain-other {n = n} {b = b} s xs ys c t p = record {
   chain = c.chain;
   linked = c.linked;
   holds = subst (λ (v : List Spot). IsRearranged c.chain v) (sym (filter-PutsIn (is_in n b) s xs ys p t)) c.holds;
 }
 
 -- the same, with the spot taken away
-pub HasChain-other_removed : (h : Option Ptr) (n b : ℕ) (s : Spot) (xs ys : List Spot)
+pub HasChain-other_removed : {h : Option Ptr} {n b : ℕ} (s : Spot) (xs ys : List Spot)
     → HasChain h n b ys → is_in n b s ≡ false → PutsIn s xs ys → HasChain h n b xs
-HasChain-other_removed h n b s xs ys c t p = record {
+HasChain-other_removed {n = n} {b = b} s xs ys c t p = record {
   chain = c.chain;
   linked = c.linked;
   holds = subst (λ (v : List Spot). IsRearranged c.chain v) (filter-PutsIn (is_in n b) s xs ys p t) c.holds;

@@ -6,7 +6,7 @@ use denote.RawPtr.{Ptr}
 use Rattle.lhm_ring.proofs.lists.Rearranged.{IsRearranged-again}
 use Rattle.lhm_ring.proofs.lists.RearrangedFilters.{PutsIn-filter_in, filter-PutsIn}
 use Rattle.lhm_ring.proofs.indexes.Spots.{PutsIn-spots}
-use Rattle.lhm_ring.specs.Ring.{Held, change_at, revalued, set_held_values}
+use Rattle.lhm_ring.specs.Ring.{Held, change_at, revalued, rekeyed, set_held_values}
 use Rattle.lhm_ring.specs.Index.{PutsIn, IsRearranged, is_in, HasChains, Spot, spot, spots}
 use Rattle.lhm_ring.specs.Nodes.{same_ptr}
 
@@ -53,6 +53,12 @@ spots-value p w (x ∷ nodes) =
       | true ↦ ap (λ v. spot x ∷ v) (spots-value p w nodes)
       | false ↦ ap (λ v. spot x ∷ v) (spots-value p w nodes)
     ]
+
+-- a key written
+pub spots-rekeyed : {K V : Type 0} (k : K) (before : List (Held (K × V))) (x : Held (K × V))
+    (after : List (Held (K × V))) → spots (before ++ rekeyed k x ∷ after) ≡ spots (before ++ x ∷ after)
+spots-rekeyed k [] x after = refl
+spots-rekeyed k (y ∷ before) x after = ap (λ ss. spot y ∷ ss) (spots-rekeyed k before x after)
 
 -- all values written
 pub spots-values : {K V : Type 0} (nodes : List (Held (K × V))) (vs : List V) → spots (set_held_values nodes vs) ≡ spots nodes

@@ -31,7 +31,7 @@ module _ {K V : Type 0} where
         let k = put h.before h.node h.after h.is h.at_is in
         let x = linked_to (get_or old.heads (h.node.hash % length old.heads) None) h.node in
         subst (λ (v : List (Held (K × V))). Indexes new (spots v)) (sym k.nodes_is)
-        (Indexes-put old new (spot x) (spots (h.before ++ h.after)) (spots (h.before ++ x ∷ h.after)) lacks.others some refl
+        (Indexes-put new (spot x) (spots (h.before ++ x ∷ h.after)) lacks.others some refl
         (PutsIn-spots h.before x h.after) k.heads_is k.words_is)
 
     pub entries-put_first : IsHeld nodes p → entries nodes' ≡ entries nodes
@@ -116,7 +116,7 @@ module _ {K V : Type 0} {i : BucketState} {old nodes : List (Held (K × V))} {po
           done = w.done ++ x' ∷ [];
           rest = g.after;
           is = k.nodes_is ∙ sym (append_assoc w.done (x' ∷ []) g.after);
-          indexed = Indexes-put i i' (spot x') (spots w.done) (spots (w.done ++ x' ∷ [])) w.indexed
+          indexed = Indexes-put i' (spot x') (spots (w.done ++ x' ∷ [])) w.indexed
               some refl (PutsIn-last w.done x') k.heads_is k.words_is;
           pointer_is = nx w.done x g.after g.is g.at_is;
           count_is = (omega (arith, long, d));

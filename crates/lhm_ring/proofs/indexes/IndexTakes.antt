@@ -96,7 +96,7 @@ module _ {K V : Type 0} {heads : List (Option Ptr)} {hash : ℕ} {nodes : List (
       let o : OnNode n bucket w.here nodes = OnNode-on_chain in
       let none : w.done ++ w.here ∷ w.rest ≡ w.here ∷ w.rest =
       ap (λ (v : List Spot). v ++ w.here ∷ w.rest) (none-IsLast before w.done e w.behind) in
-      let i = HasChains-take_first heads bucket w.here w.rest o.ws (spots nodes) h
+      let i = HasChains-take_first bucket w.here w.rest o.ws h
       (mod-lt hash (length-HasChains w.here o.ws h o.puts)) (subst (IsChain (get_or heads bucket None)) none w.linked)
       (subst (λ (v : List Spot). IsRearranged v (filter (is_in n bucket) (spots nodes))) none w.holds) o.puts in
       record {
@@ -133,8 +133,20 @@ module _ {K V : Type 0} {heads : List (Option Ptr)} {hash : ℕ} {nodes : List (
         let t = PutsPassing-rearranged f b.before w.here w.rest y.ws less in
         let s = PutsIn-later w.here y' t.without y.ws (spots nodes') t.puts put' in
         let of : NodeOf w.here s.0 nodes' = NodeOf-spot w.here s.0 nodes' s.1 in
-        let i = HasChains-take_next heads bucket b.before b.node y' w.here w.rest y.ws (spots nodes) (spots nodes') s.0 h
-        (mod-lt hash (length-HasChains w.here o.ws h o.puts)) (subst (IsChain (get_or heads bucket None)) (append-before w e) w.linked)
-        (IsRearranged-before w e) (ap (λ v. v.at) y.of.split.at_is) (ap (λ v. v.hash) y.of.split.at_is)
-        (OfNodeAt-spot (λ s. link ≡ s.link) o.of w.at_is l) y.puts put' s.1 in
+        let i = HasChains-take_next h (mod-lt hash (length-HasChains w.here o.ws h o.puts)) (record {
+          done = b.before;
+          y = b.node;
+          s = w.here;
+          rest = w.rest;
+          linked = subst (IsChain (get_or heads bucket None)) (append-before w e) w.linked;
+          holds = IsRearranged-before w e;
+          y' = y';
+          at_is = ap (λ v. v.at) y.of.split.at_is;
+          hash_is = ap (λ v. v.hash) y.of.split.at_is;
+          link_is = OfNodeAt-spot (λ s. link ≡ s.link) o.of w.at_is l;
+          zs = y.ws;
+          was = y.puts;
+          is = put';
+          others = s.1;
+        }) in
         record { held = IsHeld-spot of w.at_is; others = subst (HasChains heads) of.others i }

@@ -24,10 +24,11 @@ Indexes-none i empty count = record { chains = HasChains-none i.heads empty; cov
 pub HasNoChain-indexed : (i : BucketState) → Indexes i [] → HasNoChain i
 HasNoChain-indexed i h = get_or-none_indexed i.heads h.chains
 
-pub Indexes-put : (old new : BucketState) (s : Spot) (xs ys : List Spot) → Indexes old xs → 0 < length old.heads
+pub Indexes-put : {old : BucketState} (new : BucketState) (s : Spot) {xs : List Spot} (ys : List Spot)
+    → Indexes old xs → 0 < length old.heads
     → s.link ≡ get_or old.heads (s.hash % length old.heads) None → PutsIn s xs ys
     → new.heads ≡ set old.heads (s.hash % length old.heads) (Some s.at) → SetsBit old.words new.words s.hash → Indexes new ys
-Indexes-put old new s xs ys h some link p heads words = record {
+Indexes-put {old} new s {xs} ys h some link p heads words = record {
   chains = subst (λ (hs : List (Option Ptr)). HasChains hs ys) (sym heads) (HasChains-put old.heads s xs ys h.chains some link p);
   covers = CoversAll-put new.words s xs ys p words.set (CoversAll-more old.words new.words words.others xs h.covers);
   count = words.count ∙ h.count ∙ sym (ap length heads ∙ length-set old.heads _ _);
@@ -80,22 +81,28 @@ module _ {K V : Type 0} {nodes : List (Held (K × V))} {p : Ptr} where
         others = record { chains = w.others; covers = CoversAll-rest i.words k.before k.node k.after c; count = h.count };
       }
 
+-- a bucket has a new head, and no bits if that leads nowhere
+pub record SetsHead (old new : BucketState) (bucket : ℕ) (head : Option Ptr) : Type 0 where
+  pub within : bucket < length old.heads
+  pub heads : new.heads ≡ set old.heads bucket head
+  pub others : (other : ℕ) → other % length old.heads ≢ bucket → may_contain new.words other ≡ may_contain old.words other
+  pub same : IsSome head → new.words ≡ old.words
+  pub count : length new.words ≡ length old.words
+
 -- from the head of its bucket
-module _ (old new : BucketState) (bucket : ℕ) (head : Option Ptr)
-    (within : bucket < length old.heads) (heads : new.heads ≡ set old.heads bucket head)
-    (others : (other : ℕ) → other % length old.heads ≢ bucket → may_contain new.words other ≡ may_contain old.words other)
-    (same : IsSome head → new.words ≡ old.words) (count : length new.words ≡ length old.words) where
+module _ {old new : BucketState} {bucket : ℕ} {head : Option Ptr} (sets : SetsHead old new bucket head) where
   long : length new.heads ≡ length old.heads
-  long = ap length heads ∙ length-set old.heads bucket head
+  long = ap length sets.heads ∙ length-set old.heads bucket head
 
   CoversAll-head : (xs : List Spot) → HasChains new.heads xs → CoversAll old.words xs → (o : Option Ptr) → head ≡ o → CoversAll new.words xs
-  CoversAll-head xs w c (Some q) e = subst (λ (ws : List ℕ). CoversAll ws xs) (sym (same (ap is_some e))) c
+  CoversAll-head xs w c (Some q) e = subst (λ (ws : List ℕ). CoversAll ws xs) (sym (sets.same (ap is_some e))) c
   CoversAll-head xs w c None e =
-      let inside : bucket < length new.heads = omega (arith, long, within) in
+      let inside : bucket < length new.heads = omega (arith, long, sets.within) in
       let none : get_or new.heads bucket None ≡ None =
-      ap (λ (hs : List (Option Ptr)). get_or hs bucket None) heads
-      ∙ get_or-set_same old.heads bucket head None within ∙ e in
-      CoversAll-cleared old.words new.words (length new.heads) bucket (λ hash away. others hash (λ f. away (ap (λ n. hash % n) long ∙ f)))
+      ap (λ (hs : List (Option Ptr)). get_or hs bucket None) sets.heads
+      ∙ get_or-set_same old.heads bucket head None sets.within ∙ e in
+      CoversAll-cleared old.words new.words (length new.heads) bucket
+      (λ hash away. sets.others hash (λ f. away (ap (λ n. hash % n) long ∙ f)))
       xs (filter-no_head new.heads bucket xs w inside none) c
 
   pub HoldsOthers-head : {K V : Type 0} {nodes : List (Held (K × V))} {p : Ptr}
@@ -108,6 +115,6 @@ module _ (old new : BucketState) (bucket : ℕ) (head : Option Ptr)
         others = record {
           chains = w.others;
           covers = CoversAll-head (spots (k.before ++ k.after)) w.others (CoversAll-rest old.words k.before k.node k.after c) head refl;
-          count = count ∙ h.count ∙ sym long;
+          count = sets.count ∙ h.count ∙ sym long;
         };
       }

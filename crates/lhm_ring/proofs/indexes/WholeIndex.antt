@@ -54,53 +54,69 @@ HasChains-put heads s xs ys h l e p =
     let b : ℕ = s.hash % n in
     let t : is_in n b s ≡ true = eq-eqb b b refl in
     let k : HasChain (get_or heads b None) n b xs = h.chains b (mod-lt s.hash l) in
-    HasChains-set heads b (Some s.at) ys (mod-lt s.hash l) (HasChain-push (get_or heads b None) n b s xs ys k e t p)
-    (λ c m ne. HasChain-other (get_or heads c None) n c s xs ys (h.chains c m) (is_in-other n b c s t ne) p)
+    HasChains-set heads b (Some s.at) ys (mod-lt s.hash l) (HasChain-push s xs ys k e t p)
+    (λ c m ne. HasChain-other s xs ys (h.chains c m) (is_in-other n b c s t ne) p)
 
 -- the first of a chain is removed: its chain link is the new head
-pub HasChains-take_first : (heads : List (Option Ptr)) (b : ℕ) (s : Spot) (rest ys xs : List Spot) → HasChains heads xs → b < length heads
+pub HasChains-take_first : {heads : List (Option Ptr)} (b : ℕ) (s : Spot) (rest ys : List Spot) {xs : List Spot} → HasChains heads xs
+    → b < length heads
     → IsChain (get_or heads b None) (s ∷ rest) → IsRearranged (s ∷ rest) (filter (is_in (length heads) b) xs) → PutsIn s ys xs
     → HasChains (set heads b s.link) ys
-HasChains-take_first heads b s rest ys xs h l linked holds p =
+HasChains-take_first {heads} b s rest ys {xs} h l linked holds p =
     let n : ℕ = length heads in
     let q : Spot → Bool = is_in n b in
     let t : PutsPassing q s xs = PutsPassing-rearranged q [] s rest xs holds in
     let less = IsRearranged-less_middle [] s rest (filter q ys) (filter q xs) (PutsIn-filter_in q s ys xs p t.passes) holds in
     HasChains-set heads b s.link ys l (record { chain = rest; linked = linked.1; holds = less })
-    (λ c m ne. HasChain-other_removed (get_or heads c None) n c s ys xs (h.chains c m) (is_in-other n b c s t.passes ne) p)
+    (λ c m ne. HasChain-other_removed s ys xs (h.chains c m) (is_in-other n b c s t.passes ne) p)
+
+-- on the chain of bucket b comes y, and then s; xs' has y' in place of y, which is linked past s;
+-- and ys are these without s
+pub record IsLinkedPast (heads : List (Option Ptr)) (b : ℕ) (xs xs' ys : List Spot) : Type 0 where
+  pub done : List Spot
+  pub y : Spot
+  pub s : Spot
+  pub rest : List Spot
+  pub linked : IsChain (get_or heads b None) (done ++ y ∷ s ∷ rest)
+  pub holds : IsRearranged (done ++ y ∷ s ∷ rest) (filter (is_in (length heads) b) xs)
+  pub y' : Spot
+  pub at_is : y'.at ≡ y.at
+  pub hash_is : y'.hash ≡ y.hash
+  pub link_is : y'.link ≡ s.link
+  pub zs : List Spot
+  pub was : PutsIn y zs xs
+  pub is : PutsIn y' zs xs'
+  pub others : PutsIn s ys xs'
 
 -- a later one is removed: the one before it is linked past it
-pub HasChains-take_next : (heads : List (Option Ptr)) (b : ℕ) (done : List Spot) (y y' s : Spot)
-    (rest zs xs xs' ys : List Spot) → HasChains heads xs
-    → b < length heads → IsChain (get_or heads b None) (done ++ y ∷ s ∷ rest)
-    → IsRearranged (done ++ y ∷ s ∷ rest) (filter (is_in (length heads) b) xs) → y'.at ≡ y.at → y'.hash ≡ y.hash → y'.link ≡ s.link
-    → PutsIn y zs xs → PutsIn y' zs xs' → PutsIn s ys xs' → HasChains heads ys
-HasChains-take_next heads b done y y' s rest zs xs xs' ys h l linked holds a num link py py' ps =
+pub HasChains-take_next : {heads : List (Option Ptr)} {b : ℕ} {xs xs' ys : List Spot} → HasChains heads xs → b < length heads
+    → IsLinkedPast heads b xs xs' ys → HasChains heads ys
+HasChains-take_next {heads} {b} {xs} {xs'} {ys} h l w =
+    let done = w.done in let y = w.y in let s = w.s in let rest = w.rest in let y' = w.y' in let zs = w.zs in
     let n : ℕ = length heads in
     let q : Spot → Bool = is_in n b in
     let f : List Spot → List Spot = filter q in
-    let ty : PutsPassing q y xs = PutsPassing-rearranged q done y (s ∷ rest) xs holds in
-    let ty' : q y' ≡ true = ap (λ v. eqb (v % n) b) num ∙ ty.passes in
+    let ty : PutsPassing q y xs = PutsPassing-rearranged q done y (s ∷ rest) xs w.holds in
+    let ty' : q y' ≡ true = ap (λ v. eqb (v % n) b) w.hash_is ∙ ty.passes in
     let less_y = IsRearranged-less_middle done y (s ∷ rest) (f zs) (f xs)
-    (PutsIn-filter_in q y zs xs py ty.passes) holds in
+    (PutsIn-filter_in q y zs xs w.was ty.passes) w.holds in
     let ts : PutsPassing q s zs = PutsPassing-rearranged q done s rest zs less_y in
     let more_y = IsRearranged-more_middle done y' (s ∷ rest) (f zs) (f xs')
-    (PutsIn-filter_in q y' zs xs' py' ty') less_y in
+    (PutsIn-filter_in q y' zs xs' w.is ty') less_y in
     let under = PutsIn-under done s (y' ∷ rest) (y' ∷ s ∷ rest) (PutsIn-there s y' rest (s ∷ rest) (PutsIn-here s rest)) in
     let less_s = IsRearranged-less s (done ++ y' ∷ rest) (done ++ y' ∷ s ∷ rest) (f ys)
-    (f xs') under (PutsIn-filter_in q s ys xs' ps ts.passes) more_y in
+    (f xs') under (PutsIn-filter_in q s ys xs' w.others ts.passes) more_y in
     let own : HasChain (get_or heads b None) n b ys = record {
       chain = done ++ y' ∷ rest;
-      linked = IsChain-linked_past (get_or heads b None) done y y' s rest a link linked;
+      linked = IsChain-linked_past (get_or heads b None) done y y' s rest w.at_is w.link_is w.linked;
       holds = less_s;
     } in
     HasChains-each heads b ys l own
     (λ c m ne.
-    let g : Option Ptr = get_or heads c None in
-    HasChain-other_removed g n c s ys xs'
-    (HasChain-other g n c y' zs xs' (HasChain-other_removed g n c y zs xs (h.chains c m)
-    (is_in-other n b c y ty.passes ne) py) (is_in-other n b c y' ty' ne) py')
-    (is_in-other n b c s ts.passes ne) ps)
+    HasChain-other_removed s ys xs'
+    (HasChain-other y' zs xs' (HasChain-other_removed y zs xs (h.chains c m)
+    (is_in-other n b c y ty.passes ne) w.was) (is_in-other n b c y' ty' ne) w.is)
+    (is_in-other n b c s ts.passes ne) w.others)
 
 -- heads with no chain, and no nodes
 pub HasChains-none : (heads : List (Option Ptr)) → ((b : ℕ) → b < length heads → get_or heads b None ≡ None) → HasChains heads []

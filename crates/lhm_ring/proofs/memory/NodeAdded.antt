@@ -49,7 +49,7 @@ module _ {B : Type 0} (e : Ends) (nodes : List (Cell Links B)) (p : Ptr) (l : Li
   is_there-added : (q : Ptr) → IsThere cs q → IsThere ds q
   is_there-added q h = ap (λ z. has_links (links_of z)) (cell_at-other q (same_ptr-there q h)) ∙ h
 
-  module _ (ps : List Ptr) (spare : Option Ptr) (ss : List Ptr) (r : IsRing cs ps spare ss) (f : link_of (Some l) ≡ spare) where
+  module _ {ps : List Ptr} {spare : Option Ptr} {ss : List Ptr} (r : IsRing cs ps spare ss) (f : link_of (Some l) ≡ spare) where
     abbrev T : Ptr → Type 0
     T q = IsThere cs q
 

@@ -19,7 +19,7 @@ use Rattle.lhm_ring.specs.Nodes.{Cell, cell, same_ptr, links_of, body_of, links_
 use Rattle.lhm_ring.specs.Links.{chaining_to, next_of, prev_of, link_of, has_links, next_at}
 use Rattle.lhm_ring.specs.Links.{prev_at, link_at, is_there, content_of, content_at, HasContent}
 use Rattle.lhm_ring.specs.Links.{follow, listed, one_of, ring_list, IsOwned}
-use Rattle.lhm_ring.specs.Ring.{State, state, Held, held, IsHeld, ChangesOnly, change_at, pair, revalued}
+use Rattle.lhm_ring.specs.Ring.{State, state, Held, held, IsHeld, ChangesOnly, change_at, pair, revalued, rekeyed}
 use Rattle.lhm_ring.specs.Pointer.{target}
 
 -- the same nodes and the same order, except that p holds u in place of t
@@ -154,21 +154,40 @@ module _ {B : Type 0} where
       ap (change_at p f) e
       ∙ change_at-split p f xs t ys at (subst (λ hs. IsApart (pointers_of hs)) (ap (λ (z : State B). z.held) w ∙ e) (IsApart-ring_list ok))
 
--- a ring in which a value is written at a held pointer
+-- a ring in which a content is written at a held pointer
+module _ {B : Type 0} {cs : List (Cell Links B)} {spare : Link} {n m : ℕ} {v : State B} {total : ℕ}
+    (ok : IsOwned cs spare n m) (w : state (ring_list cs n) m total ≡ v)
+    {p : Ptr} (h : IsHeld v.held p) (x : B) {ds : List (Cell Links B)} (is : ds ≡ with_body p (Some x) cs) where
+  changes : ChangesAt cs ds p h.node (held h.node.at h.node.hash h.node.link x)
+  changes = subst (λ zs. ChangesAt cs zs p h.node (held h.node.at h.node.hash h.node.link x)) (sym is)
+      (ChangesAt-with_body cs p (links_at-held ok w h).1 (content_at-held ok w h) x)
+
+  IsOwned-written : IsOwned ds spare n m
+  IsOwned-written = IsOwned-changed changes ok w h
+
+  ring_list-written : (f : Held B → Held B) → f h.node ≡ held h.node.at h.node.hash h.node.link x
+      → ring_list ds n ≡ change_at p f v.held
+  ring_list-written f same = ring_list-changed changes f same ok w
+
+-- a value or a key is written
 module _ {K V : Type 0} {cs : List (Cell Links (K × V))} {spare : Link} {n m : ℕ}
-    {v : State (K × V)} {total : ℕ} (ok : IsOwned cs spare n m) (w : state (ring_list cs n) m total
-    ≡ v)
-    {p : Ptr} (h : IsHeld v.held p) {x : K × V} (e : body_at cs p ≡ Some x)
-    (new : V) {ds : List (Cell Links (K × V))} (is : ds ≡ with_body p (Some (pair x.0 new))
-    cs) where
-  changes : ChangesAt cs ds p h.node (held h.node.at h.node.hash h.node.link (pair x.0 new))
-  changes = subst (λ zs. ChangesAt cs zs p h.node (held h.node.at h.node.hash h.node.link (pair x.0 new))) (sym is)
-      (ChangesAt-with_body cs p (links_at-held ok w h).1 (content_at-held ok w h) (pair x.0 new))
+    {v : State (K × V)} {total : ℕ} (ok : IsOwned cs spare n m) (w : state (ring_list cs n) m total ≡ v)
+    {p : Ptr} (h : IsHeld v.held p) {x : K × V} (e : body_at cs p ≡ Some x) where
+  pair-is : h.node.pair ≡ x
+  pair-is = sym (pair-held ok w p e h.before h.node h.after h.is h.at_is)
 
-  pub IsOwned-revalued : IsOwned ds spare n m
-  IsOwned-revalued = IsOwned-changed changes ok w h
+  module _ (new : V) {ds : List (Cell Links (K × V))} (is : ds ≡ with_body p (Some (pair x.0 new)) cs) where
+    pub IsOwned-revalued : IsOwned ds spare n m
+    IsOwned-revalued = IsOwned-written ok w h (pair x.0 new) is
 
-  pub ring_list-revalued : ring_list ds n ≡ change_at p (revalued new) v.held
-  ring_list-revalued =
-      ring_list-changed changes (revalued new)
-      (ap (λ (z : K × V). record h.node { pair = pair z.0 new }) (sym (pair-held ok w p e h.before h.node h.after h.is h.at_is))) ok w
+    pub ring_list-revalued : ring_list ds n ≡ change_at p (revalued new) v.held
+    ring_list-revalued = ring_list-written ok w h (pair x.0 new) is (revalued new)
+        (ap (λ (z : K × V). record h.node { pair = pair z.0 new }) pair-is)
+
+  module _ (new : K) {ds : List (Cell Links (K × V))} (is : ds ≡ with_body p (Some (pair new x.1)) cs) where
+    pub IsOwned-rekeyed : IsOwned ds spare n m
+    IsOwned-rekeyed = IsOwned-written ok w h (pair new x.1) is
+
+    pub ring_list-rekeyed : ring_list ds n ≡ change_at p (rekeyed new) v.held
+    ring_list-rekeyed = ring_list-written ok w h (pair new x.1) is (rekeyed new)
+        (ap (λ (z : K × V). record h.node { pair = pair new z.1 }) pair-is)

@@ -38,23 +38,22 @@ module _ {B : Type 0} where
       subst (λ ks. IsFresh t.at (pointers_of ks)) e (IsFresh-head t.at (pointers_of hs) d) in
       true≢false (sym (same_ptr-reflexive t.at) ∙ ap (same_ptr t.at) (sym at) ∙ same_ptr-fresh t.at us v ws fresh)
 
-  alike : (hs xs : List (Held B)) (t : Held B) (ys us : List (Held B)) (v : Held B)
-      (ws : List (Held B)) → IsApart (pointers_of hs) → hs ≡ xs ++ t ∷ ys → hs ≡ us ++ v ∷ ws
+  alike : {t v : Held B} (hs xs ys us ws : List (Held B)) → IsApart (pointers_of hs) → hs ≡ xs ++ t ∷ ys → hs ≡ us ++ v ∷ ws
       → t.at ≡ v.at → (t ≡ v) × (ys ≡ ws)
-  alike [] [] t ys us v ws d e f at = absurd (cc)
-  alike [] (x ∷ xs) t ys us v ws d e f at = absurd (cc)
-  alike (h ∷ hs) [] t ys [] v ws d e f at = (cc, cc)
-  alike (h ∷ hs) [] t ys (u ∷ us) v ws d e f at = let rest : hs ≡ us ++ v ∷ ws = cc in
+  alike {t} {v} [] [] ys us ws d e f at = absurd (cc)
+  alike {t} {v} [] (x ∷ xs) ys us ws d e f at = absurd (cc)
+  alike {t} {v} (h ∷ hs) [] ys [] ws d e f at = (cc, cc)
+  alike {t} {v} (h ∷ hs) [] ys (u ∷ us) ws d e f at = let rest : hs ≡ us ++ v ∷ ws = cc in
       let here : v.at ≡ h.at = cc in absurd (not_again h hs us v ws d rest here)
-  alike (h ∷ hs) (x ∷ xs) t ys [] v ws d e f at = let rest : hs ≡ xs ++ t ∷ ys = cc in
+  alike {t} {v} (h ∷ hs) (x ∷ xs) ys [] ws d e f at = let rest : hs ≡ xs ++ t ∷ ys = cc in
       let here : t.at ≡ h.at = cc in absurd (not_again h hs xs t ys d rest here)
-  alike (h ∷ hs) (x ∷ xs) t ys (u ∷ us) v ws d e f at = alike hs xs t ys us v ws
+  alike {t} {v} (h ∷ hs) (x ∷ xs) ys (u ∷ us) ws d e f at = alike {t = t} {v = v} hs xs ys us ws
       (IsApart-tail h.at (pointers_of hs) d) (cc) (cc) at
 
   -- no two lie at one pointer, so what is held there is one, and so is what is behind it
   pub AtHeld-alone : {hs : List (Held B)} {p : Ptr} → IsApart (pointers_of hs) → (h : IsHeld hs p)
       → AtHeld hs p (λ xs t ys. (h.node ≡ t) × (h.after ≡ ys))
-  AtHeld-alone {hs} d h xs t ys e at = alike hs h.before h.node h.after xs t ys d h.is e (h.at_is ∙ sym at)
+  AtHeld-alone {hs} d h xs t ys e at = alike hs h.before h.after xs ys d h.is e (h.at_is ∙ sym at)
 
   pub pointers-listed : (cs : List (Cell Links B)) (ps : List Ptr) → AllByRecursion (HasContent cs) ps → pointers_of (listed cs ps) ≡ ps
   unfolding listed

@@ -5,14 +5,14 @@ use Rattle.lhm_ring.specs.declared.ring.Ring.TheInside.{Inside}
 use Rattle.lhm_ring.proofs.memory.Places.{length-made}
 use Rattle.lhm_ring.proofs.rings.RingNodes.{length-held}
 use Rattle.lhm_ring.proofs.rings.Stacking.{IsOwned-raised}
-use Rattle.lhm_ring.proofs.rings.ContentChange.{IsOwned-revalued, ring_list-revalued}
+use Rattle.lhm_ring.proofs.rings.ContentChange.{IsOwned-revalued, ring_list-revalued, IsOwned-rekeyed, ring_list-rekeyed}
 use Rattle.lhm_ring.proofs.rings.ReadAtPosition.{IsAt-held, Holds-held, pair-held}
 use Rattle.lhm_ring.proofs.rings.RingCells.{IsAt-in_nodes, Holds-in_nodes, body_at-ring_cells, ring_cells-with_body}
 use Rattle.lhm_ring.specs.declared.ring.Links.{Links}
 use Rattle.lhm_ring.specs.Nodes.{Cell, is_block, body_at, IsAt, Holds, with_body}
 use denote.RawPtr.{Ptr}
 use Rattle.lhm_ring.specs.Links.{ring_cells, ring_list, IsOwned, IsLaid}
-use Rattle.lhm_ring.specs.Ring.{State, state, IsHeld, AtHeld, change_at, pair, revalued}
+use Rattle.lhm_ring.specs.Ring.{State, state, IsHeld, AtHeld, change_at, pair, revalued, rekeyed}
 
 -- the invariant of a ring, and what callers see of it
 abbrev pub IsWhole : {K V : Type 0} → Inside K V → Type 0
@@ -66,19 +66,28 @@ module _ {K V : Type 0} (i : Inside K V) (ok : IsWhole i) where
       pub Holds-inside : Holds i.nodes.cells p
       Holds-inside = Holds-in_nodes i.ends i.nodes.cells p b (Holds-held ok.ring w h)
 
-      -- and its value may be written there
-      module _ {x : K × V} (e : body_at i.nodes.cells p ≡ Some x) (new : V) {ds : List (Cell Links (K × V))}
-          (is : ds ≡ with_body p (Some (pair x.0 new)) i.nodes.cells) where
+      -- and its value may be written there, or its key
+      module _ {x : K × V} (e : body_at i.nodes.cells p ≡ Some x) where
         abbrev body : body_at (ring_cells i.ends i.nodes.cells) p ≡ Some x
         body = body_at-ring_cells i.ends i.nodes.cells p b ∙ e
 
-        pub IsOwned-set_value : IsOwned (ring_cells i.ends ds) i.spare i.len i.spares
-        IsOwned-set_value =
-            IsOwned-revalued ok.ring w h body new (ring_cells-with_body i.ends i.nodes.cells p b _ ds is)
+        module _ (new : V) {ds : List (Cell Links (K × V))} (is : ds ≡ with_body p (Some (pair x.0 new)) i.nodes.cells) where
+          pub IsOwned-set_value : IsOwned (ring_cells i.ends ds) i.spare i.len i.spares
+          IsOwned-set_value =
+              IsOwned-revalued ok.ring w h body new (ring_cells-with_body i.ends i.nodes.cells p b _ ds is)
 
-        pub ring_list-set_value : ring_list (ring_cells i.ends ds) i.len ≡ change_at p (revalued new) v.held
-        ring_list-set_value =
-            ring_list-revalued ok.ring w h body new (ring_cells-with_body i.ends i.nodes.cells p b _ ds is)
+          pub ring_list-set_value : ring_list (ring_cells i.ends ds) i.len ≡ change_at p (revalued new) v.held
+          ring_list-set_value =
+              ring_list-revalued ok.ring w h body new (ring_cells-with_body i.ends i.nodes.cells p b _ ds is)
+
+        module _ (new : K) {ds : List (Cell Links (K × V))} (is : ds ≡ with_body p (Some (pair new x.1)) i.nodes.cells) where
+          pub IsOwned-set_key : IsOwned (ring_cells i.ends ds) i.spare i.len i.spares
+          IsOwned-set_key =
+              IsOwned-rekeyed ok.ring w h body new (ring_cells-with_body i.ends i.nodes.cells p b _ ds is)
+
+          pub ring_list-set_key : ring_list (ring_cells i.ends ds) i.len ≡ change_at p (rekeyed new) v.held
+          ring_list-set_key =
+              ring_list-rekeyed ok.ring w h body new (ring_cells-with_body i.ends i.nodes.cells p b _ ds is)
 
     pub pair-inside : (p : Ptr) → is_block p ≡ true → {x : K × V} → body_at i.nodes.cells p ≡ Some x
         → AtHeld v.held p (λ xs t ys. x ≡ t.pair)

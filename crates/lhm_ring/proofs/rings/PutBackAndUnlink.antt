@@ -183,13 +183,13 @@ pub record Filled {B : Type 0} (cs ds : List (Cell Links B)) (p : Ptr) (l : Link
   pub links : links_at cs p ≡ Some l
 
 -- the links are written, and then the body
-pub Filled-node : {B : Type 0} (e : Ends) (nodes : List (Cell Links B)) (t : Held B) → t.link ≡ None
+pub Filled-node : {B : Type 0} (e : Ends) {nodes : List (Cell Links B)} (t : Held B) → t.link ≡ None
     → is_block t.at ≡ true → {l : Links} → links_at nodes t.at ≡ Some l
     → (free : Link) → target free ≡ None → {c₁ c₂ : List (Cell Links B)}
     → c₁ ≡ with_links t.at (record l { link = free; hash = t.hash }) nodes
     → c₂ ≡ with_body t.at (Some t.pair) c₁
     → Filled (ring_cells e nodes) (ring_cells e c₂) t.at l t
-Filled-node e nodes t none b {l} el free nowhere {c₁} {c₂} is₁ is₂ =
+Filled-node e {nodes} t none b {l} el free nowhere {c₁} {c₂} is₁ is₂ =
     let p = t.at in let cs = ring_cells e nodes in let d₁ = ring_cells e c₁ in let d₂ = ring_cells e c₂ in
     let new : Links = record l { link = free; hash = t.hash } in
     let e₁ = ring_cells-with_links e nodes p b new c₁ is₁ in let e₂ = ring_cells-with_body e c₁ p b (Some t.pair) c₂ is₂ in

@@ -17,11 +17,11 @@ module _ {B : Type 0} where
   unfolding IsStacked
   IsStacked-none cs s = (refl, refl)
 
-  pub IsStacked-push : (cs : List (Cell Links B)) (s : Link) (n : ℕ) (ds : List (Cell Links B))
-      (l : Links) (p : NodePointer) (es : List (Cell Links B)) (top : Link)
+  pub IsStacked-push : (cs : List (Cell Links B)) (s : Link) (n : ℕ) {ds : List (Cell Links B)} {l : Links} (p : NodePointer)
+      {es : List (Cell Links B)} (top : Link)
       → IsStacked cs s n ds l.link → es ≡ cell p.ptr l None ∷ ds → target top ≡ Some p.ptr → IsStacked cs s (n + 1) es top
   unfolding IsStacked
-  IsStacked-push cs s n ds l p es top k e et = let count : suc n ≡ n + 1 = omega arith in
+  IsStacked-push cs s n {ds} {l} p {es} top k e et = let count : suc n ≡ n + 1 = omega arith in
       subst (λ m. IsStacked cs s m es top) count
       (record { pointer = p.ptr; below = ds; links = l; top_is = et; nodes_are = e; stacked = k })
 
@@ -50,23 +50,23 @@ IsOwned-raised ok k enough small =
 module _ {B : Type 0} (e : Ends) where
   -- a ring with spare nodes more
   RingStacked-ring : (n : ℕ) (cs : List (Cell Links B)) (s : Link) (ds : List (Cell Links B))
-      (f : Link) (ps ss : List Ptr) → IsStacked cs s n ds f → IsApart (pointers ds)
+      (f : Link) {ps ss : List Ptr} → IsStacked cs s n ds f → IsApart (pointers ds)
       → AreBlocks (pointers ds) → IsRing (ring_cells e cs) ps (target s) ss
       → RingStacked e cs ds ps ss (target f) n
   unfolding IsStacked
-  RingStacked-ring zero cs s ds f ps ss k d b r = record {
+  RingStacked-ring zero cs s ds f {ps} {ss} k d b r = record {
     spare_pointers = ss;
     ring = subst (λ (z : List (Cell Links B) × Link). IsRing (ring_cells e z.0) ps (target z.1) ss) (λ i. (sym k.0 i, sym k.1 i)) r;
     count = omega arith;
     same_list = ap (λ zs. listed (ring_cells e zs) ps) k.0;
   }
-  RingStacked-ring (suc n) cs s ds f ps ss k d b r =
+  RingStacked-ring (suc n) cs s ds f {ps} {ss} k d b r =
       let p = k.pointer in let es = k.below in let l = k.links in
       let d' : IsApart (pointers (cell p l None ∷ es)) = subst (λ zs. IsApart (pointers zs)) k.nodes_are d in
       let b' : AreBlocks (pointers (cell p l None ∷ es)) = subst (λ zs. AreBlocks (pointers zs)) k.nodes_are b in
-      let on = RingStacked-ring n cs s es l.link ps ss k.stacked (IsApart-tail p (pointers es) d') b'.1 r in
+      let on = RingStacked-ring n cs s es l.link k.stacked (IsApart-tail p (pointers es) d') b'.1 r in
       let ring : IsRing (ring_cells e (cell p l None ∷ es)) ps (Some p) (p ∷ on.spare_pointers) =
-      IsRing-added e es p l b'.0 d' ps (target l.link) on.spare_pointers on.ring refl in
+      IsRing-added e es p l b'.0 d' on.ring refl in
       let long = on.count in
       record {
         spare_pointers = p ∷ on.spare_pointers;
@@ -74,7 +74,7 @@ module _ {B : Type 0} (e : Ends) where
             (p ∷ on.spare_pointers)) (λ i. (sym k.nodes_are i, sym k.top_is i)) ring;
         count = omega arith;
         same_list = ap (λ zs. listed (ring_cells e zs) ps) k.nodes_are
-            ∙ listed-added e es p l b'.0 d' ps (target l.link) on.spare_pointers on.ring refl
+            ∙ listed-added e es p l b'.0 d' on.ring refl
             ∙ on.same_list;
       }
 
@@ -83,7 +83,7 @@ module _ {B : Type 0} (e : Ends) where
       (ok : IsOwned (ring_cells e cs) spare n m) (s : IsStacked cs spare k ds f)
       (d : IsApart (pointers ds)) (b : AreBlocks (pointers ds)) where
     RingStacked-held : RingStacked e cs ds ok.held_pointers ok.spare_pointers (target f) k
-    RingStacked-held = RingStacked-ring k cs spare ds f ok.held_pointers ok.spare_pointers s d b ok.ring
+    RingStacked-held = RingStacked-ring k cs spare ds f s d b ok.ring
 
     pub IsOwned-stacked : IsOwned (ring_cells e ds) f n m
     IsOwned-stacked = let t = RingStacked-held in let long = t.count in let wide = ok.enough_spares in

@@ -32,7 +32,12 @@ module _ {K V : Type 0} where
       → (vs : List V) → table_of (record s { held = set_held_values s.held vs }) r
       ≡ record t { held = set_held_values t.held vs }
   table_of-values s r e vs =
-      (λ j. record { held = entries-set_held_values s.held vs j; capacity = length-set_held_values s.held vs j + s.spares; rechained = r; made = s.nodes })
+      (λ j. record {
+        held = entries-set_held_values s.held vs j;
+        capacity = length-set_held_values s.held vs j + s.spares;
+        rechained = r;
+        made = s.nodes;
+      })
       ∙ ap (λ (t : TableState (K × V)). record t { held = set_held_values t.held vs }) e
 
   pub pairs-entries : (hs : List (Held (K × V))) → map (λ t. t.pair) (entries hs) ≡ map (λ t. t.pair) hs

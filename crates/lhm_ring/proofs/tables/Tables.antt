@@ -10,11 +10,11 @@ use Rattle.lhm_ring.proofs.indexes.BucketCounts.{buckets-raised, buckets-below, 
 use Rattle.lhm_ring.proofs.indexes.Entries.{AtHeld-entries, IsHeld-entries, entries-append}
 use Rattle.lhm_ring.proofs.indexes.Entries.{entries-change_at, first_at-entries, length-entries}
 use Rattle.lhm_ring.proofs.indexes.Entries.{length-same_entries, pointers-entries, triples-entries}
-use Rattle.lhm_ring.proofs.indexes.IndexMoves.{spots-value, PutsIn-last}
+use Rattle.lhm_ring.proofs.indexes.IndexMoves.{spots-value, spots-rekeyed, PutsIn-last}
 use Rattle.lhm_ring.proofs.indexes.Spots.{PutsIn-spots}
-use Rattle.lhm_ring.proofs.tables.IndexedRing.{IsIndexed-value, IsIndexed-moved}
+use Rattle.lhm_ring.proofs.tables.IndexedRing.{IsIndexed-value, IsIndexed-same_spots, IsIndexed-moved}
 use Rattle.lhm_ring.specs.Nodes.{IsApart}
-use Rattle.lhm_ring.specs.Ring.{Held, State, state, IsHeld, AtHeld, ChangesOnly, linked_to, first_at, change_at, triples, revalued}
+use Rattle.lhm_ring.specs.Ring.{Held, State, state, IsHeld, AtHeld, ChangesOnly, linked_to, first_at, change_at, triples, revalued, rekeyed}
 use Rattle.lhm_ring.specs.RingAfterLoan.{with_value}
 use Rattle.lhm_ring.specs.Index.{Indexes, PutsIn, spot, spots, same, entries, HoldsOthers}
 use Rattle.lhm_ring.specs.Buckets.{BucketState, buckets, rechained_raised, made_raised}
@@ -87,6 +87,13 @@ buckets-stay c d up enough =
     ]
 
 -- tables after the calls of the ring and its index
+-- what a growth of the ring by some spare nodes leaves, if the chunks may have so many nodes
+pub record IsRingGrown {E B : Type 0} (s t : State B) (more most : ℕ) (result : Result (Unit {0}) E) : Type 0 where
+  pub held : OnOk result (t.held ≡ s.held)
+  pub spares : OnOk result (t.spares ≡ s.spares + more)
+  pub nodes : OnOk result (s.nodes ≤ most → length s.held + s.spares + more ≤ most → t.nodes ≤ most)
+  pub refused : OnErr result (t ≡ s)
+
 module _ {K V : Type 0} {i : BucketState} {s : State (K × V)} {r : ℕ} (table : IsTable i s r) where
   -- the same pairs in order, except for chain links
   pub IsTable-rechained : {i' : BucketState} {t : State (K × V)} {q : ℕ}
@@ -112,6 +119,26 @@ module _ {K V : Type 0} {i : BucketState} {s : State (K × V)} {r : ℕ} (table 
         limit = omega (arith, count, table.limit);
         nodes_within = table.nodes_within;
       }
+
+  -- a key was written
+  module _ (t : State (K × V)) {p : Ptr} (k : K) (h : IsHeld s.held p)
+      (is : AtHeld s.held p (λ xs x ys. t.held ≡ xs ++ rekeyed k x ∷ ys)) where
+    spots_rekeyed : spots t.held ≡ spots s.held
+    spots_rekeyed = ap spots (is h.before h.node h.after h.is h.at_is)
+        ∙ spots-rekeyed k h.before h.node h.after ∙ ap spots (sym h.is)
+
+    pub length-rekeyed : length t.held ≡ length s.held
+    length-rekeyed = sym (length-map t.held spot) ∙ ap length spots_rekeyed ∙ length-map s.held spot
+
+    pub IsTable-rekeyed : t.spares ≡ s.spares → t.nodes ≡ s.nodes → IsTable i t r
+    IsTable-rekeyed spares made =
+        let long = length-rekeyed in
+        record {
+          indexed = IsIndexed-same_spots i s t table.indexed spares spots_rekeyed;
+          few = table.few;
+          limit = omega (arith, long, spares, table.limit);
+          nodes_within = omega (arith, made, table.nodes_within);
+        }
 
   -- a pair was moved: to the back, or to the front
   IsTable-moved : {t : State (K × V)} {p : Ptr} (h : IsHeld s.held p)
@@ -203,20 +230,18 @@ module _ {K V : Type 0} {i : BucketState} {s : State (K × V)} {r : ℕ} (table 
     pub made_raised-stays : made_raised s.nodes (length s.held + s.spares) d
         ≡ nodes_grown s.nodes d (least_more (d - (length s.held + s.spares)) s.nodes (length i.heads))
     made_raised-stays = made_raised-higher s.nodes (length s.held + s.spares) d up
-        ∙ ap (λ most. nodes_grown s.nodes d (least_more (d - (length s.held + s.spares)) s.nodes most)) (sym (table.indexed.count ∙ buckets-same))
+        ∙ ap (λ most. nodes_grown s.nodes d (least_more (d - (length s.held + s.spares)) s.nodes most))
+        (sym (table.indexed.count ∙ buckets-same))
 
-    pub IsTable-grown : {E : Type 0} {t : State (K × V)} (result : Result (Unit {0}) E)
-        (more most : ℕ) → most ≡ length i.heads → OnOk result (t.held ≡ s.held)
-        → OnOk result (t.spares ≡ s.spares + more)
-        → OnOk result (s.nodes ≤ most → length s.held + s.spares + more ≤ most → t.nodes ≤ most)
-        → OnErr result (t ≡ s) → d ≡ length s.held + s.spares + more → d ≤ 2 ^ 59 → IsTable i t r
-    IsTable-grown {t = t} (Ok _) more most wide stays spares made _ all within =
-        let few = made (omega (arith, wide, table.nodes_within)) (omega (arith, wide, enough, all)) in
-        let sum : length s.held + t.spares ≡ d = omega (arith, spares, all) in
-        IsTable-rechained (ap entries stays) (omega (arith, sum, within))
-        (subst (λ hs. Indexes i (spots hs)) (sym stays) table.indexed.indexes)
+    pub IsTable-grown : {E : Type 0} {t : State (K × V)} {more most : ℕ} (result : Result (Unit {0}) E)
+        → most ≡ length i.heads → IsRingGrown s t more most result → d ≡ length s.held + s.spares + more → d ≤ 2 ^ 59 → IsTable i t r
+    IsTable-grown {t = t} (Ok _) wide grown all within =
+        let few = grown.nodes (omega (arith, wide, table.nodes_within)) (omega (arith, wide, enough, all)) in
+        let sum : length s.held + t.spares ≡ d = omega (arith, grown.spares, all) in
+        IsTable-rechained (ap entries grown.held) (omega (arith, sum, within))
+        (subst (λ hs. Indexes i (spots hs)) (sym grown.held) table.indexed.indexes)
         (table.indexed.count ∙ buckets-same ∙ ap buckets (sym sum)) table.few (omega (arith, wide, few))
-    IsTable-grown (Err _) more most _ _ _ _ unchanged _ _ = subst (λ u. IsTable i u r) (sym unchanged) table
+    IsTable-grown (Err _) wide grown all within = subst (λ u. IsTable i u r) (sym grown.refused) table
 
   -- it rises above the number of buckets: each node can be rehashed
   module _ (d : ℕ) (up : length s.held + s.spares < d) (few : length i.heads < d) where

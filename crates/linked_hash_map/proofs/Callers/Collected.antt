@@ -174,7 +174,8 @@ filter-filter one other both says (k ∷ ks) = by_test (other k) (says k) (filte
     by_test true same rest = ap₂ (λ c xs. cond c (k ∷ xs) xs) same rest
     by_test false same rest = rest ∙ ap (λ c. cond c (k ∷ filter both ks) (filter both ks)) same
 
-pub filter-last : {K : Type 0} (test : K → Bool) (ks : List K) (k : K) → test k ≡ true → filter test (ks ++ k ∷ []) ≡ filter test ks ++ k ∷ []
+pub filter-last : {K : Type 0} (test : K → Bool) (ks : List K) (k : K) → test k ≡ true
+    → filter test (ks ++ k ∷ []) ≡ filter test ks ++ k ∷ []
 filter-last test ks k passes = filter-append test ks (k ∷ []) ∙ ap (λ b. filter test ks ++ cond b (k ∷ []) []) passes
 
 module _ {K V : Type 0} {eq : K → K → Bool} (laws : IsEquivalence eq) where

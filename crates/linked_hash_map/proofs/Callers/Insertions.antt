@@ -75,7 +75,8 @@ module _ {K V : Type 0} {eq : K → K → Bool} (laws : IsEquivalence eq) {start
       {contents : List (K × V)} {capacity : ℕ} → Defines eq start log contents capacity mode
       → IsRun eq start log commands replies → list_all is_insertion commands ≡ true
       → Grown eq start (last_log eq log commands replies) mode contents (length commands) replies
-  grown [] [] {contents = contents} {capacity} defines run are = record { later = contents; capacity = capacity; defines = defines; most = omega arith; all = λ _. refl }
+  grown [] [] {contents = contents} {capacity} defines run are =
+      record { later = contents; capacity = capacity; defines = defines; most = omega arith; all = λ _. refl }
   grown [] (reply ∷ replies) defines run are = absurd run
   grown (command ∷ commands) [] defines run are = absurd run
   grown (Insert k v ∷ commands) (reply ∷ replies) {contents = contents} defines run are =

@@ -1,5 +1,6 @@
 -- For callers: insertions of items with distinct keys one by one, as one list.
-use Rattle.std.proofs.Common.{◌≡◌, Bool, true, false, cond, not, List, [], ◌∷◌, ◌++◌, map, filter, append_assoc, append-nil, Option, Some, None}
+use Rattle.std.proofs.Common.{◌≡◌, Bool, true, false, cond, not, List, [], ◌∷◌, ◌++◌, map, filter, append_assoc}
+use Rattle.std.proofs.Common.{append-nil, Option, Some, None}
 use Rattle.std.proofs.Common.{is_some, option_map, unwrap_or, refl, sym, ap, ap₂, ◌∙◌}
 use Rattle.std.specs.Cmp.{IsEquivalence}
 use Rattle.std.specs.List.{IsDistinct, AllByRecursion}
@@ -33,7 +34,8 @@ module _ {K V : Type 0} {eq : K → K → Bool} (laws : IsEquivalence eq) where
       where
         by_test : (b : Bool) → eq pair.0 item.0 ≡ b → updated items (cond b (pair.0, item.1) pair) ≡ updated (item ∷ items) pair
         by_test true same =
-            ap (λ o. (pair.0, unwrap_or (option_map (λ (p : K × V). p.1) o) item.1)) (find-others laws items pair.0 item distinct same)
+            ap (λ o. (pair.0, unwrap_or (option_map (λ (p : K × V). p.1) o) item.1))
+            (find-others laws items pair.0 item distinct same)
             ∙ ap (λ b. (pair.0, unwrap_or (option_map (λ (p : K × V). p.1) (cond b (Some item) (find eq items pair.0))) pair.1)) (sym same)
         by_test false apart =
             ap (λ b. (pair.0, unwrap_or (option_map (λ (p : K × V). p.1) (cond b (Some item) (find eq items pair.0))) pair.1)) (sym apart)
@@ -43,7 +45,8 @@ module _ {K V : Type 0} {eq : K → K → Bool} (laws : IsEquivalence eq) where
     map-updated_set (pair ∷ pairs) = ap₂ (λ p ps. p ∷ ps) (updated-set pair) (map-updated_set pairs)
 
     own : updated items (item.0, item.1) ≡ item
-    own = ap (λ o. (item.0, unwrap_or (option_map (λ (p : K × V). p.1) o) item.1)) (find-others laws items item.0 item distinct (laws.refl item.0))
+    own = ap (λ o. (item.0, unwrap_or (option_map (λ (p : K × V). p.1) o) item.1))
+        (find-others laws items item.0 item distinct (laws.refl item.0))
 
   new_pairs : (pairs : List (K × V)) (k : K) (v : V) (items : List (K × V)) → AllByRecursion (λ j. eq k j ≡ false) (keys_of items)
       → filter (λ p. not (is_some (find eq (set_or_push eq pairs k v) p.0))) items ≡ filter (λ p. not (is_some (find eq pairs p.0))) items

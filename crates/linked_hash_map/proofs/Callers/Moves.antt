@@ -1,6 +1,7 @@
 -- For callers: the pairs with one moved to the back or to the front, as it is, or rotated. Each key
 -- finds what it found.
-use Rattle.std.proofs.Common.{◌≡◌, ℕ, Bool, true, false, cond, List, [], ◌∷◌, ◌++◌, take, drop, Option, Some, None, option_to_list, refl, sym, ap, ◌∙◌, subst}
+use Rattle.std.proofs.Common.{◌≡◌, ℕ, Bool, true, false, cond, List, [], ◌∷◌, ◌++◌, take, drop, Option, Some, None}
+use Rattle.std.proofs.Common.{option_to_list, refl, sym, ap, ◌∙◌, subst}
 use Rattle.std.specs.Cmp.{IsEquivalence}
 use Rattle.std.specs.List.{IsDistinct}
 use Rattle.std.specs.Map.{keys_of}
@@ -24,7 +25,8 @@ module _ {A K V : Type 0} (eq : A → K → Bool) (pairs : List (K × V)) (k : A
 
 module _ {K V : Type 0} {eq : K → K → Bool} (laws : IsEquivalence eq) (pairs : List (K × V)) (k q : K) where
   -- the pair of k is what k finds, and each key that is the same
-  same_pair : {pair : K × V} → find eq pairs k ≡ Some pair → (b : Bool) → eq k q ≡ b → cond b (Some pair) (find eq pairs q) ≡ find eq pairs q
+  same_pair : {pair : K × V} → find eq pairs k ≡ Some pair → (b : Bool) → eq k q ≡ b
+      → cond b (Some pair) (find eq pairs q) ≡ find eq pairs q
   same_pair found true same = sym found ∙ find-same laws pairs k q same
   same_pair found false apart = refl
 

@@ -12,9 +12,13 @@ use Rattle.std.proofs.lemmas.Bool.{eqb-true}
 use Rattle.linked_hash_map.specs.declared.map.Mode.{Mode}
 use Rattle.linked_hash_map.specs.declared.map.Mode.TheVariants.{Touch}
 use Rattle.linked_hash_map.specs.Pairs.{find, value_at, without, set_or_push, put}
-use Rattle.linked_hash_map.proofs.Callers.Keys.{length-put_most, keys_of-to_back_own, keys_of-without, keys_of-set_or_push, keys_of-append, keys_of-without_first, keys_of-without_last, first-keys_of}
+use Rattle.linked_hash_map.proofs.Callers.Keys.{length-put_most, keys_of-to_back_own, keys_of-without}
+use Rattle.linked_hash_map.proofs.Callers.Keys.{keys_of-set_or_push, keys_of-append, keys_of-without_first}
+use Rattle.linked_hash_map.proofs.Callers.Keys.{keys_of-without_last, first-keys_of}
 use Rattle.linked_hash_map.proofs.Callers.Collected.{insert_each-append, insert_each-snoc}
-use Rattle.linked_hash_map.proofs.Callers.Counted.{count_by-set_or_push, count-lt-length, keys_of-set_or_push_first_seen, CountsKnown-start, CountsKnown-counted, CountsKnown-absent, CountsKnown-fits}
+use Rattle.linked_hash_map.proofs.Callers.Counted.{count_by-set_or_push, count-lt-length}
+use Rattle.linked_hash_map.proofs.Callers.Counted.{keys_of-set_or_push_first_seen, CountsKnown-start}
+use Rattle.linked_hash_map.proofs.Callers.Counted.{CountsKnown-counted, CountsKnown-absent, CountsKnown-fits}
 use Rattle.linked_hash_map.proofs.Callers.Dense.{values_of_dense_push, value_at_dense_each, eq-dense}
 use Rattle.linked_hash_map.proofs.Callers.Lookups.{value_at-append}
 use Rattle.linked_hash_map.proofs.Callers.Rounds.{IsTurned-start, IsTurned-turn, IsTurned-round}

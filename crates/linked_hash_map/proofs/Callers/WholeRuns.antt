@@ -258,26 +258,18 @@ refused_after-given (Stopped n k v) given = absurd (true≢false given)
 refused_after-given NoRoom given = absurd (true≢false given)
 refused_after-given _ given = refl
 
-module _ {K V : Type 0} (eq : K → K → Bool) (start start' : ℕ) where
-  -- runs in which nothing is refused have the same refusals
-  refusals-given : (commands : List (Command K V)) (replies replies' : List (Reply K V)) (log log' : Log K V)
-      → IsRun eq start log commands replies → IsRun eq start' log' commands replies'
-      → NoneRefused replies → NoneRefused replies' → refusals replies ≡ refusals replies'
-  refusals-given [] [] [] log log' run run' given given' = refl
-  refusals-given [] (reply ∷ replies) replies' log log' run run' given given' = absurd run
-  refusals-given [] [] (reply' ∷ replies') log log' run run' given given' = absurd run'
-  refusals-given (command ∷ commands) [] replies' log log' run run' given given' = absurd run
-  refusals-given (command ∷ commands) (reply ∷ replies) [] log log' run run' given given' = absurd run'
-  refusals-given (command ∷ commands) (reply ∷ replies) (reply' ∷ replies') log log' run run' given given' =
-      let refused = is_refusal reply.answer in let refused' = is_refusal reply'.answer in
+module _ {K V : Type 0} (eq : K → K → Bool) (start : ℕ) where
+  -- a run in which nothing is refused has no refusal after any command
+  refusals-given : (commands : List (Command K V)) (replies : List (Reply K V)) (log : Log K V)
+      → IsRun eq start log commands replies → NoneRefused replies → refusals replies ≡ map (λ command. None) commands
+  refusals-given [] [] log run given = refl
+  refusals-given [] (reply ∷ replies) log run given = absurd run
+  refusals-given (command ∷ commands) [] log run given = absurd run
+  refusals-given (command ∷ commands) (reply ∷ replies) log run given =
+      let refused = is_refusal reply.answer in
       let later = list_any (λ (r : Reply K V). is_refusal r.answer) replies in
-      let later' = list_any (λ (r : Reply K V). is_refusal r.answer) replies' in
-      ap₂ (λ o os. o ∷ os)
-      (refused_after-given reply.answer (none_first refused later given)
-      ∙ sym (refused_after-given reply'.answer (none_first refused' later' given')))
-      (refusals-given commands replies replies' (log_after eq log command reply.answer)
-      (log_after eq log' command reply'.answer) run.1 run'.1 (none_later refused later given)
-      (none_later refused' later' given'))
+      ap₂ (λ o os. o ∷ os) (refused_after-given reply.answer (none_first refused later given))
+      (refusals-given commands replies (log_after eq log command reply.answer) run.1 (none_later refused later given))
 
 -- of what two calls of `replay` return with the same commands, on maps with the same pairs and the
 -- same mode: if their refusals are the same, so are the answers, the pairs that they leave and, if
@@ -321,10 +313,9 @@ module _ {K V S T E : Type 0} {eq : K → K → Bool} (laws : IsEquivalence eq)
     same_refusals (Err refused) run' copied replayed replayed' given given' = absurd given
     same_refusals (Ok replies) (Err refused) copied replayed replayed' given given' = absurd given'
     same_refusals (Ok replies) (Ok replies') copied replayed replayed' given given' =
-        refusals-given eq old.capacity old'.capacity commands replies.items replies'.items
-        (first_log old.mode old.pairs) (first_log old'.mode old'.pairs) replayed.run
-        (subst (λ cs. IsRun eq old'.capacity (first_log old'.mode old'.pairs) cs replies'.items) (sym copied) replayed'.run)
-        given given'
+        refusals-given eq old.capacity commands replies.items (first_log old.mode old.pairs) replayed.run given
+        ∙ sym (refusals-given eq old'.capacity commands replies'.items (first_log old'.mode old'.pairs)
+        (subst (λ cs. IsRun eq old'.capacity (first_log old'.mode old'.pairs) cs replies'.items) (sym copied) replayed'.run) given')
 
 -- the pairs after a run whose log never sets the mode to Keep
 pub pairs-replayed_in_touch : {K V S E : Type 0} (eq : K → K → Bool) (old new : LinkedMap K V S)

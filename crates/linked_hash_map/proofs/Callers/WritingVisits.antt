@@ -1,6 +1,7 @@
 -- For callers: a visit that takes some of the pairs out and writes the values of the others, step
 -- by step.
-use Rattle.std.proofs.Common.{◌≡◌, ℕ, Bool, true, false, cond, List, [], ◌∷◌, ◌++◌, length, map, slice_get, option_map, Some, IfSome, filter, refl, sym, ap}
+use Rattle.std.proofs.Common.{◌≡◌, ℕ, Bool, true, false, cond, List, [], ◌∷◌, ◌++◌, length, map, slice_get}
+use Rattle.std.proofs.Common.{option_map, Some, IfSome, filter, refl, sym, ap}
 use Rattle.std.proofs.Common.{subst, ◌∙◌, append_assoc}
 use Rattle.std.specs.Cmp.{IsEquivalence}
 use Rattle.std.specs.List.{IsDistinct, remove}
@@ -67,7 +68,8 @@ module _ {K V : Type 0} {eq : K → K → Bool} (laws : IsEquivalence eq) {keeps
       mapped true = refl
       mapped false = refl
 
-  write : keeps (k, v) ≡ true → {after : List (K × V)} → after ≡ set_value eq now k (change (k, v)) → VisitMaps keeps change start after left
+  write : keeps (k, v) ≡ true → {after : List (K × V)} → after ≡ set_value eq now k (change (k, v))
+      → VisitMaps keeps change start after left
   write kept is = step true kept (is ∙ (λ i. set_value eq now (sym n.at_is i) (change (pair_is i)))
       ∙ set_value-own_at laws now distinct (length done) n.node there (change n.node)
       ∙ ap (λ ps. set_value_at ps (length done) (change n.node)) now-seam

@@ -1,7 +1,8 @@
 -- Lists without repetitions.
-use Rattle.std.proofs.Common.{◌≡◌, ℕ, zero, suc, Bool, false, ◌||◌, List, [], ◌∷◌, ◌++◌, remove, refl, ap, ◌∙◌}
+use Rattle.std.proofs.Common.{◌≡◌, ℕ, zero, suc, Bool, false, ◌||◌, List, [], ◌∷◌, ◌++◌, IsTrue, remove, refl, sym, ap, ◌∙◌}
 use Rattle.std.specs.List.{list_any, IsDistinct, AllByRecursion}
 use Rattle.std.specs.Cmp.{IsEquivalence}
+use Rattle.lhm_ring.proofs.lists.ForAll.{AllByRecursion-map}
 
 -- keys of which all differ from one differ from what is the same as it
 pub none_from_all : {K : Type 0} (test : K → Bool) (ks : List K) → AllByRecursion (λ y. test y ≡ false) ks → list_any test ks ≡ false
@@ -34,3 +35,21 @@ distinct_last laws [] k h = (tt, refl)
 distinct_last {K} {eq} laws (q ∷ ks) k h =
     let a = all_init (λ y. eq q y ≡ false) ks k h.0 in let r = distinct_last laws ks k h.1 in
     ((a.0, r.0), ap (λ b. b || list_any (eq k) ks) (laws.symm k q ∙ a.1) ∙ r.1)
+
+-- an element is replaced
+pub AllByRecursion-replaced : {X : Type 0} (P : X → Type 0) (xs : List X) {x y : X} (ys : List X) → (P x → P y)
+    → AllByRecursion P (xs ++ x ∷ ys) → AllByRecursion P (xs ++ y ∷ ys)
+AllByRecursion-replaced P [] ys f h = (f h.0, h.1)
+AllByRecursion-replaced P (z ∷ xs) ys f h = (h.0, AllByRecursion-replaced P xs ys f h.1)
+
+-- keys that differ still do if one is replaced by one that is the same
+pub IsDistinct-replaced : {K : Type 0} {eq : K → K → Bool} → IsEquivalence eq → (xs : List K) {k stored : K}
+    (ys : List K) → IsTrue (eq k stored) → IsDistinct eq (xs ++ stored ∷ ys) → IsDistinct eq (xs ++ k ∷ ys)
+unfolding IsDistinct
+IsDistinct-replaced {K} {eq} laws [] {k} {stored} ys same h =
+    (AllByRecursion-map (λ y. eq stored y ≡ false) (λ y. eq k y ≡ false) (λ y apart. laws.congr k stored y same ∙ apart) ys h.0, h.1)
+IsDistinct-replaced {K} {eq} laws (q ∷ xs) {k} {stored} ys same h = (
+  AllByRecursion-replaced (λ y. eq q y ≡ false) xs ys
+      (λ apart. laws.symm q k ∙ laws.congr k stored q same ∙ laws.symm stored q ∙ apart) h.0,
+  IsDistinct-replaced laws xs ys same h.1,
+)

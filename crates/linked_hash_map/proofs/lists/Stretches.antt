@@ -2,7 +2,8 @@
 -- visit.
 use Rattle.std.proofs.Common.{◌≡◌, ℕ, zero, suc, ◌+◌, ◌-◌, ◌<◌, ◌≤◌, ◌⊎◌, inl, inr, List, [], ◌∷◌}
 use Rattle.std.proofs.Common.{◌++◌, length, take, drop, slice_get, Some, refl, sym, ap, ◌∙◌, arith}
-use Rattle.std.proofs.lemmas.List.{drop_more, length-drop, drop-append-le, take-append-le}
+use Rattle.std.specs.Prelude.{slice_set}
+use Rattle.std.proofs.lemmas.List.{drop_more, length-drop, drop-append-le, take-append-le, drop-set-lt, drop-set-add, take-set-le}
 use Rattle.std.proofs.lemmas.Option.{slice_get_within, get_or_from_slice_get}
 
 -- it begins with the element at its index
@@ -41,3 +42,13 @@ module _ {X : Type 0} where
       ap (take n) (drop-behind xs x ys a (omega (arith, behind.0, behind.1))) ∙ ap (λ m. take n (drop m (xs ++ x ∷ ys))) next
   stretch-out xs x ys {b} {a} n (inr before) =
       ap (λ m. take n (drop m (xs ++ ys))) before.1 ∙ stretch-front xs ys b n before.0 ∙ sym (stretch-front xs (x ∷ ys) b n before.0)
+
+  -- one that ends before an element that is set, or begins behind it
+  pub stretch-set : (xs : List X) (index start n : ℕ) (x : X) → (index < start) ⊎ (start + n ≤ index)
+      → take n (drop start (slice_set xs index x)) ≡ take n (drop start xs)
+  stretch-set xs index start n x (inl behind) = ap (take n) (drop-set-lt start xs index x behind)
+  stretch-set xs index start n x (inr before) =
+      let at : start + (index - start) ≡ index = omega (arith, before) in
+      ap (λ i. take n (drop start (slice_set xs i x))) (sym at)
+      ∙ ap (take n) (drop-set-add start xs (index - start) x)
+      ∙ take-set-le n (drop start xs) (index - start) x (omega (arith, before))

@@ -87,7 +87,8 @@ module _ {K V : Type 0} (eq : K → K → Bool) where
       → AllByRecursion (λ m. mode m.0 ≡ Touch) events
       → list_any (touches same) events ≡ list_any (is_use same) (map (λ m. m.1) events)
   any_touches-in_touch same [] all = refl
-  any_touches-in_touch same (m ∷ events) all = ap₂ (λ a b. a || b) (touches-in_touch same m.0 m.1 all.0) (any_touches-in_touch same events all.1)
+  any_touches-in_touch same (m ∷ events) all = ap₂ (λ a b. a || b) (touches-in_touch same m.0 m.1 all.0)
+      (any_touches-in_touch same events all.1)
 
   stands-in_touch : (is_live : K → Bool) (events : List (Log K V × Event K V)) (o : Option K)
       → AllByRecursion (λ m. mode m.0 ≡ Touch) events

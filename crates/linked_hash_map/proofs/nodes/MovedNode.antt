@@ -1,5 +1,6 @@
 -- A node that is moved behind the others.
-use Rattle.std.proofs.Common.{◌≡◌, ℕ, suc, ◌+◌, ◌-◌, ◌<◌, ◌≤◌, inr, Bool, true, false, ◌||◌, cond, List, [], ◌∷◌, ◌++◌, map, length, slice_get}
+use Rattle.std.proofs.Common.{◌≡◌, ℕ, suc, ◌+◌, ◌-◌, ◌<◌, ◌≤◌, inr, Bool, true, false, ◌||◌, cond, List, [], ◌∷◌}
+use Rattle.std.proofs.Common.{◌++◌, map, length, slice_get}
 use Rattle.std.proofs.Common.{remove, Some, None, refl, sym, ap, ap₂, ◌∙◌, subst, arith, length-append}
 use Rattle.std.specs.List.{list_any, IsDistinct}
 use Rattle.std.specs.Cmp.{IsEquivalence}
@@ -150,4 +151,5 @@ module _ {K V : Type 0} (hs ks : List (Held (K × V))) {p : Ptr}
       → IsKept eq hash (bare hs) capacity visit → n ≡ capacity → IsKept eq hash (bare ks) n no_visit
   IsKept-back laws kept same =
       let at = before-bare p hs in let long = length-bare hs in
-      IsKept-visited (IsKept-moved (IsKept-visited kept (Some p) (omega (arith, at, long, lies))) (inr (omega arith)) laws refl same) None tt
+      IsKept-visited (IsKept-moved (IsKept-visited kept (Some p) (omega (arith, at, long, lies)))
+      (inr (omega arith)) laws refl same) None tt

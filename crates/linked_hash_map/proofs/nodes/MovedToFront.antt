@@ -1,5 +1,6 @@
 -- A node that is moved before the others.
-use Rattle.std.proofs.Common.{◌≡◌, ℕ, suc, ◌+◌, ◌<◌, ◌⊎◌, inl, inr, ⊎_elim, Bool, false, cond, true, List, [], ◌∷◌, ◌++◌, map, length, take, drop}
+use Rattle.std.proofs.Common.{◌≡◌, ℕ, suc, ◌+◌, ◌<◌, ◌⊎◌, inl, inr, ⊎_elim, Bool, false, cond, true, List, [], ◌∷◌}
+use Rattle.std.proofs.Common.{◌++◌, map, length, take, drop}
 use Rattle.std.proofs.Common.{slice_get, remove, Option, Some, None, refl, sym, ap, ap₂, ◌∙◌, subst, arith, length-append}
 use Rattle.std.specs.List.{IsDistinct, AllByRecursion}
 use Rattle.std.specs.Cmp.{IsEquivalence}
@@ -13,7 +14,8 @@ use Rattle.linked_hash_map.specs.Nodes.{VisitState, no_visit, Lies, pairs_of, ba
 use Rattle.linked_hash_map.proofs.nodes.Current.{IsKept-visited}
 use Rattle.linked_hash_map.proofs.nodes.HeldPairs.{before-bare, length-bare}
 use Rattle.linked_hash_map.proofs.nodes.CutNodes.{CutAt, CutAt-before, slice_get-held, pairs_of-removed}
-use Rattle.linked_hash_map.proofs.nodes.Outside.{IsElsewhere, IsKept-cut, IsElsewhere-cut, bare-cut, bookmark_lies, to_visit_at, to_visit_of, to_visit-bare, to_visit-out}
+use Rattle.linked_hash_map.proofs.nodes.Outside.{IsElsewhere, IsKept-cut, IsElsewhere-cut, bare-cut, bookmark_lies}
+use Rattle.linked_hash_map.proofs.nodes.Outside.{to_visit_at, to_visit_of, to_visit-bare, to_visit-out}
 use Rattle.linked_hash_map.proofs.nodes.Kept.{IsKept-same}
 use Rattle.linked_hash_map.proofs.nodes.TakenNode.{IsKept-out}
 use Rattle.linked_hash_map.proofs.lists.Stretches.{take-none}
@@ -87,7 +89,8 @@ module _ {K : Type 0} {eq : K → K → Bool} {hash : K → ℕ} (front : List (
       (λ s. ap (λ n. take n (stretch (u ∷ (front ++ back)))) s.0
       ∙ take-none (stretch (u ∷ (front ++ back))) ∙ sym (take-none (stretch (front ++ back)))
       ∙ sym (ap (λ n. take n (stretch (front ++ back))) s.0))
-      (λ s. let next : bookmark_at visit.bookmark (u ∷ (front ++ back)) ≡ suc (bookmark_at visit.bookmark (front ++ back)) = omega (arith, s) in
+      (λ s.
+      let next : bookmark_at visit.bookmark (u ∷ (front ++ back)) ≡ suc (bookmark_at visit.bookmark (front ++ back)) = omega (arith, s) in
       ap (λ b. take visit.unvisited (drop b (u.pair ∷ keys (front ++ back)))) next) shifts
       ∙ to_visit-out front u back kept elsewhere
 
@@ -134,7 +137,8 @@ module _ {K V : Type 0} (hs ks : List (Held (K × V))) {p : Ptr}
       → IsFresh cut_moved.held.node.at (map (λ t. t.at) (bare cut_moved.held.before ++ bare cut_moved.held.after))
   fresh_moved apart =
       let h = cut_moved.held in
-      let cut = subst IsApart (ap (map (λ (t : Held (K × V)). t.at)) h.is ∙ map-append (λ (t : Held (K × V)). t.at) h.before (h.node ∷ h.after)) apart in
+      let cut = subst IsApart (ap (map (λ (t : Held (K × V)). t.at)) h.is
+      ∙ map-append (λ (t : Held (K × V)). t.at) h.before (h.node ∷ h.after)) apart in
       subst (IsFresh h.node.at) (sym (map-append (λ (t : Held K). t.at) (bare h.before) (bare h.after)
       ∙ ap₂ (λ xs ys. xs ++ ys) (pointers-bare h.before) (pointers-bare h.after)))
       (IsFresh-middle (map (λ (t : Held (K × V)). t.at) h.before) h.node.at (map (λ (t : Held (K × V)). t.at) h.after) cut)
@@ -172,4 +176,5 @@ module _ {K V : Type 0} (hs ks : List (Held (K × V))) {p : Ptr}
       → IsKept eq hash (bare ks) n no_visit
   IsKept-front laws kept apart same =
       let at = before-bare p hs in let long = length-bare hs in
-      IsKept-visited (IsKept-moved (IsKept-visited kept (Some p) (omega (arith, at, long, lies))) (inr (omega arith)) apart laws refl same) None tt
+      IsKept-visited (IsKept-moved (IsKept-visited kept (Some p) (omega (arith, at, long, lies)))
+      (inr (omega arith)) apart laws refl same) None tt

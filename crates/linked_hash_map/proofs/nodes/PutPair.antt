@@ -16,7 +16,7 @@ use Rattle.linked_hash_map.proofs.pairs.Indexes.{set_value-index, is_some-index,
 use Rattle.linked_hash_map.proofs.pairs.Calls.{set_or_push-present}
 use Rattle.linked_hash_map.proofs.nodes.HeldPairs.{bare-change, before-bare, length-bare, length-pairs_of, length-same}
 use Rattle.linked_hash_map.proofs.nodes.CutNodes.{CutAt, CutAt-before, slice_get-held, pairs_of-change_at}
-use Rattle.linked_hash_map.proofs.nodes.Current.{current_at-Some, before-current, IsKept-visited}
+use Rattle.linked_hash_map.proofs.nodes.Current.{current_at-Some, IsKept-visited}
 use Rattle.linked_hash_map.proofs.nodes.Kept.{IsKept-same}
 use Rattle.linked_hash_map.proofs.nodes.MovedNode.{pairs-moved, length-to_back, before-at_back, IsKept-moved, to_visit-moved, behind-moved}
 use Rattle.linked_hash_map.proofs.nodes.Outside.{IsElsewhere, to_visit_at, to_visit_of, to_visit-bare}
@@ -126,20 +126,21 @@ module _ {K V : Type 0} {eq : K → K → Bool} (laws : IsEquivalence eq) {p : P
 
 -- the current pair, which is none of those to visit
 module _ {K V : Type 0} {eq : K → K → Bool} (laws : IsEquivalence eq) {hash : K → ℕ}
-    (hs ks : List (Held (K × V))) {capacity : ℕ} {visit : VisitState} {p : Ptr}
+    {hs ks : List (Held (K × V))} {capacity : ℕ} {visit : VisitState} {p : Ptr}
     (kept : IsKept eq hash (bare hs) capacity visit) (is : visit.current ≡ Some p)
     (elsewhere : IsElsewhere (before p hs) visit (bare hs)) where
-  pub IsKept-touched : (mode : Mode) → IsTouched mode p hs ks → {n : ℕ} → n ≡ capacity → IsKept eq hash (bare ks) n visit
-  IsKept-touched Touch moved = IsKept-moved hs ks moved.0 (before-current hs kept is) kept elsewhere laws is
-  IsKept-touched Keep same = λ capacity. IsKept-same (ap bare same) capacity kept
+  pub IsKept-touched : {mode : Mode} → IsTouchedAt p mode hs ks → {n : ℕ} → n ≡ capacity → IsKept eq hash (bare ks) n visit
+  IsKept-touched {mode = Touch} moved = IsKept-moved hs ks moved.touched.0 moved.lies kept elsewhere laws is
+  IsKept-touched {mode = Keep} moved = λ capacity. IsKept-same (ap bare moved.touched) capacity kept
 
-  pub to_visit-touched : (mode : Mode) → IsTouched mode p hs ks → to_visit_of visit ks ≡ to_visit_of visit hs
-  to_visit-touched Touch moved = to_visit-moved hs ks moved.0 (before-current hs kept is) kept elsewhere
-  to_visit-touched Keep same = ap (to_visit_of visit) same
+  pub to_visit-touched : {mode : Mode} → IsTouchedAt p mode hs ks → to_visit_of visit ks ≡ to_visit_of visit hs
+  to_visit-touched {mode = Touch} moved = to_visit-moved hs ks moved.touched.0 moved.lies kept elsewhere
+  to_visit-touched {mode = Keep} moved = ap (to_visit_of visit) moved.touched
 
-  pub elsewhere-touched : (mode : Mode) → IsTouched mode p hs ks → IsElsewhere (before p ks) visit (bare ks)
-  elsewhere-touched Touch moved = inr (behind-moved hs ks moved.0 (before-current hs kept is) kept elsewhere moved.1)
-  elsewhere-touched Keep same = subst (λ (ns : List (Held (K × V))). IsElsewhere (before p ns) visit (bare ns)) (sym same) elsewhere
+  pub elsewhere-touched : {mode : Mode} → IsTouchedAt p mode hs ks → IsElsewhere (before p ks) visit (bare ks)
+  elsewhere-touched {mode = Touch} moved = inr (behind-moved hs ks moved.touched.0 moved.lies kept elsewhere moved.touched.1)
+  elsewhere-touched {mode = Keep} moved =
+      subst (λ (ns : List (Held (K × V))). IsElsewhere (before p ns) visit (bare ns)) (sym moved.touched) elsewhere
 
 -- once it is moved by a mode, and its value is written
 module _ {K V : Type 0} {eq : K → K → Bool} (laws : IsEquivalence eq) {hash : K → ℕ} {p : Ptr}
@@ -149,19 +150,19 @@ module _ {K V : Type 0} {eq : K → K → Bool} (laws : IsEquivalence eq) {hash 
   pub IsKept-put_current : {n : ℕ} → n ≡ capacity → (w : V)
       → IsKept eq hash (bare (change_at p (revalued w) ks)) n visit
   IsKept-put_current same w = IsKept-same (bare-change p w ks) refl
-      (IsKept-touched laws hs ks kept is elsewhere mode moved.touched same)
+      (IsKept-touched laws kept is elsewhere moved same)
 
   pub to_visit-put : (w : V) → to_visit_of visit (change_at p (revalued w) ks) ≡ to_visit_of visit hs
   to_visit-put w = sym (to_visit-bare visit (change_at p (revalued w) ks))
       ∙ ap (to_visit_at visit) (bare-change p w ks) ∙ to_visit-bare visit ks
-      ∙ to_visit-touched laws hs ks kept is elsewhere mode moved.touched
+      ∙ to_visit-touched laws kept is elsewhere moved
 
   pub outside-put : (w : V) → IsElsewhere (current_at visit.current (bare (change_at p (revalued w) ks))) visit
       (bare (change_at p (revalued w) ks))
   outside-put w =
       subst (λ us. IsElsewhere (current_at visit.current us) visit us) (sym (bare-change p w ks))
       (subst (λ k. IsElsewhere k visit (bare ks)) (sym (current_at-Some is ks))
-      (elsewhere-touched laws hs ks kept is elsewhere mode moved.touched))
+      (elsewhere-touched laws kept is elsewhere moved))
 
 -- with nothing to visit, and no current pair
 pub IsKept-put : {K V : Type 0} {eq : K → K → Bool} → IsEquivalence eq → {hash : K → ℕ} {p : Ptr}

@@ -38,7 +38,8 @@ IsKept-swapped {K} {eq} {hash} laws us vs kept =
 module _ {K V : Type 0} (count : ℕ) (hs ks : List (Held (K × V))) (is : ks ≡ drop count hs ++ take count hs) where
   pub pairs-rotated : pairs_of ks ≡ drop count (pairs_of hs) ++ take count (pairs_of hs)
   pairs-rotated = ap pairs_of is ∙ pairs_of-append (drop count hs) (take count hs)
-      ∙ ap₂ (λ ps qs. ps ++ qs) (sym (drop-map (λ (t : Held (K × V)). t.pair) count hs)) (sym (take-map (λ (t : Held (K × V)). t.pair) count hs))
+      ∙ ap₂ (λ ps qs. ps ++ qs) (sym (drop-map (λ (t : Held (K × V)). t.pair) count hs))
+      (sym (take-map (λ (t : Held (K × V)). t.pair) count hs))
 
   pub length-rotated : length (pairs_of ks) ≡ length (pairs_of hs)
   length-rotated =

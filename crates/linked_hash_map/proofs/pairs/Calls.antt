@@ -10,7 +10,7 @@ use Rattle.std.specs.Cmp.{IsEquivalence}
 use Rattle.std.proofs.lemmas.Map.Keys.{IsDistinct-head, IsDistinct-tail}
 use Rattle.linked_hash_map.specs.declared.map.Mode.{Mode}
 use Rattle.linked_hash_map.specs.declared.map.Mode.TheVariants.{Touch, Keep}
-use Rattle.linked_hash_map.specs.Pairs.{key_or, find, value_at, without, to_back, set_value, set_or_push, put}
+use Rattle.linked_hash_map.specs.Pairs.{key_or, find, value_at, without, to_back, set_key, set_value, set_or_push, put}
 use Rattle.linked_hash_map.proofs.log.LiveKeys.{same_test, none_is}
 use Rattle.linked_hash_map.proofs.lists.Distinct.{none_from_all}
 
@@ -60,6 +60,18 @@ set_value-none eq (first ∷ pairs) k v h = by_test (set_value-none eq pairs k v
     by_test : (find eq pairs k ≡ None → set_value eq pairs k v ≡ pairs) → (b : Bool)
         → cond b (Some first) (find eq pairs k) ≡ None
         → cond b (first.0, v) first ∷ set_value eq pairs k v ≡ first ∷ pairs
+    by_test rest true h = absurd (true≢false (ap is_some h))
+    by_test rest false h = ap (λ ps. first ∷ ps) (rest h)
+
+-- the pairs, with another key for one that is not there
+pub set_key-absent : {K V : Type 0} (eq : K → K → Bool) (pairs : List (K × V)) (k : K)
+    → find eq pairs k ≡ None → set_key eq pairs k ≡ pairs
+set_key-absent eq [] k h = refl
+set_key-absent eq (first ∷ pairs) k h = by_test (set_key-absent eq pairs k) (eq k first.0) h
+  where
+    by_test : (find eq pairs k ≡ None → set_key eq pairs k ≡ pairs) → (b : Bool)
+        → cond b (Some first) (find eq pairs k) ≡ None
+        → (cond b k first.0, first.1) ∷ set_key eq pairs k ≡ first ∷ pairs
     by_test rest true h = absurd (true≢false (ap is_some h))
     by_test rest false h = ap (λ ps. first ∷ ps) (rest h)
 

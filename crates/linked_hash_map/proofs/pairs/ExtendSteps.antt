@@ -1,19 +1,18 @@
 -- What `extend` and `extend_refs` have inserted, one step after another.
-use Rattle.std.proofs.Common.{◌≡◌, ◌+◌, ◌≤◌, ℕ, max, Bool, List, [], ◌∷◌, ◌++◌, length, map, Option, Some, None, OnSome, IfNone}
+use Rattle.std.proofs.Common.{◌≡◌, ◌+◌, ◌≤◌, ℕ, Bool, List, [], ◌∷◌, ◌++◌, length, map, Option, Some, None, OnSome, IfNone}
 use Rattle.std.proofs.Common.{IsSome, refl, sym, ap, ◌∙◌, subst, arith, length-append}
 use Rattle.std.specs.List.{IsDistinct}
 use Rattle.std.specs.Map.{keys_of}
 use Rattle.std.specs.Iterator.{Count, IsFinite, size, MakesProgress, YieldsThen}
 use Rattle.std.specs.Cmp.{IsEquivalence}
 use Rattle.std.proofs.lemmas.List.{map-append, map-id, length-map}
-use Rattle.linked_hash_map.specs.Changes.{KeepsSettings}
 use Rattle.linked_hash_map.specs.LinkedMap.{LinkedMap}
-use Rattle.linked_hash_map.specs.Counts.{rechained_raised, made_raised}
 use Rattle.linked_hash_map.specs.Inserts.{InsertsUntil, LeavesVisit, ExtendsWith}
 use Rattle.linked_hash_map.specs.Cursor.{to_visit}
-use Rattle.linked_hash_map.specs.Pairs.{find, value_at, put}
+use Rattle.linked_hash_map.specs.Pairs.{find, value_at}
 use Rattle.linked_hash_map.specs.Validity.{IsValid}
-use Rattle.linked_hash_map.proofs.pairs.Inserts.{HasInserted, HasInserted-none, HasInserted-put, AreWithinBound, AreWithinBound-next}
+use Rattle.linked_hash_map.proofs.pairs.Inserts.{HasInserted, HasPut, HasInserted-none, HasInserted-put}
+use Rattle.linked_hash_map.proofs.pairs.Inserts.{AreWithinBound, AreWithinBound-next}
 use Rattle.linked_hash_map.proofs.runs.Extends.{find-insert_each_absent}
 use Rattle.linked_hash_map.proofs.Callers.Collected.{length-insert_each_most}
 
@@ -26,6 +25,15 @@ pub record IsExtended {I X K V S : Type 0} (eq : K → K → Bool) (shows : X �
   pub valid : IsValid eq new
   pub bound : AreWithinBound remaining start now (length came)
   pub visit : LeavesVisit (length came) old new
+
+-- what one pair that went into a map leaves to be visited, by the value that was found
+pub record VisitAfterPut {K V S : Type 0} (before after : LinkedMap K V S) (found : Option V) : Type 0 where
+  pub value : Option V
+  pub is : value ≡ found
+  pub ends : OnSome value (to_visit after ≡ [])
+  pub stands : IfNone value (to_visit after ≡ to_visit before)
+  pub as_many : IsSome found → length after.pairs ≡ length before.pairs
+  pub more : found ≡ None → length after.pairs ≡ length before.pairs + 1
 
 -- one more insertion, of a present key or of a new one
 LeavesVisit-put : {K V S : Type 0} {n : ℕ} {old before after : LinkedMap K V S}
@@ -67,27 +75,18 @@ module _ {I X K V S : Type 0} {eq : K → K → Bool} (laws : IsEquivalence eq) 
         let longest = length-insert_each_most laws old.mode old.pairs (map shows came) distinct in
         omega (arith, shown, longest, ap length so_far.inserted.pairs)
 
-    pub IsExtended-put : {after : LinkedMap K V S}
-        → after.pairs ≡ put eq before.mode before.pairs (shows item).0 (shows item).1
-        → after.capacity ≡ max before.capacity (length after.pairs)
-        → after.rechained
-        ≡ rechained_raised before.rechained (length before.pairs) before.capacity after.capacity
-        → after.made ≡ made_raised before.made before.capacity after.capacity
-        → KeepsSettings before after → IsValid eq after → (value : Option V)
-        → value ≡ value_at eq before.pairs (shows item).0 → OnSome value (to_visit after ≡ [])
-        → IfNone value (to_visit after ≡ to_visit before)
-        → (IsSome (value_at eq before.pairs (shows item).0) → length after.pairs ≡ length before.pairs)
-        → (value_at eq before.pairs (shows item).0 ≡ None → length after.pairs ≡ length before.pairs + 1)
+    pub IsExtended-put : {after : LinkedMap K V S} → HasPut eq (shows item).0 (shows item).1 before after → IsValid eq after
+        → VisitAfterPut before after (value_at eq before.pairs (shows item).0)
         → IsExtended eq shows remaining old start later (came ++ item ∷ []) after
-    IsExtended-put {after} pairs capacity rechained made settings valid value is ends stands as_many more = record {
+    IsExtended-put {after} put_one valid visit = record {
       inserted = subst (λ items. HasInserted eq old items after)
           (sym (map-append shows came (item ∷ [])))
-          (HasInserted-put laws (shows item).0 (shows item).1 distinct so_far.inserted
-          pairs capacity rechained made settings);
+          (HasInserted-put laws (shows item).0 (shows item).1 distinct so_far.inserted put_one);
       valid = valid;
       bound = AreWithinBound-next can remaining came item so_far.bound goes;
       visit = subst (λ n. LeavesVisit n old after) (sym (length-append came (item ∷ [])))
-          (LeavesVisit-put so_far.visit most value (value_at eq before.pairs (shows item).0) is ends stands as_many more);
+          (LeavesVisit-put so_far.visit most visit.value (value_at eq before.pairs (shows item).0)
+          visit.is visit.ends visit.stands visit.as_many visit.more);
     }
 
     -- the key of an item that is refused was absent at the start

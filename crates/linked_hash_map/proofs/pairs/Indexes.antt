@@ -2,17 +2,18 @@
 use Rattle.std.proofs.Common.{◌≡◌, ℕ, zero, suc, ◌+◌, ◌-◌, ◌<◌, Bool, true, false, cond, not, List}
 use Rattle.std.proofs.Common.{[], ◌∷◌, ◌++◌, length, remove, slice_get, Some, None, is_some}
 use Rattle.std.proofs.Common.{option_to_list, option_map, refl, sym, ap, ap₂, ◌∙◌, subst, true≢false, arith}
+use Rattle.std.specs.Prelude.{slice_set}
 use Rattle.std.specs.List.{list_any, IsDistinct, AllByRecursion}
 use Rattle.std.specs.Map.{keys_of, lookup_entry}
 use Rattle.std.specs.Cmp.{IsEquivalence}
 use Rattle.std.proofs.lemmas.Map.Keys.{IsDistinct-head, IsDistinct-tail}
 use Rattle.std.proofs.Math.Nat.{le_of_suc-le-suc}
 use Rattle.lhm_ring.proofs.lists.Options.{Some-injective}
-use Rattle.linked_hash_map.specs.Pairs.{key_or, find, value_at, without, to_back, to_back_as_is, to_front, set_value}
+use Rattle.linked_hash_map.specs.Pairs.{key_or, find, value_at, without, to_back, to_back_as_is, to_front, set_key, set_value}
 use Rattle.linked_hash_map.specs.Indexes.{IsIndex, pair_at, set_value_at}
 use Rattle.linked_hash_map.proofs.log.LiveKeys.{same_test}
 use Rattle.linked_hash_map.proofs.lists.Distinct.{none_from_all}
-use Rattle.linked_hash_map.proofs.pairs.Calls.{lookup_entry-none, filter-none, set_value-none}
+use Rattle.linked_hash_map.proofs.pairs.Calls.{lookup_entry-none, filter-none, set_key-absent, set_value-none}
 
 -- an index that has something lies within
 pub slice_get-within : {X : Type 0} (xs : List X) (i : ℕ) (x : X) → slice_get xs i ≡ Some x → i < length xs
@@ -115,6 +116,19 @@ module _ {K V : Type 0} {eq : K → K → Bool} (laws : IsEquivalence eq) (k : K
   set_value_by_index (first ∷ pairs) (suc i) pair v distinct there same =
       ap₂ (λ b ps. cond b (first.0, v) first ∷ ps) (first_differs first pairs i pair distinct there same)
       (set_value_by_index pairs i pair v (IsDistinct-tail eq first.0 (keys_of pairs) distinct) there same)
+
+  pub set_key_by_index : (pairs : List (K × V)) (i : ℕ) (pair : K × V)
+      → IsDistinct eq (keys_of pairs) → slice_get pairs i ≡ Some pair → eq k pair.0 ≡ true
+      → set_key eq pairs k ≡ slice_set pairs i (k, pair.1)
+  set_key_by_index [] i pair distinct there same = absurd (true≢false (sym (ap is_some there)))
+  set_key_by_index (first ∷ pairs) zero pair distinct there same =
+      let first_is : first ≡ pair = cc in
+      let passes : eq k first.0 ≡ true = ap (λ p. eq k p.0) first_is ∙ same in
+      ap₂ (λ b ps. (cond b k first.0, first.1) ∷ ps) passes (set_key-absent eq pairs k (others_differ first pairs distinct passes))
+      ∙ ap (λ (p : K × V). (k, p.1) ∷ pairs) first_is
+  set_key_by_index (first ∷ pairs) (suc i) pair distinct there same =
+      ap₂ (λ b ps. (cond b k first.0, first.1) ∷ ps) (first_differs first pairs i pair distinct there same)
+      (set_key_by_index pairs i pair (IsDistinct-tail eq first.0 (keys_of pairs) distinct) there same)
 
 -- setting the value that a key has changes nothing
 module _ {K V : Type 0} {eq : K → K → Bool} (laws : IsEquivalence eq) where

@@ -61,6 +61,15 @@ pub record HasInserted {K V S : Type 0} (eq : K → K → Bool) (old : LinkedMap
   pub made : new.made ≡ made_each old.made old.capacity (new.capacity - old.capacity)
   pub settings : KeepsSettings old new
 
+-- one pair went into a map, and left another
+pub record HasPut {K V S : Type 0} (eq : K → K → Bool) (k : K) (v : V) (before after : LinkedMap K V S) : Type 0 where
+  pub pairs : after.pairs ≡ put eq before.mode before.pairs k v
+  pub capacity : after.capacity ≡ max before.capacity (length after.pairs)
+  pub rechained : after.rechained
+      ≡ rechained_raised before.rechained (length before.pairs) before.capacity after.capacity
+  pub made : after.made ≡ made_raised before.made before.capacity after.capacity
+  pub settings : KeepsSettings before after
+
 -- the items that came, and those left to come, are no more than were left at the start
 pub record AreWithinBound {I : Type 0} (remaining : I → Count) (start now : I) (came : ℕ) : Type 0 where
   pub finite : IsFinite (remaining now)
@@ -127,14 +136,9 @@ module _ {K V : Type 0} {eq : K → K → Bool} (laws : IsEquivalence eq) where
   -- one more insertion, after those of some items
   pub HasInserted-put : {S : Type 0} {start : LinkedMap K V S} {items : List (K × V)} (k : K)
       (v : V) {before after : LinkedMap K V S} → IsDistinct eq (keys_of start.pairs)
-      → HasInserted eq start items before → after.pairs ≡ put eq before.mode before.pairs k v
-      → after.capacity ≡ max before.capacity (length after.pairs)
-      → after.rechained
-      ≡ rechained_raised before.rechained (length before.pairs) before.capacity after.capacity
-      → after.made ≡ made_raised before.made before.capacity after.capacity
-      → KeepsSettings before after → HasInserted eq start (items ++ (k, v) ∷ []) after
-  HasInserted-put {start = start} {items = items} k v {before} {after} distinct so_far pairs_are
-      raised counted all_made same =
+      → HasInserted eq start items before → HasPut eq k v before after → HasInserted eq start (items ++ (k, v) ∷ []) after
+  HasInserted-put {start = start} {items = items} k v {before} {after} distinct so_far put_one =
+      let pairs_are = put_one.pairs in let raised = put_one.capacity in let counted = put_one.rechained in
       let distinct_before = subst (λ es. IsDistinct eq (keys_of es)) (sym so_far.pairs)
       (distinct-insert_each start.mode start.pairs items distinct) in
       let grows = length-grows before.mode before.pairs k v distinct_before in
@@ -148,8 +152,11 @@ module _ {K V : Type 0} {eq : K → K → Bool} (laws : IsEquivalence eq) where
             ∙ sym (insert_each-last eq start.mode start.pairs items (k, v));
         capacity = omega arith;
         rechained = rechained_each-put start.rechained start.capacity (omega arith) so_far.rechained (omega arith) one raised counted;
-        made = made_each-put start.made start.capacity (omega arith) so_far.made (omega arith) (omega arith) all_made;
-        settings = record { hasher = same.hasher ∙ so_far.settings.hasher; mode = same.mode ∙ so_far.settings.mode };
+        made = made_each-put start.made start.capacity (omega arith) so_far.made (omega arith) (omega arith) put_one.made;
+        settings = record {
+          hasher = put_one.settings.hasher ∙ so_far.settings.hasher;
+          mode = put_one.settings.mode ∙ so_far.settings.mode;
+        };
       }
 
   -- pairs with keys that differ stay as they are inserted

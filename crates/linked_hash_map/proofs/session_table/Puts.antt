@@ -1,5 +1,6 @@
 -- What a put does to the pairs of a table's map.
-use Rattle.std.proofs.Common.{◌≡◌, ℕ, zero, suc, ◌+◌, ◌-◌, ◌<◌, ◌≤◌, Bool, true, false, cond, not, List, [], ◌∷◌, ◌++◌, length, drop, nat_eq}
+use Rattle.std.proofs.Common.{◌≡◌, ℕ, zero, suc, ◌+◌, ◌-◌, ◌<◌, ◌≤◌, Bool, true, false, cond, not, List, [], ◌∷◌}
+use Rattle.std.proofs.Common.{◌++◌, length, drop, nat_eq}
 use Rattle.std.proofs.Common.{Option, Some, None, is_some, option_map, true≢false, refl, sym, ap, ◌∙◌, arith, length-append, length-drop}
 use Rattle.std.specs.Prelude.{max}
 use Rattle.std.specs.Cmp.{IsEquivalence, nat_eq_equiv}
@@ -97,36 +98,36 @@ module _ {T : Type 0} where
   length-with_last sessions id weight payload = length-append (without sessions id) ((id, weight, payload) ∷ [])
 
   -- there is room for as many as are left, and for no more if it was enough
-  pub capacity-put : (is_new : Bool) (count : ℕ) (ps : List (ℕ × Weighted T)) (id weight : ℕ) (payload : T) {old now : ℕ}
+  pub capacity-put : (is_new : Bool) {count : ℕ} (ps : List (ℕ × Weighted T)) (session : Session T) {old now : ℕ}
       → length ps ≤ old → IsDistinct nat_eq (keys_of ps)
-      → is_some (session_of (sessions_of ps) id) ≡ not is_new
-      → count ≤ length (without (sessions_of ps) id)
+      → is_some (session_of (sessions_of ps) session.0) ≡ not is_new
+      → count ≤ length (without (sessions_of ps) session.0)
       → (count ≡ 0 → is_new ≡ true → now ≡ max old (length ps + 1))
       → ((count ≡ 0 → is_new ≡ false) → now ≡ old)
-      → now ≡ max old (length (drop count (with_last (sessions_of ps) id weight payload)))
-  capacity-put true zero ps id weight payload within distinct new enough raised same =
-      let all = length-with_last (sessions_of ps) id weight payload in
+      → now ≡ max old (length (drop count (with_last (sessions_of ps) session.0 session.1 session.2)))
+  capacity-put true {count = zero} ps session within distinct new enough raised same =
+      let all = length-with_last (sessions_of ps) session.0 session.1 session.2 in
       let grown = raised refl refl in
-      omega (arith, all, length-without_new ps id (find-new ps id new))
-  capacity-put true (suc count) ps id weight payload within distinct new enough raised same =
-      let all = length-with_last (sessions_of ps) id weight payload in
+      omega (arith, all, length-without_new ps session.0 (find-new ps session.0 new))
+  capacity-put true {count = suc count} ps session within distinct new enough raised same =
+      let all = length-with_last (sessions_of ps) session.0 session.1 session.2 in
       let stays = same (λ zero. absurd (omega (arith, zero))) in
       omega (
         arith,
         all,
-        length-drop (suc count) (with_last (sessions_of ps) id weight payload),
-        length-without_new ps id (find-new ps id new),
+        length-drop (suc count) (with_last (sessions_of ps) session.0 session.1 session.2),
+        length-without_new ps session.0 (find-new ps session.0 new),
       )
-  capacity-put false count ps id weight payload within distinct present enough raised same =
-      let weighted : Weighted T = record { weight = weight; payload = payload } in
-      let found : IsSome (pairs.find nat_eq ps id) = sym (is_some-session_of ps id) ∙ present in
+  capacity-put false {count = count} ps session within distinct present enough raised same =
+      let weighted : Weighted T = record { weight = session.1; payload = session.2 } in
+      let found : IsSome (pairs.find nat_eq ps session.0) = sym (is_some-session_of ps session.0) ∙ present in
       let stays = same (λ zero. refl) in
       omega (
         arith,
-        length-drop count (with_last (sessions_of ps) id weight payload),
-        ap length (sessions_of-to_back ps id weighted),
-        length-sessions_of (pairs.to_back nat_eq ps id weighted),
-        length-to_back_present nat_eq_equiv ps id weighted distinct found,
+        length-drop count (with_last (sessions_of ps) session.0 session.1 session.2),
+        ap length (sessions_of-to_back ps session.0 weighted),
+        length-sessions_of (pairs.to_back nat_eq ps session.0 weighted),
+        length-to_back_present nat_eq_equiv ps session.0 weighted distinct found,
       )
 
   -- the new session stays, with those that fit beside it

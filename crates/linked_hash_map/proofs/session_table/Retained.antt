@@ -8,7 +8,8 @@ use Rattle.std.proofs.lemmas.List.{map-append}
 use Rattle.linked_hash_map.specs.Retains.{IsSublist}
 use Rattle.linked_hash_map.specs.SessionTables.{Session, total_weight}
 use Rattle.linked_hash_map.specs.SessionsKept.{sessions_of}
-use Rattle.linked_hash_map.specs.SessionRetains.{weights_of, TakesSession, CalledAtSession, SomeCallAtSession, CallableOnEachSession, RetainsSessions}
+use Rattle.linked_hash_map.specs.SessionRetains.{weights_of, TakesSession, CalledAtSession, SomeCallAtSession}
+use Rattle.linked_hash_map.specs.SessionRetains.{CallableOnEachSession, RetainsSessions}
 use Rattle.linked_hash_map.specs.declared.sessions.storage.Weighted.{Weighted}
 use Rattle.linked_hash_map.proofs.nodes.Retained.{first-retained}
 use Rattle.linked_hash_map.proofs.session_table.Lists.{total_weight-cons}
@@ -102,7 +103,8 @@ module _ {C F T : Type 0} (calls : C → ℕ → Weighted T → Bool → Weighte
         at = λ before after c' id weighted is steps.
             takes c' id weighted (callable.at (sessions_of before) (sessions_of after)
             (id, weighted.weight, weighted.payload) (inner c')
-            (ap sessions_of is ∙ map-append (λ (pair : ℕ × Weighted T). (pair.0, pair.1.weight, pair.1.payload)) before ((id, weighted) ∷ after))
+            (ap sessions_of is
+            ∙ map-append (λ (pair : ℕ × Weighted T). (pair.0, pair.1.weight, pair.1.payload)) before ((id, weighted) ∷ after))
             (calls-sessions c before c' steps));
       }
 

@@ -1,7 +1,7 @@
 //! The methods of `OccupiedEntry`.
-ghost use Rattle.std.specs.Prelude.{◌≡◌, ◌+◌, length, Some, None};
+ghost use Rattle.std.specs.Prelude.{◌≡◌, ◌+◌, length, Some, None, IfOk, IfErr, OnOk, OnErr, IsTrue, IsFalse};
 ghost use Rattle.std.specs.Borrow.{sem};
-ghost use Rattle.linked_hash_map.specs.Pairs.{find, without, put, set_value, to_back_as_is, to_front};
+ghost use Rattle.linked_hash_map.specs.Pairs.{find, value_at, without, put, replaced, set_key, set_value, to_back_as_is, to_front};
 ghost use Rattle.linked_hash_map.specs.Cursor.{to_visit};
 ghost use Rattle.linked_hash_map.specs.Changes.{Keeps};
 ghost use Rattle.linked_hash_map.specs.Updates.{Updates};
@@ -172,6 +172,58 @@ impl<'a, K: Eq + Hash, V, S: BuildHasher> OccupiedEntry<'a, K, V, S> {
             ≡ find K.eq (occupied_map self.old).pairs q }
     {
         self.map.move_current_to_front();
+    }
+
+    /// Stores `key` in place of the stored key, if it is the same, and returns the old one, in
+    /// O(1). The pair keeps its value and its place. If `key` is another, it comes back in `Err`,
+    /// and nothing changes. Compares the two keys.
+    ///
+    /// # Examples
+    ///
+    /// ```rust
+    /// let mut map = LinkedHashMap::new(rt.alloc());
+    /// map.insert('x', 1)?;
+    /// if let Entry::Occupied(mut entry) = map.entry('x') {
+    ///     assert_eq!(rt; entry.replace_key('x'), Ok('x'));
+    ///     assert_eq!(rt; entry.replace_key('y'), Err('y'));
+    /// }
+    /// assert_eq!(rt; map.get(&'x'), Some(&1));
+    /// ```
+    pub fn replace_key(&mut self, key: K) -> Result<K, K>
+        ensures same_map { (occupied_map_ref self.new).ghost_name
+            ≡ (occupied_map_ref self.old).ghost_name }
+        ensures stored { IfOk result (λ stored. stored ≡ occupied_key self.old) }
+        ensures same { OnOk result (IsTrue (K.eq key (occupied_key self.old))) }
+        ensures key { occupied_key self.new ≡ replaced K.eq key (occupied_key self.old) }
+        ensures value { occupied_value self.new ≡ occupied_value self.old }
+        ensures pairs { OnOk result
+            ((occupied_map self.new).pairs ≡ set_key K.eq (occupied_map self.old).pairs key) }
+        ensures keeps { Keeps (occupied_map self.old) (occupied_map self.new) }
+        ensures to_visit { to_visit (occupied_map self.new) ≡ to_visit (occupied_map self.old) }
+        ensures valid { IsValid K.eq (occupied_map self.old) }
+        ensures stays_valid { IsValid K.eq (occupied_map self.new) }
+        // A consequence of `pairs`, for the proofs of callers.
+        ensures values { (q : K) → value_at K.eq (occupied_map self.new).pairs q
+            ≡ value_at K.eq (occupied_map self.old).pairs q }
+
+        ensures key_back { IfErr result (λ back. back ≡ key) }
+        ensures unchanged { OnErr result (self.new ≡ self.old) }
+        ensures differs { OnErr result (IsFalse (K.eq key (occupied_key self.old))) }
+    {
+        if self.has_key(&key) {
+            Ok(self.map.replace_current_key(key))
+        } else {
+            Err(key)
+        }
+    }
+
+    /// Returns whether a key is the same as the stored one.
+    fn has_key(&self, key: &K) -> bool
+        ensures same { result ≡ K.eq key.now (occupied_key self.now) }
+        ensures valid { IsValid K.eq (occupied_map self.now) }
+    {
+        let (stored, _value) = self.map.current_pair();
+        *key == *stored
     }
 
     /// Removes the pair, drops the stored key and returns the value. The others keep their order.

@@ -2,7 +2,7 @@
 ghost use Rattle.std.specs.Prelude.{◌≡◌, ◌<◌, [], length, option_map, None, ◌∷◌, map, remove, slice_get, Some, IfSome, IfNone, IsTrue, IsFalse};
 ghost use Rattle.std.specs.Map.{keys_of};
 ghost use Rattle.std.specs.Borrow.{sem};
-ghost use Rattle.linked_hash_map.specs.Pairs.{find, put, to_back_as_is, to_front};
+ghost use Rattle.linked_hash_map.specs.Pairs.{find, put, set_key, to_back_as_is, to_front};
 ghost use Rattle.linked_hash_map.specs.Cursor.{to_visit, without_cursor, IsOutside};
 ghost use Rattle.linked_hash_map.specs.Changes.{Keeps};
 ghost use Rattle.linked_hash_map.specs.Validity.{IsValid};
@@ -220,7 +220,7 @@ impl<K: Eq + Hash, V, S: BuildHasher> LinkedHashMap<K, V, S> {
         ensures unchanged { IsFalse result → self.new ≡ self.old }
         ensures valid { IsValid K.eq self.old }
     {
-        let Some(at) = self.table.position(hash, key) else {
+        let Some(at) = self.table.position(hash, key).0 else {
             return false;
         };
         self.visit = Visit::at(at);
@@ -230,8 +230,9 @@ impl<K: Eq + Hash, V, S: BuildHasher> LinkedHashMap<K, V, S> {
     /// Returns references to the current pair.
     pub(crate) fn current_pair(&self) -> (&K, &V)
         requires { self.now.cursor.current < length self.now.pairs }
-        ensures { slice_get self.now.pairs self.now.cursor.current
+        ensures pair { slice_get self.now.pairs self.now.cursor.current
             ≡ Some (result.0.now, result.1.now) }
+        ensures valid { IsValid K.eq self.now }
     {
         let at = self.visit.current().unwrap();
         (self.table.key(at), self.table.value(at))
@@ -328,6 +329,28 @@ impl<K: Eq + Hash, V, S: BuildHasher> LinkedHashMap<K, V, S> {
     {
         let at = self.visit.current().unwrap();
         self.table.move_to_front(at);
+    }
+
+    /// Replaces the key of the current pair by one that is the same, and returns the old one.
+    pub(crate) fn replace_current_key(&mut self, key: K) -> K
+        requires within { self.old.cursor.current < length self.old.pairs }
+        requires same { IsIndex K.eq self.old.pairs key self.old.cursor.current }
+        requires outside { IsOutside self.old.cursor.current self.old }
+        ensures stored { option_map (λ pair. pair.0)
+            (slice_get self.old.pairs self.old.cursor.current)
+            ≡ Some result }
+        ensures pairs { self.new.pairs ≡ set_key K.eq self.old.pairs key }
+        ensures pair { (pair : K × V) → slice_get self.old.pairs self.old.cursor.current ≡ Some pair
+            → slice_get self.new.pairs self.new.cursor.current ≡ Some (key, pair.1) }
+        ensures len { length self.new.pairs ≡ length self.old.pairs }
+        ensures keeps { Keeps self.old self.new }
+        ensures cursor { self.new.cursor ≡ self.old.cursor }
+        ensures to_visit { to_visit self.new ≡ to_visit self.old }
+        ensures valid { IsValid K.eq self.old }
+        ensures stays_valid { IsValid K.eq self.new }
+    {
+        let at = self.visit.current().unwrap();
+        self.table.replace_key(at, key)
     }
 
     /// Removes and returns the current pair. None is then current.

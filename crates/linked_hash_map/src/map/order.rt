@@ -37,7 +37,8 @@ impl<K: Eq + Hash, V, S: BuildHasher> LinkedHashMap<K, V, S> {
         ensures finds { (q : K) → find K.eq self.new.pairs q ≡ find K.eq self.old.pairs q }
     {
         let hash = self.hasher.hash_one(key);
-        match self.table.position(hash, key) {
+        let found = self.table.position(hash, key).0;
+        match found {
             Some(at) => {
                 self.visit.active = false;
                 self.table.move_to_back(at);
@@ -74,7 +75,8 @@ impl<K: Eq + Hash, V, S: BuildHasher> LinkedHashMap<K, V, S> {
         ensures finds { (q : K) → find K.eq self.new.pairs q ≡ find K.eq self.old.pairs q }
     {
         let hash = self.hasher.hash_one(key);
-        match self.table.position(hash, key) {
+        let found = self.table.position(hash, key).0;
+        match found {
             Some(at) => {
                 self.visit.active = false;
                 self.table.move_to_front(at);

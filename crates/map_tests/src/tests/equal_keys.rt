@@ -5,8 +5,8 @@ use super::support::checks::{check_eq, given};
 use super::support::hashers::BuildSame;
 use super::support::last_byte::BuildLastByte;
 use super::support::name::Name;
-use linked_hash_map::LinkedHashMap;
 use linked_hash_map::replay::{Answer, Command, Reply, replay};
+use linked_hash_map::{Entry, LinkedHashMap};
 use std::alloc::Global;
 use std::hash::BuildHasher;
 use std::process::Abort;
@@ -41,6 +41,48 @@ fn keeps_the_first_of_two_names(rt: HostRuntime) {
     check_pop_name(&rt, &mut map, "A", 2);
     check_insert(&rt, &mut map, Name { text: "a" }, 3, None);
     assert_front_name(&rt, &map, "a", 3);
+}
+
+/// A map of names, and what a call of `replace_key` returns of their texts.
+type NameMap = LinkedHashMap<Name<'static>, u64>;
+
+type Texts = Result<&'static str, &'static str>;
+
+/// Replaces a stored name, and checks the text that is returned.
+fn check_replace_name(rt: &impl Abort, map: &mut NameMap, text: &'static str, wanted: Texts) {
+    let replaced = map.replace_key(Name { text });
+    check_eq!(rt; replaced.map(|name| name.text).map_err(|name| name.text), wanted);
+}
+
+/// Replaces the name of an entry, and checks the text that is returned.
+fn check_replace_in_entry(
+    rt: &impl Abort,
+    map: &mut NameMap,
+    of: &'static str,
+    text: &'static str,
+    wanted: Texts,
+) {
+    match map.entry(Name { text: of }) {
+        Entry::Occupied(mut entry) => {
+            let replaced = entry.replace_key(Name { text });
+            check_eq!(rt; replaced.map(|name| name.text).map_err(|name| name.text), wanted);
+        }
+        Entry::Vacant(_entry) => panic!(rt; "the name is absent"),
+    }
+}
+
+#[test]
+fn replaces_a_stored_name(rt: HostRuntime) {
+    let mut map = LinkedHashMap::new(rt.alloc());
+    check_insert(&rt, &mut map, Name { text: "A" }, 1, None);
+    check_insert(&rt, &mut map, Name { text: "b" }, 2, None);
+    check_replace_name(&rt, &mut map, "a", Ok("A"));
+    check_replace_name(&rt, &mut map, "c", Err("c"));
+    assert_front_name(&rt, &map, "a", 1);
+    check_replace_in_entry(&rt, &mut map, "A", "A", Ok("a"));
+    check_replace_in_entry(&rt, &mut map, "A", "b", Err("b"));
+    check_pop_name(&rt, &mut map, "A", 1);
+    check_pop_name(&rt, &mut map, "b", 2);
 }
 
 type NameCommand = Command<Name<'static>, u64>;

@@ -146,6 +146,19 @@ fn move_to_front(rt: HostRuntime) -> Result<(), Fail> {
     Ok(())
 }
 
+/// The example of `OccupiedEntry::replace_key`.
+#[test]
+fn replace_key(rt: HostRuntime) -> Result<(), Fail> {
+    let mut map = LinkedHashMap::new(rt.alloc());
+    map.insert('x', 1)?;
+    if let Entry::Occupied(mut entry) = map.entry('x') {
+        assert_eq!(rt; entry.replace_key('x'), Ok('x'));
+        assert_eq!(rt; entry.replace_key('y'), Err('y'));
+    }
+    assert_eq!(rt; map.get(&'x'), Some(&1));
+    Ok(())
+}
+
 /// The example of `OccupiedEntry::remove_entry`.
 #[test]
 fn remove_entry(rt: HostRuntime) -> Result<(), Fail> {

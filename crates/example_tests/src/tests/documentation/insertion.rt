@@ -138,3 +138,14 @@ fn made_with(rt: HostRuntime) -> Result<(), Fail> {
     assert_eq!(rt; maps.len(), 1);
     Ok(())
 }
+
+/// The example of `replace_key`.
+#[test]
+fn replace_key(rt: HostRuntime) -> Result<(), Fail> {
+    let mut map = LinkedHashMap::new(rt.alloc());
+    map.insert('x', 1)?;
+    assert_eq!(rt; map.replace_key('x'), Ok('x'));
+    assert_eq!(rt; map.replace_key('y'), Err('y'));
+    assert_eq!(rt; map.len(), 1);
+    Ok(())
+}

@@ -33,8 +33,7 @@ each-preserved g c =
       unused = c.add-at.ensures.unused ∙ ap (λ (n : ℕ). row c.args.start.ptr n (c.each.left - 1)) (sym c.add-at.ensures.node_bytes);
       chunks = c.add-at.ensures.chunks ∙ i.chunks;
       stacked = subst (λ (n : ℕ). IsStacked c.args.nodes.now.cells c.args.spare n c.add-at.new.self.cells c.to-first.result) one
-          (IsStacked-push _ _ (c.args.count - c.each.left) c.each.nodes.cells _ c.add-at.result
-          c.add-at.new.self.cells c.to-first.result i.stacked c.add-at.ensures.cells
+          (IsStacked-push _ _ (c.args.count - c.each.left) c.add-at.result c.to-first.result i.stacked c.add-at.ensures.cells
           c.to-first.ensures);
     }
 

@@ -1,4 +1,5 @@
-use Rattle.std.proofs.Common.{rules, ◌≡◌, true, false, max, length, is_some, None, Some, option_map, sym, ap, ◌∙◌, arith, unwrap_or, inl, inr}
+use Rattle.std.proofs.Common.{rules, ◌≡◌, true, false, max, length, is_some, None, Some, option_map, sym, ap, ◌∙◌}
+use Rattle.std.proofs.Common.{arith, unwrap_or, inl, inr}
 use Rattle.linked_hash_map.specs.Cursor.{to_visit}
 use Rattle.linked_hash_map.specs.Changes.{set_or_pushed}
 use Rattle.linked_hash_map.specs.Pairs.{key_or, find, value_at, put, set_or_push}

@@ -13,7 +13,8 @@ returns-in-Some g c = record {
       (ap (set_value g.K.PartialEq.eq c.args.map.now.pairs c.args.key) c.replace.ensures.after) refl
       refl;
   hasher = refl;
-  visit = inr (ap (λ ks. take c.args.map.now.cursor.unvisited (drop c.args.map.now.cursor.bookmark ks)) (keys_of-set_value g.K.PartialEq.eq c.args.map.now.pairs c.args.key _));
+  visit = inr (ap (λ ks. take c.args.map.now.cursor.unvisited (drop c.args.map.now.cursor.bookmark ks))
+      (keys_of-set_value g.K.PartialEq.eq c.args.map.now.pairs c.args.key _));
 }
 
 pub returns-in-None : goal.returns-in-None

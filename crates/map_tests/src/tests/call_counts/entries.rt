@@ -63,6 +63,22 @@ fn use_occupied(rt: &impl Abort, map: &mut CallMap, key: &Key) -> u64 {
     }
 }
 
+/// Replaces the stored key of an occupied entry by one that is the same.
+fn replace_key(rt: &impl Abort, map: &mut CallMap, key: &Key) -> bool {
+    match map.entry(key.again(rt)) {
+        Entry::Vacant(_entry) => false,
+        Entry::Occupied(mut entry) => entry.replace_key(key.again(rt)).is_ok(),
+    }
+}
+
+/// The calls, and one comparison more.
+fn and_one_more(calls: Calls) -> Calls {
+    Calls {
+        compared: calls.compared.saturating_add(1),
+        ..calls
+    }
+}
+
 /// Removes a key by its occupied entry.
 fn remove_occupied(rt: &impl Abort, map: &mut CallMap, key: &Key) -> bool {
     match map.entry(key.again(rt)) {
@@ -113,6 +129,7 @@ fn enter_present(rt: &impl Abort, map: &mut CallMap, key: &Key) {
     or_insert_with_key(rt, map, key, wanted);
     or_default(rt, map, key, wanted);
     check_calls!(rt; key.counts, use_occupied(rt, map, key), wanted);
+    check_calls!(rt; key.counts, replace_key(rt, map, key), and_one_more(wanted));
     remove_by_entry(rt, map, key);
     check!(rt; insert_vacant(rt, map, key));
     let wanted = lookup_of(rt, map, key);

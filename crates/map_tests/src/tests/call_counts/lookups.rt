@@ -17,6 +17,7 @@ fn look_up(rt: &impl Abort, map: &mut CallMap, key: &Key, wanted: Calls) {
     check_calls!(rt; key.counts, map.get_refresh(key), wanted);
     check_calls!(rt; key.counts, map.move_to_front(key), wanted);
     check_calls!(rt; key.counts, map.move_to_back(key), wanted);
+    check_calls!(rt; key.counts, map.replace_key(key.again(rt)), wanted);
 }
 
 /// Inserts a key for which there is room.

@@ -112,6 +112,38 @@ fn drops_the_stored_key_of_an_entry_that_is_removed(rt: HostRuntime) {
     assert_dropped(&rt, &tally, 63 | KEY | VALUE);
 }
 
+/// Replaces a stored key by the map and by its entry: both hand out the key that is replaced, or
+/// the key that is not the same.
+fn replace_keys<'a>(rt: &impl Abort, tally: &'a Tally, map: &mut CountedMap<'a>) {
+    let replaced = map.replace_key(tally.thing(1, KEY));
+    let refused = map.replace_key(tally.thing(4, 256));
+    check_eq!(rt; (replaced.is_ok(), refused.is_err()), (true, true));
+    assert_dropped(rt, tally, 0);
+    drop(replaced);
+    assert_dropped(rt, tally, 1);
+    drop(refused);
+    assert_dropped(rt, tally, 1 | 256);
+    let mut entry = occupied(rt, map, tally.thing(1, 512));
+    assert_dropped(rt, tally, 1 | 256 | 512);
+    let replaced = entry.replace_key(tally.thing(1, VALUE));
+    let refused = entry.replace_key(tally.thing(2, 1024));
+    check_eq!(rt; (replaced.is_ok(), refused.is_err()), (true, true));
+    assert_dropped(rt, tally, 1 | 256 | 512);
+    drop(replaced);
+    assert_dropped(rt, tally, 1 | 256 | 512 | KEY);
+    drop(refused);
+    assert_dropped(rt, tally, 1 | 256 | 512 | KEY | 1024);
+}
+
+#[test]
+fn drops_no_key_that_is_replaced(rt: HostRuntime) {
+    let tally = Tally::new();
+    let mut map = counted_map_of(&rt, rt.alloc(), &tally, &PAIRS);
+    replace_keys(&rt, &tally, &mut map);
+    drop(map);
+    assert_dropped(&rt, &tally, 2047);
+}
+
 /// Writes the first value through the entry, which drops the value that was there.
 fn write_value<'a>(rt: &impl Abort, tally: &'a Tally, map: &mut CountedMap<'a>) {
     let mut entry = occupied(rt, map, tally.thing(1, KEY));

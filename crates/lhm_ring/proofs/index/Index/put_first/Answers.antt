@@ -17,6 +17,6 @@ returns-clause-words g c =
     let below : c.args.hash < 2 ^ 64 = c.ranges.hash.fits in
     let small : c.args.hash / 2 ^ 60 < 16 = omega arith in
     let long = length-words i.heads.items i.words.items c.self.view_is c.self.invariant.same_count in
-    rw (← c.self.view_is) (SetsBit-written i.words.items c.args.bucket c.args.hash (c.args.hash / 2 ^ 60) c.index-2.result.now
+    rw (← c.self.view_is) (SetsBit-written i.words.items c.args.bucket c.args.hash (c.args.hash / 2 ^ 60)
     (c.requires.of_hash ∙ ap (λ n. c.args.hash % n) long) (subst (λ n. c.args.bucket < n) long c.requires.within)
     refl small c.index-2.ensures)

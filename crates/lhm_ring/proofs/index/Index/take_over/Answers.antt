@@ -37,7 +37,8 @@ loop-pointer-preserved g c =
     let p = pointer_of c.in-Some.at in
     let at = ap pointer_of_some c.in-Some.is in
     record {
-      rehashing = IsRehashing-step i.rehashing p at c.put_in_by_hash.new.self c.put_in_by_hash.new.ring.held (pointer_of_some c.next-pointer.result)
+      rehashing = IsRehashing-step i.rehashing p at c.put_in_by_hash.new.self c.put_in_by_hash.new.ring.held
+          (pointer_of_some c.next-pointer.result)
           (length-rehashing i.rehashing p at
           (λ e. c.requires.some (ap (λ (z : BucketState). length z.heads)
           (sym c.replace.ensures.after) ∙ e))) c.put_in_by_hash.ensures.first c.next-pointer.ensures.next;

@@ -2,7 +2,7 @@ use Rattle.std.proofs.Common.{ap, sym, subst, set, ◌∙◌, List, Option}
 use denote.RawPtr.{Ptr}
 use Rattle.lhm_ring.proofs.indexes.IndexTakes.{HasOtherChains, IsHeld-on_chain, IsHeld-before}
 use Rattle.lhm_ring.proofs.indexes.IndexTakes.{HasOtherChains-take_first, HasOtherChains-take_next}
-use Rattle.lhm_ring.proofs.indexes.WholeBuckets.{HoldsOthers-next, HoldsOthers-head}
+use Rattle.lhm_ring.proofs.indexes.WholeBuckets.{SetsHead, HoldsOthers-next, HoldsOthers-head}
 use Rattle.lhm_ring.proofs.indexes.Entries.{entries-linked_to}
 use Rattle.lhm_ring.proofs.index.Index.unchain.Goals as goal
 use Rattle.lhm_ring.specs.Pointer.{pointer_of, pointer_of_some, target}
@@ -31,6 +31,13 @@ returns-in-None-clause-lacks g c =
     let new = c.set_head.ensures in
     let chains = HasOtherChains-take_first c.requires.on_chain (ap pointer_of_some c.in-None.is)
     c.requires.indexed.chains c.links.ensures.link in
-    HoldsOthers-head _ _ c.bucket_of.result link c.bucket_of.ensures.within new.heads new.others new.same new.count c.requires.indexed
+    let sets : SetsHead c.args.self.now c.set_head.new.self c.bucket_of.result link = record {
+      within = c.bucket_of.ensures.within;
+      heads = new.heads;
+      others = new.others;
+      same = new.same;
+      count = new.count;
+    } in
+    HoldsOthers-head sets c.requires.indexed
     (subst (λ (hs : List (Option Ptr)). HasOtherChains hs c.args.ring.now.held (pointer_of c.args.found.at))
     (sym (new.heads ∙ ap (λ b. set heads b link) c.bucket_of.ensures.of_hash)) chains)

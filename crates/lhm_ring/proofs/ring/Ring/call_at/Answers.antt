@@ -14,8 +14,9 @@ take-key-requires g c = Holds-inside c.self.inside c.self.invariant c.self.view_
 
 pub call-kept-requires : goal.call-kept-requires
 call-kept-requires g c =
-    let h = c.requires.held in let is = pair-inside c.self.inside c.self.invariant c.self.view_is _
-    c.args.at.block c.take-key.ensures.body h.before h.node h.after h.is h.at_is in
+    let h = c.requires.held in
+    let own = pair-inside c.self.inside c.self.invariant c.self.view_is _ c.args.at.block c.take-key.ensures.body in
+    let is = own h.before h.node h.after h.is h.at_is in
     λ p q key value. c.requires.takes p q (key ∙ ap (λ z. z.0) is) (value ∙ ap (λ z. z.1) is)
 
 pub fill-requires : goal.fill-requires
@@ -39,12 +40,12 @@ returns-clause-called g c =
     let z = c.fill.ensures.cells ∙ ap (with_body p (Some x)) c.take-key.ensures.cells ∙ with_body-twice p x c.self.inside.nodes.cells in
     let list = ring_list-set_value c.self.inside c.self.invariant c.self.view_is c.args.at.block
     c.requires.held c.take-key.ensures.body new z in
+    let own = pair-inside c.self.inside c.self.invariant v p c.args.at.block c.take-key.ensures.body in
     record {
       value = new;
       at_pair = λ xs t ys h at. subst (λ (z : g.row.K.Denot × g.row.V.Denot). CalledAtPair g.F.FnMut
           c.args.keep.now z.0 z.1 c.call-kept.result new c.call-kept.new.keep)
-          (pair-inside c.self.inside c.self.invariant c.self.view_is p c.args.at.block
-          c.take-key.ensures.body xs t ys h at) c.call-kept.ensures;
+          (own xs t ys h at) c.call-kept.ensures;
       new_is = λ y. state (list y) (v y).spares (v y).nodes;
     }
 

@@ -30,7 +30,7 @@ pub join-requires : goal.join-requires
 join-requires g c =
     let i = c.self.inside in let at = c.position-at.result.pointer in
     let ready = Ready-spare c.self.invariant.ring c.self.view_is c.requires c.position-at.ensures in
-    let filled = Filled-node i.ends i.nodes.cells
+    let filled = Filled-node i.ends
     (held at.ptr c.args.hash None (pair c.args.key c.args.value)) refl c.position-at.result.block
     c.links-old.ensures c.none.result c.none.ensures c.set_links.ensures.cells c.fill.ensures.cells in
     let t = is_there-filled ready filled in let T : Ptr → Type 0 = IsThere (ring_cells i.ends c.fill.new.self.cells) in
@@ -40,7 +40,7 @@ pub join-requires-2 : goal.join-requires-2
 join-requires-2 g c =
     let i = c.self.inside in let at = c.position-at.result.pointer in
     let ready = Ready-spare c.self.invariant.ring c.self.view_is c.requires c.position-at.ensures in
-    let filled = Filled-node i.ends i.nodes.cells
+    let filled = Filled-node i.ends
     (held at.ptr c.args.hash None (pair c.args.key c.args.value)) refl c.position-at.result.block
     c.links-old.ensures c.none.result c.none.ensures c.set_links.ensures.cells c.fill.ensures.cells in
     let t = is_there-filled ready filled in let T : Ptr → Type 0 = IsThere (ring_cells i.ends c.fill.new.self.cells) in (
@@ -52,7 +52,7 @@ pub invariant_of-self : goal.invariant_of-self
 invariant_of-self g c =
     let i = c.self.inside in let at = c.position-at.result.pointer in
     let ready = Ready-spare c.self.invariant.ring c.self.view_is c.requires c.position-at.ensures in
-    let filled = Filled-node i.ends i.nodes.cells
+    let filled = Filled-node i.ends
     (held at.ptr c.args.hash None (pair c.args.key c.args.value)) refl c.position-at.result.block
     c.links-old.ensures c.none.result c.none.ensures c.set_links.ensures.cells c.fill.ensures.cells in
     let node = led_to-some i.spare.ptr at.ptr c.position-at.ensures in
@@ -69,7 +69,7 @@ pub returns : goal.returns
 returns g c =
     let i = c.self.inside in let at = c.position-at.result.pointer in
     let ready = Ready-spare c.self.invariant.ring c.self.view_is c.requires c.position-at.ensures in
-    let filled = Filled-node i.ends i.nodes.cells
+    let filled = Filled-node i.ends
     (held at.ptr c.args.hash None (pair c.args.key c.args.value)) refl c.position-at.result.block
     c.links-old.ensures c.none.result c.none.ensures c.set_links.ensures.cells c.fill.ensures.cells in
     let node = led_to-some i.spare.ptr at.ptr c.position-at.ensures in

@@ -7,6 +7,5 @@ value-requires g c = Holds-inside c.self.inside c.self.invariant c.self.view_is 
 
 pub returns : goal.returns
 returns g c xs t ys h at =
-    ap (λ (z : g.row.K.Denot × g.row.V.Denot). z.1)
-    (pair-inside c.self.inside c.self.invariant c.self.view_is _ c.args.at.block
-    c.value.ensures.1 xs t ys h at)
+    let is = pair-inside c.self.inside c.self.invariant c.self.view_is _ c.args.at.block c.value.ensures.1 in
+    ap (λ (z : g.row.K.Denot × g.row.V.Denot). z.1) (is xs t ys h at)

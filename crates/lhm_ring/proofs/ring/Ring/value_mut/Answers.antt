@@ -20,7 +20,8 @@ invariant_of-self-lent g c w =
 
 pub returns : goal.returns
 returns g c =
-    let i = c.self.inside in let v = c.self.view_is in let e = c.value_mut.ensures.value.1 in (
+    let i = c.self.inside in let v = c.self.view_is in let e = c.value_mut.ensures.value.1 in
+    let is = pair-inside i c.self.invariant v _ c.args.at.block e in (
       (
         refl,
         λ w.
@@ -31,8 +32,6 @@ returns g c =
       record {
         writes_back = tt;
         alone = ChangesOnly-held c.self.invariant.ring v c.args.at.pointer.ptr;
-        value = λ xs t ys h at. ap (λ (z : g.row.K.Denot × g.row.V.Denot). z.1)
-            (pair-inside c.self.inside c.self.invariant c.self.view_is _ c.args.at.block e xs t ys h
-            at);
+        value = λ xs t ys h at. ap (λ (z : g.row.K.Denot × g.row.V.Denot). z.1) (is xs t ys h at);
       },
     )

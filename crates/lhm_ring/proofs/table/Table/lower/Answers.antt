@@ -12,7 +12,8 @@ returns-clause-falls g c =
     let held = length-table i.ring i.rechained c.self.view_is in
     let all = length-capacity i.ring i.rechained c.self.view_is in
     let within : length m.held ≤ m.capacity = omega (arith, held, all) in
-    let fewer : c.buckets_for.result ≡ buckets (length m.held) = c.buckets_for.ensures.value ∙ ap buckets (c.len-len.ensures.value ∙ held) in
+    let fewer : c.buckets_for.result ≡ buckets (length m.held) = c.buckets_for.ensures.value
+    ∙ ap buckets (c.len-len.ensures.value ∙ held) in
     let now : c.buckets.result ≡ buckets m.capacity = c.buckets.ensures ∙ c.self.invariant.indexed.count ∙ ap buckets all in
     OnErr-always c.lower_buckets.result
     (buckets-fall (length m.held) m.capacity within (λ same. c.if-buckets_for-buckets.false (fewer ∙ sym same ∙ sym now)))

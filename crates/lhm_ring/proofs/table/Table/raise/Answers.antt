@@ -14,11 +14,11 @@ invariant_of-self g c =
     let all = length-capacity i.ring i.rechained c.self.view_is in
     let up : length i.ring.held + i.ring.spares < c.args.capacity = omega (arith, all, c.requires.higher) in
     let enough : c.args.capacity ≤ length i.index.heads = omega (arith, c.if-capacity-buckets.true, c.buckets.ensures) in
+    let grown = c.grow_within.ensures in
     IsTable-grown c.self.invariant c.args.capacity up enough {t = c.grow_within.new.self}
-    c.grow_within.result _ _ c.buckets-then-capacity-buckets.ensures c.grow_within.ensures.held
-    c.grow_within.ensures.spares c.grow_within.ensures.nodes_within
-    c.grow_within.ensures.refused (omega (arith, all, up, c.capacity.ensures.value))
-    c.requires.limit
+    c.grow_within.result c.buckets-then-capacity-buckets.ensures
+    (record { held = grown.held; spares = grown.spares; nodes = grown.nodes_within; refused = grown.refused })
+    (omega (arith, all, up, c.capacity.ensures.value)) c.requires.limit
 
 pub returns-then-capacity-buckets-clause-rechained : goal.returns-then-capacity-buckets-clause-rechained
 returns-then-capacity-buckets-clause-rechained g c =
@@ -64,5 +64,6 @@ pub returns-clause-made : goal.returns-clause-made
 returns-clause-made g c =
     let m = c.args.self.now in
     OnOk-then c.raise_buckets.result c.raise_buckets.ensures.made (λ e.
-    e ∙ ap (λ n. nodes_grown m.made c.args.capacity (least_more (c.args.capacity - n) m.made (buckets c.args.capacity))) c.capacity.ensures.value
+    e ∙ ap (λ n. nodes_grown m.made c.args.capacity (least_more (c.args.capacity - n) m.made (buckets c.args.capacity)))
+    c.capacity.ensures.value
     ∙ sym (made_raised-higher m.made m.capacity c.args.capacity c.requires.higher))

@@ -27,4 +27,5 @@ returns-clause-found g c =
     let is = Some-last n c.key.result.now c.value.result.now (c.key.ensures n.before n.node [] n.is n.at_is)
     (c.value.ensures n.before n.node [] n.is n.at_is) in
     rw (← c.self.view_is) (find-own g.met.K.Eq.laws (pairs_of c.self.inside.table.held)
-    (distinct_keys c.self.inside.table.held c.self.invariant) (length (pairs_of c.self.inside.table.held) - 1) (c.key.result.now, c.value.result.now) (sym is))
+    (distinct_keys c.self.inside.table.held c.self.invariant) (length (pairs_of c.self.inside.table.held) - 1)
+    (c.key.result.now, c.value.result.now) (sym is))

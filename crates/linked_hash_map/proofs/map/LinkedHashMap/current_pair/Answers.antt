@@ -10,8 +10,8 @@ key-requires g c = (CutAt-current c.self.inside.table.held c.self.invariant c.cu
 pub value-requires : goal.value-requires
 value-requires g c = (CutAt-current c.self.inside.table.held c.self.invariant c.current.ensures c.unwrap-at.ensures).held
 
-pub returns : goal.returns
-returns g c =
+pub returns-clause-pair : goal.returns-clause-pair
+returns-clause-pair g c =
     let m = c.self.inside in
     let cut = CutAt-current c.self.inside.table.held c.self.invariant c.current.ensures c.unwrap-at.ensures in
     let h = cut.held in let key = c.key.ensures h.before h.node h.after h.is h.at_is in

@@ -7,9 +7,10 @@ use Rattle.linked_hash_map.proofs.map.LinkedHashMap.extend_refs.Goals as goal
 pub loop-key-preserved : goal.loop-key-preserved
 loop-key-preserved g c =
     let put = c.in-Ok.ensures in
-    IsExtended-put g.met.K.Eq.laws c.len-len.ensures.valid.distinct c.loop-key.invariant
-    c.in-Some.ensures.goes put.pairs put.capacity put.rechained put.made put.settings put.stays_valid
-    c.in-Ok._old put.old put.ends_visit put.to_visit put.as_many put.more
+    IsExtended-put g.met.K.Eq.laws c.len-len.ensures.valid.distinct c.loop-key.invariant c.in-Some.ensures.goes
+    (record { pairs = put.pairs; capacity = put.capacity; rechained = put.rechained; made = put.made; settings = put.settings })
+    put.stays_valid
+    (record { value = c.in-Ok._old; is = put.old; ends = put.ends_visit; stands = put.to_visit; as_many = put.as_many; more = put.more })
 
 pub loop-key-init : goal.loop-key-init
 loop-key-init g c =

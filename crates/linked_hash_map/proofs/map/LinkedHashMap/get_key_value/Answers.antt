@@ -1,12 +1,13 @@
 use Rattle.std.proofs.Common.{Some, sym, ap₂, ◌∙◌}
 use Rattle.linked_hash_map.proofs.nodes.StoredKeys.{find-stored}
+use Rattle.linked_hash_map.proofs.lists.Options.{of-Some, of-None}
 use Rattle.linked_hash_map.proofs.nodes.Kept.{distinct_keys}
 use Rattle.linked_hash_map.proofs.nodes.AbsentKeys.{hash_by-respects, find-IsAbsent}
 use Rattle.linked_hash_map.proofs.map.LinkedHashMap.get_key_value.Goals as goal
 
 pub returns : goal.returns
 returns g c =
-    let h = c.in_ok-found.ensures.found in let held = h.held in
+    let h = of-Some _ c.in_ok-found.was c.position.ensures.found in let held = h.held in
     rw (← c.self.view_is) (
     ap₂ (λ k v. Some (k, v)) (c.key.ensures held.before held.node held.after held.is held.at_is)
     (c.value.ensures held.before held.node held.after held.is held.at_is)
@@ -20,4 +21,4 @@ returns-in_err-found g c =
     (sym (find-IsAbsent (hash_by-respects g.S.Hasher.Hasher.finish g.S.Hasher.Hasher.write
     g.S.BuildHasher.build_hasher g.met.Q.Equivalent.respects_hash) m.hasher
     c.args.key c.hash_one-hash.ensures m.table.held c.self.invariant.hashed
-    c.in_err-found.ensures.absent))
+    (of-None c.in_err-found.was c.position.ensures.absent)))

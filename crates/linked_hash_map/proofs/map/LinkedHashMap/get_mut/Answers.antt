@@ -17,7 +17,7 @@ invariant_of-self-lent g c w = IsKept-same (bare-change (pointer_of c.in-Some.at
 pub returns-in-Some : goal.returns-in-Some
 returns-in-Some g c =
     let m = c.self.inside in let at = pointer_of c.in-Some.at in
-    let h = of-Some _ c.in-Some.is c.position.ensures.found in
+    let h = of-Some _ c.in-Some.is c.position-found.ensures.found in
     let laws = g.met.K.Eq.laws in let respects = g.met.Q.Equivalent.respects_eq c.args.key in
     let distinct = distinct_keys m.table.held c.self.invariant in
     let valid = IsValid-view m refl c.self.invariant in
@@ -49,7 +49,7 @@ returns-in-None g c =
             sym (value_at-IsAbsent (hash_by-respects g.S.Hasher.Hasher.finish
             g.S.Hasher.Hasher.write g.S.BuildHasher.build_hasher g.met.Q.Equivalent.respects_hash) m.hasher
             c.args.key c.hash_one-hash.ensures m.table.held c.self.invariant.hashed
-            (of-None c.in-None.is c.position.ensures.absent));
+            (of-None c.in-None.is c.position-found.ensures.absent));
         valid = IsValid-view m refl c.self.invariant;
         updates = λ v. tt;
         stays_valid = IsValid-set_value (IsValid-view m refl c.self.invariant) (g.Q.Equivalent.equivalent c.args.key);

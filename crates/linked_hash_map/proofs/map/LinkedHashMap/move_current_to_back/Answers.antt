@@ -33,8 +33,8 @@ elsewhere g c = IsElsewhere-current c.self.inside.table.held c.self.invariant (i
     (ap (λ m. m.cursor) c.self.view_is) c.requires.outside
 
 pub invariant_of-self : goal.invariant_of-self
-invariant_of-self g c = IsKept-touched g.met.K.Eq.laws c.self.inside.table.held c.move_to_back.new.self.held
-    c.self.invariant (is g c) (elsewhere g c) Touch (moved g c).touched c.move_to_back.ensures.keeps.capacity
+invariant_of-self g c = IsKept-touched g.met.K.Eq.laws c.self.invariant (is g c) (elsewhere g c) (moved g c)
+    c.move_to_back.ensures.keeps.capacity
 
 pub returns-clause-pairs : goal.returns-clause-pairs
 returns-clause-pairs g c =
@@ -53,17 +53,18 @@ returns-clause-pair g c =
 pub returns-clause-len : goal.returns-clause-len
 returns-clause-len g c =
     let hs = c.self.inside.table.held in let ks = c.move_to_back.new.self.held in
-    rw (← c.self.view_is) (length-pairs_of ks ∙ length-to_back hs ks c.move_to_back.ensures.last (moved g c).lies ∙ sym (length-pairs_of hs))
+    rw (← c.self.view_is) (length-pairs_of ks ∙ length-to_back hs ks c.move_to_back.ensures.last (moved g c).lies
+    ∙ sym (length-pairs_of hs))
 
 pub returns-clause-to_visit : goal.returns-clause-to_visit
-returns-clause-to_visit g c = rw (← c.self.view_is) (to_visit-touched g.met.K.Eq.laws c.self.inside.table.held
-    c.move_to_back.new.self.held c.self.invariant (is g c) (elsewhere g c) Touch (moved g c).touched)
+returns-clause-to_visit g c = rw (← c.self.view_is) (to_visit-touched g.met.K.Eq.laws
+    c.self.invariant (is g c) (elsewhere g c) (moved g c))
 
 pub returns-clause-outside : goal.returns-clause-outside
 returns-clause-outside g c =
     let ks = c.move_to_back.new.self.held in
     subst (λ k. IsElsewhere k (visit_of c.self.inside.visit) (bare ks)) (sym (current_at-Some (is g c) ks))
-    (elsewhere-touched g.met.K.Eq.laws c.self.inside.table.held ks c.self.invariant (is g c) (elsewhere g c) Touch (moved g c).touched)
+    (elsewhere-touched g.met.K.Eq.laws c.self.invariant (is g c) (elsewhere g c) (moved g c))
 
 pub returns-clause-stays_valid : goal.returns-clause-stays_valid
 returns-clause-stays_valid g c = IsValid-kept _ (invariant_of-self g c) refl refl refl

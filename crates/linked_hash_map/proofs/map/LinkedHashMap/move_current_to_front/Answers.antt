@@ -5,7 +5,8 @@ use Rattle.linked_hash_map.proofs.pairs.Indexes.{to_front-index}
 use Rattle.linked_hash_map.proofs.nodes.HeldPairs.{length-pairs_of}
 use Rattle.linked_hash_map.proofs.nodes.Kept.{distinct_keys, IsValid-kept}
 use Rattle.linked_hash_map.proofs.nodes.Current.{current_of-Some, current_at-Some, before-current, CutAt-current, IsElsewhere-current}
-use Rattle.linked_hash_map.proofs.nodes.MovedToFront.{pairs-moved, length-to_front, before-at_front, IsKept-moved, to_visit-moved, elsewhere-moved}
+use Rattle.linked_hash_map.proofs.nodes.MovedToFront.{pairs-moved, length-to_front, before-at_front, IsKept-moved}
+use Rattle.linked_hash_map.proofs.nodes.MovedToFront.{to_visit-moved, elsewhere-moved}
 use Rattle.linked_hash_map.proofs.nodes.Outside.{IsElsewhere}
 use Rattle.linked_hash_map.proofs.map.LinkedHashMap.move_current_to_front.Goals as goal
 use Rattle.lhm_ring.specs.Pointer.{pointer_of}

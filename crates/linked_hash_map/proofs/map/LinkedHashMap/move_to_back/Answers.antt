@@ -19,7 +19,7 @@ use Rattle.lhm_ring.specs.Search.{HasKey}
 has : (g : _) (c : goal.After-move_to_back g)
     → HasKey (g.Q.Equivalent.equivalent c.args.key) c.hash_one-hash.result c.self.inside.table.held
     (pointer_of c.in-Some.at)
-has g c = of-Some _ c.in-Some.is c.position.ensures.found
+has g c = of-Some _ c.in-Some.is c.position-found.ensures.found
 
 -- the pair of the stored key is moved
 moved : (g : _) (c : goal.After-move_to_back g) → pairs_of c.move_to_back.new.self.held
@@ -44,7 +44,8 @@ pub returns-in-Some-clause-pairs : goal.returns-in-Some-clause-pairs
 returns-in-Some-clause-pairs g c =
     let hs = c.self.inside.table.held in
     rw (← c.self.view_is)
-    (moved g c ∙ ap (λ (test : g.row.K.Denot → Bool). filter (λ pair. not (test pair.0)) (pairs_of hs) ++ option_to_list (lookup_entry test (pairs_of hs)))
+    (moved g c ∙ ap (λ (test : g.row.K.Denot → Bool). filter (λ pair. not (test pair.0)) (pairs_of hs)
+    ++ option_to_list (lookup_entry test (pairs_of hs)))
     (eq-stored g.met.K.Eq.laws (g.met.Q.Equivalent.respects_eq c.args.key) (has g c)))
 
 pub returns-in-Some-clause-stays_valid : goal.returns-in-Some-clause-stays_valid
@@ -67,7 +68,7 @@ returns-in-None-clause-found g c =
     rw (← c.self.view_is) (sym (ap is_some (find-IsAbsent (hash_by-respects g.S.Hasher.Hasher.finish
     g.S.Hasher.Hasher.write g.S.BuildHasher.build_hasher g.met.Q.Equivalent.respects_hash) m.hasher
     c.args.key c.hash_one-hash.ensures m.table.held c.self.invariant.hashed
-    (of-None c.in-None.is c.position.ensures.absent))))
+    (of-None c.in-None.is c.position-found.ensures.absent))))
 
 pub returns-in-None-clause-pairs : goal.returns-in-None-clause-pairs
 returns-in-None-clause-pairs g c =
@@ -76,4 +77,4 @@ returns-in-None-clause-pairs g c =
     (find-IsAbsent (hash_by-respects g.S.Hasher.Hasher.finish g.S.Hasher.Hasher.write
     g.S.BuildHasher.build_hasher g.met.Q.Equivalent.respects_hash) m.hasher c.args.key
     c.hash_one-hash.ensures m.table.held c.self.invariant.hashed
-    (of-None c.in-None.is c.position.ensures.absent))))
+    (of-None c.in-None.is c.position-found.ensures.absent))))

@@ -2,6 +2,7 @@ use Rattle.std.proofs.Common.{◌≡◌, List, take, drop, Some, None, refl, sym
 use Rattle.std.specs.Map.{keys_of}
 use Rattle.linked_hash_map.specs.Nodes.{pairs_of, bare, bookmark_at, bookmark_of, unvisited_of}
 use Rattle.linked_hash_map.specs.Pairs.{find}
+use Rattle.linked_hash_map.proofs.lists.Options.{of-Some, of-None}
 use Rattle.linked_hash_map.proofs.pairs.Calls.{filter-none}
 use Rattle.linked_hash_map.proofs.nodes.Kept.{distinct_keys, IsValid-kept}
 use Rattle.linked_hash_map.proofs.nodes.AbsentKeys.{hash_by-respects, find-IsAbsent}
@@ -13,19 +14,19 @@ use Rattle.lhm_ring.specs.Ring.{Held}
 use Rattle.lhm_ring.specs.Table.{TableState}
 
 -- a key that is not found is absent
-absent : (g : _) (c : goal.After-from_residual g) → find g.Q.Equivalent.equivalent c.args.self.now.pairs c.args.key ≡ None
+absent : (g : _) (c : goal.After-drop-remove g) → find g.Q.Equivalent.equivalent c.args.self.now.pairs c.args.key ≡ None
 absent g c =
     let m = c.self.inside in
     rw (← c.self.view_is) (find-IsAbsent (hash_by-respects g.S.Hasher.Hasher.finish
     g.S.Hasher.Hasher.write g.S.BuildHasher.build_hasher g.met.Q.Equivalent.respects_hash) m.hasher
-    c.args.key c.hash_one-hash.ensures m.table.held c.self.invariant.hashed c.in_err-pair.ensures.absent)
+    c.args.key c.hash_one-hash.ensures m.table.held c.self.invariant.hashed (of-None c.in_err-pair.was c.remove.ensures.absent))
 
 pub returns-in_err-pair-clause-pair : goal.returns-in_err-pair-clause-pair
 returns-in_err-pair-clause-pair g c = c.from_residual.ensures ∙ sym (absent g c)
 
 -- and then no pair changes
-same : (g : _) (c : goal.After-from_residual g) → c.remove.new.self.held ≡ c.self.inside.table.held
-same g c = ap (λ (s : TableState _). s.held) c.in_err-pair.ensures.unchanged
+same : (g : _) (c : goal.After-drop-remove g) → c.remove.new.self.held ≡ c.self.inside.table.held
+same g c = ap (λ (s : TableState _). s.held) (of-None c.in_err-pair.was c.remove.ensures.unchanged)
 
 pub returns-in_err-pair-clause-pairs : goal.returns-in_err-pair-clause-pairs
 returns-in_err-pair-clause-pairs g c =
@@ -49,13 +50,13 @@ returns-in_err-pair-clause-same g c =
 
 pub invariant_of-self-2 : goal.invariant_of-self-2
 invariant_of-self-2 g c =
-    let removed = c.in_ok-pair.ensures.removed in
+    let removed = of-Some _ c.in_ok-pair.was c.remove.ensures.removed in
     IsKept-removed c.self.inside.table.held c.remove.new.self.held removed.others
-    (before-HasKey removed.has) c.self.invariant c.in_ok-pair.ensures.keeps.capacity
+    (before-HasKey removed.has) c.self.invariant c.remove.ensures.keeps.capacity
 
 pub returns-clause-pair : goal.returns-clause-pair
 returns-clause-pair g c =
-    let m = c.self.inside in let removed = c.in_ok-pair.ensures.removed in let held = removed.has.held in
+    let m = c.self.inside in let removed = of-Some _ c.in_ok-pair.was c.remove.ensures.removed in let held = removed.has.held in
     rw (← c.self.view_is) (
     ap Some (removed.pair_is held.before held.node held.after held.is held.at_is)
     ∙ sym (find-stored g.met.K.Eq.laws (g.met.Q.Equivalent.respects_eq c.args.key) removed.has
@@ -64,7 +65,7 @@ returns-clause-pair g c =
 
 pub returns-clause-pairs : goal.returns-clause-pairs
 returns-clause-pairs g c =
-    let m = c.self.inside in let removed = c.in_ok-pair.ensures.removed in
+    let m = c.self.inside in let removed = of-Some _ c.in_ok-pair.was c.remove.ensures.removed in
     rw (← c.self.view_is) (
     without-stored g.met.K.Eq.laws (g.met.Q.Equivalent.respects_eq c.args.key) removed.has
     (distinct_keys m.table.held c.self.invariant) removed.others
@@ -72,7 +73,7 @@ returns-clause-pairs g c =
 
 pub returns-clause-updates : goal.returns-clause-updates
 returns-clause-updates g c =
-    let m = c.self.inside in let removed = c.in_ok-pair.ensures.removed in
+    let m = c.self.inside in let removed = of-Some _ c.in_ok-pair.was c.remove.ensures.removed in
     rw (← c.self.view_is) (
     UpdatesBy-without g.met.K.Eq.laws (g.met.Q.Equivalent.respects_eq c.args.key) removed.has
     (distinct_keys m.table.held c.self.invariant) removed.others
@@ -80,7 +81,7 @@ returns-clause-updates g c =
 
 pub returns-clause-fewer : goal.returns-clause-fewer
 returns-clause-fewer g c =
-    let m = c.self.inside in let removed = c.in_ok-pair.ensures.removed in
+    let m = c.self.inside in let removed = of-Some _ c.in_ok-pair.was c.remove.ensures.removed in
     rw (← c.self.view_is) (
     length-without_stored g.met.K.Eq.laws (g.met.Q.Equivalent.respects_eq c.args.key) removed.has
     (distinct_keys m.table.held c.self.invariant) removed.others

@@ -142,7 +142,7 @@ returns-clause-capacity g c =
     let now = rw c.allocate_for_put.ensures.pairs at c.store-old.ensures.sessions in
     rw (← c.self.view_is) (
     c.store-old.ensures.capacity
-    ∙ capacity-put leaving.result.is_new leaving.result.count ps c.args.id c.args.weight c.args.payload
+    ∙ capacity-put leaving.result.is_new ps (c.args.id, c.args.weight, c.args.payload)
     c.self.invariant.valid.within c.self.invariant.valid.distinct leaving.ensures.is_new leaving.ensures.within
     c.in-Ok.ensures.raised c.in-Ok.ensures.same_room
     ∙ ap (λ l. max c.self.inside.map.capacity (length l)) (sym now))

@@ -124,7 +124,7 @@ returns-clause-capacity g c =
     let now = rw c.make_room.ensures.pairs at c.store_with-old.ensures.sessions in
     rw (← c.self.view_is) (
     c.store_with-old.ensures.capacity
-    ∙ capacity-put leaving.result.is_new leaving.result.count ps c.args.id c.args.weight c.args.payload
+    ∙ capacity-put leaving.result.is_new ps (c.args.id, c.args.weight, c.args.payload)
     c.self.invariant.valid.within c.self.invariant.valid.distinct leaving.ensures.is_new leaving.ensures.within
     c.in-Ok.ensures.raised c.in-Ok.ensures.same_room
     ∙ ap (λ l. max c.self.inside.map.capacity (length l)) (sym now))

@@ -1,0 +1,42 @@
+use Rattle.std.proofs.Common.{◌≡◌, ◌++◌, ◌∷◌, None, ap, ◌∙◌, arith}
+use Rattle.lhm_ring.proofs.tables.Tables.{IsHeld-table, AtHeld-table, length-capacity, length-rekeyed, IsTable-rekeyed}
+use Rattle.lhm_ring.proofs.indexes.Entries.{entries-append}
+use Rattle.lhm_ring.proofs.table.Table.replace_key.Goals as goal
+use Rattle.lhm_ring.specs.Pointer.{pointer_of}
+use Rattle.lhm_ring.specs.Ring.{IsHeld, linked_to, rekeyed}
+use Rattle.lhm_ring.specs.Index.{entries}
+
+-- the pair is held in the ring
+held : (g : _) (c : goal.After-replace_key g) → IsHeld c.self.inside.ring.held (pointer_of c.args.at)
+held g c = IsHeld-table c.self.inside.ring c.self.inside.rechained c.self.view_is (pointer_of c.args.at) c.requires
+
+pub replace_key-requires : goal.replace_key-requires
+replace_key-requires g c = IsHeld-table c.self.inside.ring c.self.inside.rechained c.self.view_is (pointer_of c.args.at) c.requires
+
+pub invariant_of-self : goal.invariant_of-self
+invariant_of-self g c =
+    let written = c.replace_key.ensures in
+    IsTable-rekeyed c.self.invariant c.replace_key.new.self c.args.key (held g c) written.held written.spares written.nodes
+
+pub returns-clause-held : goal.returns-clause-held
+returns-clause-held g c =
+    AtHeld-table c.self.inside.ring c.self.inside.rechained c.self.view_is (pointer_of c.args.at)
+    (λ xs t ys. entries c.replace_key.new.self.held ≡ xs ++ rekeyed c.args.key t ∷ ys)
+    (λ xs t ys e at. ap entries (c.replace_key.ensures.held xs t ys e at)
+    ∙ entries-append xs (rekeyed c.args.key t ∷ ys))
+
+pub returns-clause-old : goal.returns-clause-old
+returns-clause-old g c =
+    AtHeld-table c.self.inside.ring c.self.inside.rechained c.self.view_is (pointer_of c.args.at)
+    (λ xs t ys. c.replace_key.result ≡ t.pair.0) c.replace_key.ensures.old
+
+pub returns-clause-keeps : goal.returns-clause-keeps
+returns-clause-keeps g c =
+    let written = c.replace_key.ensures in
+    let long = length-rekeyed c.self.invariant c.replace_key.new.self c.args.key (held g c) written.held in
+    let all = length-capacity c.self.inside.ring c.self.inside.rechained c.self.view_is in
+    record {
+      capacity = omega (arith, long, written.spares, all);
+      rechained = ap (λ s. s.rechained) c.self.view_is;
+      made = written.nodes ∙ ap (λ s. s.made) c.self.view_is;
+    }

@@ -1,0 +1,54 @@
+-- For callers: the pairs with a key in place of the stored key that is the same. Each key finds the
+-- same value.
+use Rattle.std.proofs.Common.{◌≡◌, Bool, true, false, cond, List, [], ◌∷◌, map, length, Option, Some, None, option_map}
+use Rattle.std.proofs.Common.{refl, ap, ap₂, ◌∙◌}
+use Rattle.std.specs.Cmp.{IsEquivalence}
+use Rattle.std.specs.Map.{keys_of, values_of}
+use Rattle.std.proofs.lemmas.List.{length-map}
+use Rattle.linked_hash_map.specs.Pairs.{find, value_at, replaced, set_key}
+-- of a key that is absent
+pub use Rattle.linked_hash_map.proofs.pairs.Calls.{set_key-absent}
+
+module _ {K V : Type 0} (eq : K → K → Bool) where
+  pub keys_of-set_key : (pairs : List (K × V)) (k : K) → keys_of (set_key eq pairs k) ≡ map (replaced eq k) (keys_of pairs)
+  keys_of-set_key [] k = refl
+  keys_of-set_key (pair ∷ pairs) k = ap (λ ks. replaced eq k pair.0 ∷ ks) (keys_of-set_key pairs k)
+
+  pub values_of-set_key : (pairs : List (K × V)) (k : K) → values_of (set_key eq pairs k) ≡ values_of pairs
+  values_of-set_key [] k = refl
+  values_of-set_key (pair ∷ pairs) k = ap (λ vs. pair.1 ∷ vs) (values_of-set_key pairs k)
+
+  pub length-set_key : (pairs : List (K × V)) (k : K) → length (set_key eq pairs k) ≡ length pairs
+  length-set_key pairs k = length-map pairs (λ pair. (replaced eq k pair.0, pair.1))
+
+-- each key is the same as before
+pub eq-replaced : {K : Type 0} {eq : K → K → Bool} → IsEquivalence eq → (k stored q : K) → eq q (replaced eq k stored) ≡ eq q stored
+eq-replaced {eq = eq} laws k stored q = by_test (eq k stored) refl
+  where
+    by_test : (b : Bool) → eq k stored ≡ b → eq q (cond b k stored) ≡ eq q stored
+    by_test true same = laws.symm q k ∙ laws.congr k stored q same ∙ laws.symm stored q
+    by_test false apart = refl
+
+module _ {K V : Type 0} {eq : K → K → Bool} (laws : IsEquivalence eq) where
+  abbrev rekeyed : K → K × V → K × V
+  rekeyed k pair = (replaced eq k pair.0, pair.1)
+
+  pub find-set_key : (pairs : List (K × V)) (k q : K)
+      → find eq (set_key eq pairs k) q ≡ option_map (λ (pair : K × V). (replaced eq k pair.0, pair.1)) (find eq pairs q)
+  find-set_key [] k q = refl
+  find-set_key (first ∷ pairs) k q =
+      ap₂ (λ b o. cond b (Some (rekeyed k first)) o) (eq-replaced laws k first.0 q) (find-set_key pairs k q)
+      ∙ by_test (eq q first.0)
+    where
+      by_test : (b : Bool) → cond b (Some (rekeyed k first)) (option_map (rekeyed k) (find eq pairs q))
+          ≡ option_map (rekeyed k) (cond b (Some first) (find eq pairs q))
+      by_test true = refl
+      by_test false = refl
+
+  pub value_at-set_key : (pairs : List (K × V)) (k q : K) → value_at eq (set_key eq pairs k) q ≡ value_at eq pairs q
+  value_at-set_key pairs k q = ap (option_map (λ (pair : K × V). pair.1)) (find-set_key pairs k q) ∙ by_pair (find eq pairs q)
+    where
+      by_pair : (o : Option (K × V)) → option_map (λ (pair : K × V). pair.1) (option_map (rekeyed k) o)
+          ≡ option_map (λ (pair : K × V). pair.1) o
+      by_pair None = refl
+      by_pair (Some pair) = refl

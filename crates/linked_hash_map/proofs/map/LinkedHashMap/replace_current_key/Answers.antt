@@ -1,0 +1,90 @@
+use Rattle.std.proofs.Common.{◌≡◌, IsTrue, Some, slice_get, length, option_map, refl, sym, ap, ◌∙◌, subst}
+use Rattle.linked_hash_map.specs.LinkedMap.{LinkedMap}
+use Rattle.linked_hash_map.specs.Nodes.{pairs_of, bare, visit_of, current_of, current_at}
+use Rattle.linked_hash_map.specs.Indexes.{IsIndex}
+use Rattle.linked_hash_map.proofs.nodes.AbsentKeys.{hash_by-respects}
+use Rattle.linked_hash_map.proofs.nodes.Current.{current_of-Some, current_at-Some, CutAt-current, IsElsewhere-current}
+use Rattle.linked_hash_map.proofs.nodes.CutNodes.{CutAt, slice_get-held}
+use Rattle.linked_hash_map.proofs.nodes.HeldPairs.{length-pairs_of}
+use Rattle.linked_hash_map.proofs.nodes.Kept.{distinct_keys, IsValid-kept}
+use Rattle.linked_hash_map.proofs.nodes.Outside.{IsElsewhere}
+use Rattle.linked_hash_map.proofs.nodes.ReplacedKey.{cursor_at-rekeyed, slice_get-rekeyed, length-rekeyed_nodes}
+use Rattle.linked_hash_map.proofs.nodes.ReplacedKey.{to_visit-rekeyed, set_key-rekeyed, IsKept-rekeyed}
+use Rattle.linked_hash_map.proofs.map.LinkedHashMap.replace_current_key.Goals as goal
+use Rattle.lhm_ring.proofs.lists.Options.{Some-injective}
+use Rattle.lhm_ring.specs.Pointer.{pointer_of}
+
+-- the current pair's node
+cut : (g : _) (c : goal.After-replace_key g) → CutAt (pointer_of c.unwrap-at.result) c.self.inside.table.held
+cut g c = CutAt-current c.self.inside.table.held c.self.invariant c.current.ensures c.unwrap-at.ensures
+
+-- its index
+index : (g : _) (c : goal.After-replace_key g)
+    → current_at (current_of c.self.inside.visit) (bare c.self.inside.table.held) ≡ length (cut g c).held.before
+index g c = current_at-Some (current_of-Some c.current.ensures c.unwrap-at.ensures) c.self.inside.table.held ∙ sym (cut g c).long
+
+-- its key is the same
+same : (g : _) (c : goal.After-replace_key g) → IsTrue (g.K.PartialEq.eq c.args.key (cut g c).held.node.pair.0)
+same g c =
+    let hs = c.self.inside.table.held in
+    let there : IsIndex g.K.PartialEq.eq (pairs_of hs) c.args.key (current_at (current_of c.self.inside.visit) (bare hs)) =
+    subst (λ (m : LinkedMap g.row.K.Denot g.row.V.Denot g.row.S.Denot). IsIndex g.K.PartialEq.eq m.pairs c.args.key m.cursor.current)
+    (sym c.self.view_is) c.requires.same in
+    ap (λ pair. g.K.PartialEq.eq c.args.key pair.0)
+    (Some-injective _ _ (sym (slice_get-held (cut g c).held) ∙ ap (slice_get (pairs_of hs)) (sym (index g c)) ∙ there.there))
+    ∙ there.same
+
+pub replace_key-requires : goal.replace_key-requires
+replace_key-requires g c = (CutAt-current c.self.inside.table.held c.self.invariant c.current.ensures c.unwrap-at.ensures).held
+
+pub invariant_of-self : goal.invariant_of-self
+invariant_of-self g c =
+    let h = (cut g c).held in
+    IsKept-rekeyed h c.args.key c.replace_key.ensures.held g.met.K.Eq.laws (same g c) c.self.invariant
+    (hash_by-respects g.S.Hasher.Hasher.finish g.S.Hasher.Hasher.write g.S.BuildHasher.build_hasher
+    g.met.K.Hash.respects_eq c.self.inside.hasher c.args.key h.node.pair.0 (same g c))
+    c.replace_key.ensures.keeps.capacity
+
+pub returns-clause-stored : goal.returns-clause-stored
+returns-clause-stored g c =
+    let hs = c.self.inside.table.held in let h = (cut g c).held in
+    rw (← c.self.view_is)
+    (ap (λ i. option_map (λ pair. pair.0) (slice_get (pairs_of hs) i)) (index g c)
+    ∙ ap (option_map (λ pair. pair.0)) (slice_get-held h)
+    ∙ ap Some (sym (c.replace_key.ensures.old h.before h.node h.after h.is h.at_is)))
+
+pub returns-clause-pairs : goal.returns-clause-pairs
+returns-clause-pairs g c =
+    rw (← c.self.view_is) (set_key-rekeyed (cut g c).held c.args.key c.replace_key.ensures.held g.met.K.Eq.laws (same g c)
+    (distinct_keys c.self.inside.table.held c.self.invariant))
+
+pub returns-clause-pair : goal.returns-clause-pair
+returns-clause-pair g c =
+    let hs = c.self.inside.table.held in let ks = c.replace_key.new.self.held in let h = (cut g c).held in
+    rw (← c.self.view_is) (λ pair there.
+    let is = Some-injective _ _ (sym (slice_get-held h) ∙ ap (slice_get (pairs_of hs)) (sym (index g c)) ∙ there) in
+    let at = ap (λ cursor. cursor.current) (cursor_at-rekeyed h c.args.key c.replace_key.ensures.held (visit_of c.self.inside.visit)) in
+    ap (slice_get (pairs_of ks)) (at ∙ index g c)
+    ∙ slice_get-rekeyed h c.args.key c.replace_key.ensures.held
+    ∙ ap (λ p. Some (c.args.key, p.1)) is)
+
+pub returns-clause-len : goal.returns-clause-len
+returns-clause-len g c =
+    let hs = c.self.inside.table.held in let ks = c.replace_key.new.self.held in
+    rw (← c.self.view_is) (length-pairs_of ks
+    ∙ length-rekeyed_nodes (cut g c).held c.args.key c.replace_key.ensures.held ∙ sym (length-pairs_of hs))
+
+pub returns-clause-cursor : goal.returns-clause-cursor
+returns-clause-cursor g c =
+    rw (← c.self.view_is) (cursor_at-rekeyed (cut g c).held c.args.key c.replace_key.ensures.held (visit_of c.self.inside.visit))
+
+pub returns-clause-to_visit : goal.returns-clause-to_visit
+returns-clause-to_visit g c =
+    let hs = c.self.inside.table.held in let visit = visit_of c.self.inside.visit in
+    let elsewhere = IsElsewhere-current hs c.self.invariant (current_of-Some c.current.ensures c.unwrap-at.ensures)
+    c.args.self.now (ap (λ m. m.cursor) c.self.view_is) c.requires.outside in
+    rw (← c.self.view_is) (to_visit-rekeyed (cut g c).held c.args.key c.replace_key.ensures.held visit
+    (subst (λ i. IsElsewhere i visit (bare hs)) (sym (cut g c).long) elsewhere))
+
+pub returns-clause-stays_valid : goal.returns-clause-stays_valid
+returns-clause-stays_valid g c = IsValid-kept _ (invariant_of-self g c) refl refl refl

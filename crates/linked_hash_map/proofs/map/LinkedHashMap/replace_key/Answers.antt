@@ -1,0 +1,112 @@
+use Rattle.std.proofs.Common.{◌≡◌, Some, None, map, take, drop, length, option_map, refl, sym, ap, ◌∙◌}
+use Rattle.std.specs.Map.{keys_of}
+use Rattle.std.proofs.lemmas.List.{take-map, drop-map}
+use Rattle.linked_hash_map.specs.Nodes.{pairs_of, bare, bookmark_at, visit_of}
+use Rattle.linked_hash_map.specs.Pairs.{find, value_at, replaced, set_key}
+use Rattle.linked_hash_map.proofs.Callers.ReplacedKeys.{keys_of-set_key, value_at-set_key, length-set_key, set_key-absent}
+use Rattle.linked_hash_map.proofs.lists.Options.{of-Some, of-None}
+use Rattle.linked_hash_map.proofs.nodes.AbsentKeys.{hash_by-respects, find-IsAbsent}
+use Rattle.linked_hash_map.proofs.nodes.Kept.{distinct_keys, IsValid-kept}
+use Rattle.linked_hash_map.proofs.nodes.ReplacedKey.{cursor_at-rekeyed, set_key-rekeyed, IsKept-rekeyed}
+use Rattle.linked_hash_map.proofs.nodes.StoredKeys.{find-stored}
+use Rattle.linked_hash_map.proofs.map.LinkedHashMap.replace_key.Goals as goal
+use Rattle.lhm_ring.specs.Pointer.{pointer_of}
+use Rattle.lhm_ring.specs.Search.{HasKey}
+
+-- a position that is found is that of the key
+has : (g : _) (c : goal.After-replace_key g)
+    → HasKey (g.K.PartialEq.eq c.args.key) c.hash_one-hash.result c.self.inside.table.held
+    (pointer_of c.in-Some.at)
+has g c = of-Some _ c.in-Some.is c.position-found.ensures.found
+
+-- and the pairs have the key there
+pairs : (g : _) (c : goal.After-replace_key g) → pairs_of c.replace_key.new.self.held
+    ≡ set_key g.K.PartialEq.eq (pairs_of c.self.inside.table.held) c.args.key
+pairs g c =
+    let h = (has g c).held in
+    set_key-rekeyed h c.args.key c.replace_key.ensures.held g.met.K.Eq.laws
+    ((has g c).key_is h.before h.node h.after h.is h.at_is) (distinct_keys c.self.inside.table.held c.self.invariant)
+
+-- a key that is not found is absent
+absent : (g : _) (c : goal.In-None g) → find g.K.PartialEq.eq (pairs_of c.self.inside.table.held) c.args.key ≡ None
+absent g c =
+    let m = c.self.inside in
+    find-IsAbsent (hash_by-respects g.S.Hasher.Hasher.finish g.S.Hasher.Hasher.write
+    g.S.BuildHasher.build_hasher g.met.K.Hash.respects_eq) m.hasher c.args.key c.hash_one-hash.ensures m.table.held
+    c.self.invariant.hashed (of-None c.in-None.is c.position-found.ensures.absent)
+
+same_keys : (g : _) (c : goal.In-None g) → keys_of (pairs_of c.self.inside.table.held)
+    ≡ map (replaced g.K.PartialEq.eq c.args.key) (keys_of (pairs_of c.self.inside.table.held))
+same_keys g c =
+    let ps = pairs_of c.self.inside.table.held in
+    sym (ap keys_of (set_key-absent g.K.PartialEq.eq ps c.args.key (absent g c))) ∙ keys_of-set_key g.K.PartialEq.eq ps c.args.key
+
+pub replace_key-requires : goal.replace_key-requires
+replace_key-requires g c = (of-Some _ c.in-Some.is c.position-found.ensures.found).held
+
+pub invariant_of-self : goal.invariant_of-self
+invariant_of-self g c =
+    let h = (has g c).held in let same = (has g c).key_is h.before h.node h.after h.is h.at_is in
+    IsKept-rekeyed h c.args.key c.replace_key.ensures.held g.met.K.Eq.laws same c.self.invariant
+    (hash_by-respects g.S.Hasher.Hasher.finish g.S.Hasher.Hasher.write g.S.BuildHasher.build_hasher
+    g.met.K.Hash.respects_eq c.self.inside.hasher c.args.key h.node.pair.0 same)
+    c.replace_key.ensures.keeps.capacity
+
+pub returns-in-Some-clause-stored : goal.returns-in-Some-clause-stored
+returns-in-Some-clause-stored g c =
+    let h = (has g c).held in
+    rw (← c.self.view_is)
+    (ap (option_map (λ pair. pair.0)) (find-stored g.met.K.Eq.laws (λ x y same. g.met.K.Eq.laws.congr c.args.key x y same)
+    (has g c) (distinct_keys c.self.inside.table.held c.self.invariant))
+    ∙ ap Some (sym (c.replace_key.ensures.old h.before h.node h.after h.is h.at_is)))
+
+pub returns-in-Some-clause-pairs : goal.returns-in-Some-clause-pairs
+returns-in-Some-clause-pairs g c = rw (← c.self.view_is) (pairs g c)
+
+pub returns-in-Some-clause-to_visit : goal.returns-in-Some-clause-to_visit
+returns-in-Some-clause-to_visit g c =
+    let hs = c.self.inside.table.held in let visit = visit_of c.self.inside.visit in
+    let keys = keys_of (pairs_of hs) in let b = bookmark_at visit.bookmark (bare hs) in
+    let f = replaced g.K.PartialEq.eq c.args.key in
+    rw (← c.self.view_is)
+    (ap (λ start. take visit.unvisited (drop start (keys_of (pairs_of c.replace_key.new.self.held))))
+    (ap (λ cursor. cursor.bookmark) (cursor_at-rekeyed (has g c).held c.args.key c.replace_key.ensures.held visit))
+    ∙ ap (λ ps. take visit.unvisited (drop b (keys_of ps))) (pairs g c)
+    ∙ ap (λ ks. take visit.unvisited (drop b ks)) (keys_of-set_key g.K.PartialEq.eq (pairs_of hs) c.args.key)
+    ∙ ap (take visit.unvisited) (drop-map f b keys)
+    ∙ take-map f visit.unvisited (drop b keys))
+
+pub returns-in-Some-clause-stays_valid : goal.returns-in-Some-clause-stays_valid
+returns-in-Some-clause-stays_valid g c = IsValid-kept _ (invariant_of-self g c) refl refl refl
+
+pub returns-in-Some-clause-keys : goal.returns-in-Some-clause-keys
+returns-in-Some-clause-keys g c =
+    rw (← c.self.view_is) (ap keys_of (pairs g c) ∙ keys_of-set_key g.K.PartialEq.eq (pairs_of c.self.inside.table.held) c.args.key)
+
+pub returns-in-Some-clause-values : goal.returns-in-Some-clause-values
+returns-in-Some-clause-values g c =
+    rw (← c.self.view_is) (λ q. ap (λ ps. value_at g.K.PartialEq.eq ps q) (pairs g c)
+    ∙ value_at-set_key g.met.K.Eq.laws (pairs_of c.self.inside.table.held) c.args.key q)
+
+pub returns-in-Some-clause-len : goal.returns-in-Some-clause-len
+returns-in-Some-clause-len g c =
+    rw (← c.self.view_is) (ap length (pairs g c) ∙ length-set_key g.K.PartialEq.eq (pairs_of c.self.inside.table.held) c.args.key)
+
+pub returns-in-None-clause-pairs : goal.returns-in-None-clause-pairs
+returns-in-None-clause-pairs g c =
+    rw (← c.self.view_is) (sym (set_key-absent g.K.PartialEq.eq (pairs_of c.self.inside.table.held) c.args.key (absent g c)))
+
+pub returns-in-None-clause-to_visit : goal.returns-in-None-clause-to_visit
+returns-in-None-clause-to_visit g c =
+    let hs = c.self.inside.table.held in let visit = visit_of c.self.inside.visit in
+    let keys = keys_of (pairs_of hs) in let b = bookmark_at visit.bookmark (bare hs) in
+    let f = replaced g.K.PartialEq.eq c.args.key in
+    rw (← c.self.view_is)
+    (ap (λ ks. take visit.unvisited (drop b ks)) (same_keys g c)
+    ∙ ap (take visit.unvisited) (drop-map f b keys) ∙ take-map f visit.unvisited (drop b keys))
+
+pub returns-in-None-clause-keys : goal.returns-in-None-clause-keys
+returns-in-None-clause-keys g c = rw (← c.self.view_is) (same_keys g c)
+
+pub returns-in-None-clause-absent : goal.returns-in-None-clause-absent
+returns-in-None-clause-absent g c = rw (← c.self.view_is) (absent g c)

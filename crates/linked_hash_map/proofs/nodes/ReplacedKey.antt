@@ -1,0 +1,138 @@
+-- A node whose key is replaced by one that is the same.
+use Rattle.std.proofs.Common.{◌≡◌, ℕ, ◌+◌, Bool, cond, IsTrue, List, [], ◌∷◌, ◌++◌, map, length, take, drop, slice_get}
+use Rattle.std.proofs.Common.{Option, Some, None, length-append, refl, sym, ap, ◌∙◌, subst, arith}
+use Rattle.std.specs.Prelude.{slice_set}
+use Rattle.std.specs.Cmp.{IsEquivalence}
+use Rattle.std.specs.List.{IsDistinct}
+use Rattle.std.specs.Map.{keys_of}
+use Rattle.std.proofs.Math.Seq.{set-append_seam}
+use Rattle.std.proofs.lemmas.List.{map-append, map-set}
+use denote.RawPtr.{Ptr}
+use Rattle.linked_hash_map.specs.Nodes.{VisitState, Lies, pairs_of, bare, bare_node, before, bookmark_at, current_at, cursor_at, IsKept}
+use Rattle.linked_hash_map.specs.Pairs.{set_key}
+use Rattle.linked_hash_map.proofs.lists.Distinct.{AllByRecursion-replaced, IsDistinct-replaced}
+use Rattle.linked_hash_map.proofs.lists.Stretches.{stretch-set}
+use Rattle.linked_hash_map.proofs.nodes.CutNodes.{slice_get-held, pairs_of-held}
+use Rattle.linked_hash_map.proofs.nodes.HeldPairs.{length-pairs_of, pairs_of-append}
+use Rattle.linked_hash_map.proofs.nodes.Outside.{IsElsewhere, to_visit_of}
+use Rattle.linked_hash_map.proofs.pairs.Indexes.{set_key_by_index}
+use Rattle.lhm_ring.specs.Nodes.{same_ptr}
+use Rattle.lhm_ring.specs.Ring.{Held, held, AtHeld, IsHeld, rekeyed}
+
+-- the node u among bare nodes gets the key k
+module _ {K : Type 0} (front : List (Held K)) (u : Held K) (back : List (Held K)) (k : K) where
+  abbrev renewed : List (Held K)
+  renewed = front ++ record u { pair = k } ∷ back
+
+  before-renewed : (p : Ptr) → before p renewed ≡ before p (front ++ u ∷ back)
+  before-renewed p = by_front front
+    where
+      by_front : (ts : List (Held K)) → before p (ts ++ record u { pair = k } ∷ back) ≡ before p (ts ++ u ∷ back)
+      by_front [] = refl
+      by_front (t ∷ ts) = ap (λ n. cond (same_ptr t.at p) 0 (n + 1)) (by_front ts)
+
+  length-renewed : length renewed ≡ length (front ++ u ∷ back)
+  length-renewed = length-append front (record u { pair = k } ∷ back) ∙ sym (length-append front (u ∷ back))
+
+  bookmark_at-renewed : (o : Option Ptr) → bookmark_at o renewed ≡ bookmark_at o (front ++ u ∷ back)
+  bookmark_at-renewed None = refl
+  bookmark_at-renewed (Some p) = before-renewed p
+
+  current_at-renewed : (o : Option Ptr) → current_at o renewed ≡ current_at o (front ++ u ∷ back)
+  current_at-renewed None = refl
+  current_at-renewed (Some p) = before-renewed p
+
+  Lies-renewed : (o : Option Ptr) → Lies o (front ++ u ∷ back) → Lies o renewed
+  Lies-renewed None lies = tt
+  Lies-renewed (Some p) lies = let at = before-renewed p in let long = length-renewed in omega (arith, at, long, lies)
+
+  module _ {eq : K → K → Bool} (laws : IsEquivalence eq) {hash : K → ℕ} {capacity : ℕ} {visit : VisitState}
+      (kept : IsKept eq hash (front ++ u ∷ back) capacity visit) (same : IsTrue (eq k u.pair))
+      (same_hash : hash k ≡ hash u.pair) where
+    IsKept-renewed : IsKept eq hash renewed capacity visit
+    IsKept-renewed =
+        let keys : List (Held K) → List K = map (λ t. t.pair) in
+        let long = length-renewed in let at = bookmark_at-renewed visit.bookmark in
+        record {
+          distinct = subst (IsDistinct eq) (sym (map-append (λ (t : Held K). t.pair) front (record u { pair = k } ∷ back)))
+              (IsDistinct-replaced laws (keys front) (keys back) same
+              (subst (IsDistinct eq) (map-append (λ (t : Held K). t.pair) front (u ∷ back)) kept.distinct));
+          hashed = AllByRecursion-replaced (λ t. t.hash ≡ hash t.pair) front back (λ is. is ∙ sym same_hash) kept.hashed;
+          within = omega (arith, long, kept.within);
+          limit = kept.limit;
+          bookmarked = kept.bookmarked;
+          ended = kept.ended;
+          in_reach = omega (arith, at, long, kept.in_reach);
+          current_lies = Lies-renewed visit.current kept.current_lies;
+        }
+
+-- hs are the nodes before, and ks those where the node at p has the key k
+module _ {K V : Type 0} {hs ks : List (Held (K × V))} {p : Ptr} (h : IsHeld hs p) (k : K)
+    (is : AtHeld hs p (λ xs t ys. ks ≡ xs ++ rekeyed k t ∷ ys)) where
+  rekeyed_is : ks ≡ h.before ++ rekeyed k h.node ∷ h.after
+  rekeyed_is = is h.before h.node h.after h.is h.at_is
+
+  bare_old : bare hs ≡ bare h.before ++ bare_node h.node ∷ bare h.after
+  bare_old = ap bare h.is ∙ map-append bare_node h.before (h.node ∷ h.after)
+
+  bare_new : bare ks ≡ bare h.before ++ held h.node.at h.node.hash None k ∷ bare h.after
+  bare_new = ap bare rekeyed_is ∙ map-append bare_node h.before (rekeyed k h.node ∷ h.after)
+
+  pub cursor_at-rekeyed : (visit : VisitState) → cursor_at visit (bare ks) ≡ cursor_at visit (bare hs)
+  cursor_at-rekeyed visit =
+      let front = bare h.before in let u = bare_node h.node in let back = bare h.after in
+      ap (cursor_at visit) bare_new
+      ∙ (λ i. record {
+        bookmark = bookmark_at-renewed front u back k visit.bookmark i;
+        unvisited = visit.unvisited;
+        current = current_at-renewed front u back k visit.current i;
+      })
+      ∙ sym (ap (cursor_at visit) bare_old)
+
+  pub pairs_of-rekeyed : pairs_of ks ≡ slice_set (pairs_of hs) (length h.before) (k, h.node.pair.1)
+  pairs_of-rekeyed =
+      let new : K × V = (k, h.node.pair.1) in
+      subst (λ i. pairs_of ks ≡ slice_set (pairs_of hs) i new) (length-pairs_of h.before)
+      (ap pairs_of rekeyed_is ∙ pairs_of-append h.before (rekeyed k h.node ∷ h.after)
+      ∙ sym (ap (λ ps. slice_set ps (length (pairs_of h.before)) new) (pairs_of-held h)
+      ∙ set-append_seam (pairs_of h.before) h.node.pair (pairs_of h.after) new))
+
+  pub slice_get-rekeyed : slice_get (pairs_of ks) (length h.before) ≡ Some (k, h.node.pair.1)
+  slice_get-rekeyed = slice_get-held (record {
+    before = h.before;
+    node = rekeyed k h.node;
+    after = h.after;
+    is = rekeyed_is;
+    at_is = h.at_is;
+  })
+
+  pub length-rekeyed_nodes : length ks ≡ length hs
+  length-rekeyed_nodes =
+      let of_ks = ap length rekeyed_is in let of_hs = ap length h.is in
+      let of_new = length-append h.before (rekeyed k h.node ∷ h.after) in
+      let of_old = length-append h.before (h.node ∷ h.after) in
+      omega (arith, of_ks, of_hs, of_new, of_old)
+
+  -- the keys to visit stay, if the node is none of theirs
+  pub to_visit-rekeyed : (visit : VisitState) → IsElsewhere (length h.before) visit (bare hs)
+      → to_visit_of visit ks ≡ to_visit_of visit hs
+  to_visit-rekeyed visit elsewhere =
+      let same = ap (λ c. c.bookmark) (cursor_at-rekeyed visit) in
+      let keys = ap keys_of pairs_of-rekeyed ∙ map-set (λ pair. pair.0) (pairs_of hs) (length h.before) (k, h.node.pair.1) in
+      ap (λ b. take visit.unvisited (drop b (keys_of (pairs_of ks)))) same
+      ∙ ap (λ js. take visit.unvisited (drop (bookmark_at visit.bookmark (bare hs)) js)) keys
+      ∙ stretch-set (keys_of (pairs_of hs)) (length h.before) (bookmark_at visit.bookmark (bare hs)) visit.unvisited k elsewhere
+
+  module _ {eq : K → K → Bool} (laws : IsEquivalence eq) (same : IsTrue (eq k h.node.pair.0)) where
+    pub set_key-rekeyed : IsDistinct eq (keys_of (pairs_of hs)) → pairs_of ks ≡ set_key eq (pairs_of hs) k
+    set_key-rekeyed distinct = pairs_of-rekeyed
+        ∙ sym (set_key_by_index laws k (pairs_of hs) (length h.before) h.node.pair distinct (slice_get-held h) same)
+
+    pub IsKept-rekeyed : {hash : K → ℕ} {capacity n : ℕ} {visit : VisitState}
+        → IsKept eq hash (bare hs) capacity visit → hash k ≡ hash h.node.pair.0 → n ≡ capacity
+        → IsKept eq hash (bare ks) n visit
+    IsKept-rekeyed {hash} {capacity} {n} {visit} kept same_hash capacity_is =
+        subst (λ m. IsKept eq hash (bare ks) m visit) (sym capacity_is)
+        (subst (λ us. IsKept eq hash us capacity visit) (sym bare_new)
+        (IsKept-renewed (bare h.before) (bare_node h.node) (bare h.after) k laws
+        (subst (λ us. IsKept eq hash us capacity visit) bare_old kept) same same_hash))
