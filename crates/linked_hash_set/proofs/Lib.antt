@@ -1,4 +1,2 @@
-mod Clones
 mod Filters
 pub mod Kept
-mod Retained

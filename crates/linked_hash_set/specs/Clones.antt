@@ -1,7 +1,7 @@
--- What a clone of a set is, and a set after insertions one by one.
-use Rattle.std.specs.Prelude.{◌≡◌, Bool, IsTrue, List, [], fold, length}
+-- What a clone of a set is.
+use Rattle.std.specs.Prelude.{◌≡◌, Bool, IsTrue, List, [], length}
 use Rattle.std.specs.List.{AllZip}
-use Rattle.linked_hash_set.specs.Items.{to_back}
+use Rattle.linked_hash_set.specs.Inserts.{insert_each}
 use Rattle.linked_hash_set.specs.LinkedSet.{LinkedSet}
 use Rattle.linked_hash_set.specs.Validity.{IsValid}
 
@@ -10,7 +10,7 @@ use Rattle.linked_hash_set.specs.Validity.{IsValid}
 pub record IsClone {T S : Type 0} (eq : T → T → Bool) (IsItemClone : T → T → Type 0)
     (IsHasherClone : S → S → Type 0) (s t : LinkedSet T S) : Type 0 where
   pub items : (clones : List T) × AllZip IsItemClone s.items clones
-      × (t.items ≡ fold (to_back eq) [] clones)
+      × (t.items ≡ insert_each eq [] clones)
   pub capacity : t.capacity ≡ length s.items
   pub hasher : IsHasherClone s.hasher t.hasher
   pub valid : IsValid eq t

@@ -1,5 +1,6 @@
 pub mod Clones
 pub mod Drains
+pub mod Inserts
 pub mod Items
 pub mod Lends
 pub mod LinkedSet

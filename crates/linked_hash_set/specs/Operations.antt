@@ -1,6 +1,5 @@
 -- Operations on two sets, as lists of items, front to back.
-use Rattle.std.specs.Prelude.{Bool, not, List, ◌++◌, filter}
-use Rattle.std.specs.List.{list_all}
+use Rattle.std.specs.Prelude.{Bool, not, List, ◌++◌, ◌==◌, filter, length}
 use Rattle.linked_hash_set.specs.Items.{contains}
 
 module _ {T : Type 0} (eq : T → T → Bool) (xs ys : List T) where
@@ -12,13 +11,13 @@ module _ {T : Type 0} (eq : T → T → Bool) (xs ys : List T) where
   abbrev pub intersection : List T
   intersection = filter (contains eq ys) xs
 
-  -- each item of xs is in ys
+  -- no item of xs is not in ys
   abbrev pub is_subset : Bool
-  is_subset = list_all (contains eq ys) xs
+  is_subset = length difference == 0
 
   -- no item of xs is in ys
   abbrev pub is_disjoint : Bool
-  is_disjoint = list_all (λ x. not (contains eq ys x)) xs
+  is_disjoint = length intersection == 0
 
 module _ {T : Type 0} (eq : T → T → Bool) (xs ys : List T) where
   -- the items of xs, and then those of ys that are not in xs

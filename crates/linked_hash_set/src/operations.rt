@@ -127,12 +127,7 @@ impl<T: Eq + Hash, S: BuildHasher> LinkedHashSet<T, S> {
     pub fn is_subset(&self, other: &Self) -> bool
         ensures { result ≡ is_subset T.eq self.now.items other.now.items }
     {
-        for item in self.iter() {
-            if !other.contains(item) {
-                return false;
-            }
-        }
-        true
+        self.difference(other).next().is_none()
     }
 
     /// Returns `true` if each item of `other` is in `self`, in O(m), with m the number of items of
@@ -171,12 +166,7 @@ impl<T: Eq + Hash, S: BuildHasher> LinkedHashSet<T, S> {
     pub fn is_disjoint(&self, other: &Self) -> bool
         ensures { result ≡ is_disjoint T.eq self.now.items other.now.items }
     {
-        for item in self.iter() {
-            if other.contains(item) {
-                return false;
-            }
-        }
-        true
+        self.intersection(other).next().is_none()
     }
 }
 

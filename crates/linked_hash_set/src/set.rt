@@ -6,6 +6,7 @@ ghost use Rattle.linked_hash_set.specs.Validity.{IsValid};
 
 mod capacity;
 mod clone;
+mod collect;
 mod compare;
 mod create;
 mod get;

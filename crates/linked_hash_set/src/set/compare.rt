@@ -1,4 +1,6 @@
 //! Equality, hash and debug text, item by item.
+#![tactic(auto, using(crate::proofs::Kept::kept))]
+
 ghost use Rattle.std.specs.Prelude.{◌≡◌, drop};
 ghost use Rattle.std.specs.Cmp.{on_equiv, on_per};
 ghost use Rattle.std.specs.Cmp.Lexicographic.{pointwise, lists_equiv, lists_per};
@@ -61,9 +63,7 @@ impl<T: Eq + Hash, S: BuildHasher> Hash for LinkedHashSet<T, S> {
         ap (drop 1) ((items_Alike (record { fed = T.respects_eq })).fed s.items t.items same) };
 
     fn hash<H: Hasher>(&self, state: &mut H) {
-        for item in self {
-            item.hash(state);
-        }
+        self.map.hash(state);
     }
 }
 

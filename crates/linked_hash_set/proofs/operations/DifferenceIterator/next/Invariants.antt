@@ -2,7 +2,6 @@ use Rattle.std.proofs.Common.{◌≡◌, length}
 use Rattle.linked_hash_set.specs.Operations.{difference}
 use Rattle.linked_hash_set.proofs.operations.DifferenceIterator.next.Given as goal
 
--- what is left stays
 abbrev pub invariant-loop-item : goal.invariant-loop-item
 invariant-loop-item g l =
     difference g.T.PartialEq.eq l.initial.self-inside.iter l.initial.self-inside.other.now.items

@@ -1,4 +1,4 @@
-use Rattle.linked_hash_set.proofs.Clones.{IsClone-kept}
+use Rattle.linked_hash_set.proofs.Kept.{IsClone-kept}
 use Rattle.linked_hash_set.proofs.set.clone.LinkedHashSetClone.clone.Goals as goal
 
 pub returns : goal.returns

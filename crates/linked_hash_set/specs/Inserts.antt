@@ -1,0 +1,23 @@
+-- Insertions one after another, of what an iterator gives.
+use Rattle.std.specs.Prelude.{◌≡◌, Bool, List, fold, Option}
+use Rattle.linked_hash_map.specs.Inserts.{GivesAll, GivesThen}
+use Rattle.linked_hash_set.specs.Items.{to_back}
+
+-- the items once others went in one by one
+abbrev pub insert_each : {T : Type 0} → (T → T → Bool) → List T → List T → List T
+insert_each eq items given = fold (to_back eq) items given
+
+-- given what becomes an iterator, and the steps of that iterator
+module _ {U I T : Type 0} (becomes : U → I → Type 0) (steps : I → Option T → I → Type 0)
+    (source : U) (eq : T → T → Bool) (old new : List T) where
+  -- all items that it gives went in one by one
+  pub record InsertsAll : Type 0 where
+    pub given : List T
+    pub gives : GivesAll becomes steps source given
+    pub items : new ≡ insert_each eq old given
+
+  -- items that it gives went in one by one, up to this one
+  pub record InsertsUntil (item : T) : Type 0 where
+    pub given : List T
+    pub gives : GivesThen becomes steps source given item
+    pub items : new ≡ insert_each eq old given
