@@ -18,6 +18,7 @@ use Rattle.linked_hash_map.specs.declared.map.Mode.{Mode}
 use Rattle.linked_hash_map.specs.declared.map.Mode.TheVariants.{Touch, Keep}
 use Rattle.linked_hash_map.proofs.Callers.Keys as keys
 use Rattle.linked_hash_map.proofs.Callers.Keys.{keys_of-without_last}
+use Rattle.linked_hash_map.proofs.Callers.Lookups.{last-append}
 use Rattle.linked_hash_set.specs.Clones.{IsClone}
 use Rattle.linked_hash_set.specs.Inserts.{insert_each}
 use Rattle.linked_hash_set.specs.Items.{contains, find, without, to_back, push_if_absent}
@@ -121,6 +122,7 @@ pub ruleset kept = (
   keys_of-put_touch,
   keys_of-put_keep,
   keys_of-without_last,
+  last-append,
   pointwise-keys_of,
   flat_map-keys_of,
   IsValid-kept,

@@ -1,5 +1,5 @@
 -- Single calls, on the list of a set's items, front to back.
-use Rattle.std.specs.Prelude.{Bool, not, List, [], ◌∷◌, ◌++◌, filter, find as find_first, Option, option_to_list, unwrap_or, if◌then◌else◌}
+use Rattle.std.specs.Prelude.{Bool, not, map, List, [], ◌∷◌, ◌++◌, filter, find as find_first, Option, option_to_list, unwrap_or, if◌then◌else◌}
 use Rattle.std.specs.List.{list_any}
 
 -- by x, which is an item or looks one up: eq is whether it looks up an item
@@ -32,3 +32,8 @@ module _ {T : Type 0} (eq : T → T → Bool) where
   -- the items, with x at the back if none is the same
   abbrev pub push_if_absent : List T → T → List T
   push_if_absent items x = if contains eq items x then items else items ++ x ∷ []
+
+  -- the items, with x in place of the one that is the same, or at the back if none is
+  abbrev pub set_or_push : List T → T → List T
+  set_or_push items x =
+      if contains eq items x then map (λ y. if eq x y then x else y) items else items ++ x ∷ []

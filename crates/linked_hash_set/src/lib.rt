@@ -1,6 +1,65 @@
 //! A hash set that keeps its items in insertion order: a port of the `LinkedHashSet` of the Rust
-//! crate hashlink 0.8.0, with the calls that the crate linked-hash-set adds. It is
-//! `linked_hash_map` with values of no size. Its README.md has what differs.
+//! crate hashlink 0.8.0, with the calls that the crate linked-hash-set adds. Its `README.md` has
+//! what differs.
+//!
+//! # Examples
+//!
+//! ```rust
+//! use linked_hash_set::LinkedHashSet;
+//!
+//! let mut words = LinkedHashSet::new(rt.alloc());
+//! words.insert("red")?;
+//! words.insert("green")?;
+//!
+//! // A present item moves to the back, except by `insert_if_absent`.
+//! assert!(rt; !words.insert("red")?);
+//! assert!(rt; !words.insert_if_absent("green")?);
+//! assert_eq!(rt; words.front(), Some(&"green"));
+//! assert_eq!(rt; words.back(), Some(&"red"));
+//!
+//! // Operations on two sets go from the front.
+//! let mut others = LinkedHashSet::new(rt.alloc());
+//! others.extend(["blue", "red"])?;
+//! let mut union = words.union(&others);
+//! assert_eq!(rt; union.next(), Some(&"green"));
+//! assert_eq!(rt; union.next(), Some(&"red"));
+//! assert_eq!(rt; union.next(), Some(&"blue"));
+//! assert_eq!(rt; union.next(), None);
+//!
+//! // If an allocation fails, the item comes back and the set is unchanged.
+//! match words.insert("grey") {
+//!     Ok(new) => assert!(rt; new),
+//!     Err(refused) => assert_eq!(rt; refused.item, "grey"),
+//! }
+//! ```
+//!
+//! Each example is the body of a function that has `rt: HostRuntime` and returns errors by `?`.
+//!
+//! # Calls by task
+//!
+//! - Create: `new`, `with_capacity`, `with_hasher`, `from_iter`, `clone`.
+//! - Insert: `insert` and `extend`, which move a present item to the back; `insert_if_absent`,
+//!   `get_or_insert`, `get_or_insert_with` and `replace`, which leave it in its place.
+//! - Look up: `contains`, `get`, `front`, `back`. [`Equivalent`] has what a lookup takes: a reference
+//!   to an item, or `&str` for a `String`.
+//! - Remove: `remove`, `take`, `pop_front`, `pop_back`, `retain`, `clear`, `drain`.
+//! - Reorder: `to_back`, `refresh`, `to_front`.
+//! - Operate on two sets: `difference`, `symmetric_difference`, `intersection`, `union`,
+//!   `is_subset`, `is_superset`, `is_disjoint`, `==`.
+//! - Iterate: `iter`, `into_iter`.
+//! - Memory: `capacity`, `reserve`, `shrink_to_fit`.
+//!
+//! # The two originals
+//!
+//! hashlink's `insert` moves a present item to the back, and so does this one; that of
+//! linked-hash-set leaves it in its place, as `insert_if_absent` does. What linked-hash-set calls
+//! `refresh` is `to_back` in hashlink: both names are there.
+//!
+//! # Costs and refusals
+//!
+//! Lookups, insertions and removals are O(1) on average, and O(n) if all items hash alike. A call
+//! that allocates returns a `Result`, and an error changes nothing, except that an extension keeps
+//! what it inserted before. Nothing panics. [`LinkedHashSet`] says more.
 #![tactic(auto)]
 
 mod drain;

@@ -10,8 +10,9 @@ ghost use Rattle.linked_hash_set.specs.Validity.{IsValid};
 
 use super::LinkedHashSet;
 use crate::error::Refused;
-use std::alloc::Global;
-use std::default::MadeWith;
+use linked_hash_map::{LinkedHashMap, Mode};
+use std::alloc::{AllocError, Global};
+use std::default::{Emptied, MadeWith};
 use std::hash::{BuildHasher, Hash};
 
 impl<T: Eq + Hash, S: BuildHasher> LinkedHashSet<T, S> {
@@ -91,6 +92,28 @@ impl<T: Eq + Hash, S: BuildHasher> LinkedHashSet<T, S> {
             Ok(()) => Ok(set),
             Err(refused) => Err(refused),
         }
+    }
+}
+
+/// Makes an empty set with a clone of the hasher, as `try_take` asks for.
+///
+/// # Examples
+///
+/// ```rust
+/// use std::mem::try_take;
+///
+/// let mut set = LinkedHashSet::new(rt.alloc());
+/// set.insert('x')?;
+/// let taken = try_take(&mut set)?;
+/// assert_eq!(rt; (taken.len(), set.len()), (1, 0));
+/// ```
+impl<T: Eq + Hash, S: BuildHasher + Clone> Emptied for LinkedHashSet<T, S> {
+    ghost is_emptied = { λ set. (set.items ≡ []) × IsValid T.eq set };
+
+    fn emptied(like: &Self) -> Result<Self, AllocError> {
+        let mut map = LinkedHashMap::emptied(&like.map)?;
+        map.set_mode(Mode::Touch);
+        Ok(LinkedHashSet { map })
     }
 }
 

@@ -1,13 +1,14 @@
 //! Insertion.
 #![tactic(auto, using(crate::proofs::Kept::kept))]
 
-ghost use Rattle.std.specs.Prelude.{◌≡◌, ◌+◌, ◌++◌, ◌∷◌, [], length, max, not, false, IsTrue, IfOk, IfErr, OnOk, OnErr, if◌then◌else◌};
-ghost use Rattle.linked_hash_set.specs.Items.{contains, to_back, push_if_absent};
+ghost use Rattle.std.specs.Prelude.{◌≡◌, ◌+◌, ◌++◌, ◌∷◌, [], length, max, not, true, false, unwrap_or, Some, ◌<◌, IsTrue, IfOk, IfErr, OnOk, OnErr, if◌then◌else◌};
+ghost use Rattle.linked_hash_map.specs.Pairs.{last};
+ghost use Rattle.linked_hash_set.specs.Items.{contains, find, to_back, push_if_absent, set_or_push};
 ghost use Rattle.linked_hash_set.specs.Validity.{IsValid};
 
 use super::LinkedHashSet;
 use crate::error::Refused;
-use linked_hash_map::Mode;
+use linked_hash_map::{Equivalent, Mode};
 use std::hash::{BuildHasher, Hash};
 
 impl<T: Eq + Hash, S: BuildHasher> LinkedHashSet<T, S> {
@@ -95,6 +96,135 @@ impl<T: Eq + Hash, S: BuildHasher> LinkedHashSet<T, S> {
             Ok(None) => Ok(true),
             Ok(Some(_unit)) => Ok(false),
             Err(refused) => Err(Refused { item: refused.key }),
+        }
+    }
+
+    /// Stores an item in place of the stored one that is the same, and returns that. If it is
+    /// absent, it is inserted at the back, and `None` is returned. A present item keeps its place.
+    /// Hashes the item once if it is present, and else twice.
+    ///
+    /// It allocates and is refused as [`insert`](LinkedHashSet::insert).
+    ///
+    /// # Examples
+    ///
+    /// ```rust
+    /// let mut set = LinkedHashSet::new(rt.alloc());
+    /// assert_eq!(rt; set.replace('x')?, None);
+    /// assert_eq!(rt; set.replace('y')?, None);
+    /// assert_eq!(rt; set.replace('x')?, Some('x'));
+    /// assert_eq!(rt; set.back(), Some(&'y'));
+    /// ```
+    pub fn replace(&mut self, item: T) -> Result<Option<T>, Refused<T>>
+    where
+        T: Drop,
+        ensures old { IfOk result (λ old. old ≡ find T.eq self.old.items item) }
+        ensures items { OnOk result (self.new.items ≡ set_or_push T.eq self.old.items item) }
+        ensures capacity { OnOk result
+            (self.new.capacity ≡ max self.old.capacity (length self.new.items)) }
+        ensures hasher { self.new.hasher ≡ self.old.hasher }
+        ensures stays_valid { IsValid T.eq self.new }
+
+        ensures item_back { IfErr result (λ refused. refused.item ≡ item) }
+        ensures unchanged { OnErr result (self.new ≡ self.old) }
+        ensures absent { OnErr result (contains T.eq self.old.items item ≡ false) }
+        ensures full { OnErr result (length self.old.items ≡ self.old.capacity) }
+    {
+        match self.map.replace_key(item) {
+            Ok(old) => Ok(Some(old)),
+            Err(item) => match self.map.insert(item, ()) {
+                Ok(_none) => Ok(None),
+                Err(refused) => Err(Refused { item: refused.key }),
+            },
+        }
+    }
+
+    /// Returns the stored item that is the same as a given one, which is inserted at the back if it
+    /// is absent, and else dropped. Hashes the item twice.
+    ///
+    /// It allocates and is refused as [`insert`](LinkedHashSet::insert).
+    ///
+    /// # Examples
+    ///
+    /// ```rust
+    /// let mut set = LinkedHashSet::new(rt.alloc());
+    /// set.insert('x')?;
+    /// assert_eq!(rt; set.get_or_insert('y')?, &'y');
+    /// assert_eq!(rt; set.get_or_insert('x')?, &'x');
+    /// assert_eq!(rt; (set.len(), set.back()), (2, Some(&'y')));
+    /// ```
+    pub fn get_or_insert(&mut self, item: T) -> Result<&T, Refused<T>>
+    where
+        T: Drop,
+        ensures stored { IfOk result (λ stored.
+            stored.now ≡ unwrap_or (find T.eq self.old.items item) item) }
+
+        ensures item_back { IfErr result (λ refused. refused.item ≡ item) }
+        ensures absent { OnErr result (contains T.eq self.old.items item ≡ false) }
+        ensures full { OnErr result (length self.old.items ≡ self.old.capacity) }
+    {
+        if self.contains(&item) {
+            return Ok(self.stored(&item));
+        }
+        self.insert(item)?;
+        Ok(self.last_item())
+    }
+
+    /// Returns the stored item that is the same as a given one. If it is absent, an item that is
+    /// made of the given one is inserted as [`insert`](LinkedHashSet::insert) does, and returned.
+    /// Hashes the given item twice if it is present, and else it and the item made once each.
+    ///
+    /// # Examples
+    ///
+    /// ```rust
+    /// let mut set = LinkedHashSet::new(rt.alloc());
+    /// assert_eq!(rt; set.get_or_insert_with(&'x', |item| *item)?, &'x');
+    /// assert_eq!(rt; set.get_or_insert_with(&'x', |_item| 'y')?, &'x');
+    /// assert_eq!(rt; set.len(), 1);
+    /// ```
+    pub fn get_or_insert_with<Q: Equivalent<T>, F: FnOnce(Q) -> T>(
+        &mut self,
+        item: Q,
+        make: F,
+    ) -> Result<&T, Refused<T>>
+    where
+        T: Drop,
+        requires { contains Q.equivalent self.old.items item ≡ false → F.pre make item }
+        ensures stored { IfOk result (λ stored. contains Q.equivalent self.old.items item ≡ true
+            → find Q.equivalent self.old.items item ≡ Some stored.now) }
+        ensures made { IfOk result (λ stored. contains Q.equivalent self.old.items item ≡ false
+            → (made : T) × F.post make item made
+            × (stored.now ≡ unwrap_or (find T.eq self.old.items made) made)) }
+
+        ensures item_back { IfErr result (λ refused. F.post make item refused.item) }
+        ensures absent { OnErr result (contains Q.equivalent self.old.items item ≡ false) }
+        ensures full { OnErr result (length self.old.items ≡ self.old.capacity) }
+    {
+        if self.contains(item) {
+            return Ok(self.stored(item));
+        }
+        self.insert(make(item))?;
+        Ok(self.last_item())
+    }
+
+    /// Returns the stored item that is the same as a given one, which is present.
+    fn stored<Q: Equivalent<T>>(&self, item: Q) -> &T
+        requires { contains Q.equivalent self.now.items item ≡ true }
+        ensures { find Q.equivalent self.now.items item ≡ Some result.now }
+    {
+        match self.map.get_key_value(item) {
+            Some((stored, _unit)) => stored,
+            None => unreachable!(),
+        }
+    }
+
+    /// Returns the back item of a set that has one.
+    fn last_item(&self) -> &T
+        requires { 0 < length self.now.items }
+        ensures { last self.now.items ≡ Some result.now }
+    {
+        match self.map.back() {
+            Some((item, _unit)) => item,
+            None => unreachable!(),
         }
     }
 }

@@ -1,0 +1,14 @@
+//! Calls of the set.
+
+mod comparisons;
+mod documentation;
+mod drops;
+mod insertions;
+mod iterators;
+mod lookups;
+mod operations;
+mod refusals;
+mod removals;
+mod sizes;
+mod support;
+mod without_memory;

@@ -1,0 +1,14 @@
+//! The examples in the documentation of the library's public items, run.
+//!
+//! Each example stands here word for word, in a test that is named for an item that shows it.
+
+mod capacity;
+mod comparison;
+mod insertion;
+mod iteration;
+mod lookup;
+mod making;
+mod operations;
+mod order;
+mod removal;
+mod set;

@@ -1,0 +1,41 @@
+//! Equality, hash and text.
+use linked_hash_set::{DefaultHashBuilder, LinkedHashSet};
+use std::hash::BuildHasher;
+use std::test::Fail;
+
+/// The example of `PartialEq`.
+#[test]
+fn equality(rt: HostRuntime) -> Result<(), Fail> {
+    let mut set = LinkedHashSet::new(rt.alloc());
+    set.insert('x')?;
+    set.insert('y')?;
+    let mut other = LinkedHashSet::new(rt.alloc());
+    other.insert('y')?;
+    other.insert('x')?;
+    assert!(rt; set != other);
+    other.insert('y')?; // moves the item to the back
+    assert!(rt; set == other);
+    Ok(())
+}
+
+/// The example of `Hash`.
+#[test]
+fn hash(rt: HostRuntime) -> Result<(), Fail> {
+    let mut set = LinkedHashSet::with_capacity(rt.alloc(), 5)?;
+    set.insert('x')?;
+    let clone = set.clone()?;
+    let builder = DefaultHashBuilder::new();
+    assert_eq!(rt; builder.hash_one(clone), builder.hash_one(set));
+    Ok(())
+}
+
+/// The example of `Debug`.
+#[test]
+fn debug(rt: HostRuntime) -> Result<(), Fail> {
+    let mut set = LinkedHashSet::new(rt.alloc());
+    set.insert('x')?;
+    set.insert('y')?;
+    let text = format!(in rt.alloc(); "{set:?}")?;
+    assert_eq!(rt; text.as_str(), "{'x', 'y'}");
+    Ok(())
+}

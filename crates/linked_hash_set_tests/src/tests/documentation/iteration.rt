@@ -1,0 +1,44 @@
+//! Loops over one set.
+use linked_hash_set::LinkedHashSet;
+use std::test::Fail;
+
+/// The example of `iter`.
+#[test]
+fn iter(rt: HostRuntime) -> Result<(), Fail> {
+    let mut set = LinkedHashSet::new(rt.alloc());
+    set.insert('x')?;
+    set.insert('y')?;
+    let mut items = set.iter();
+    assert_eq!(rt; items.next(), Some(&'x'));
+    let mut rest = items.clone()?;
+    assert_eq!(rt; rest.next_back(), Some(&'y'));
+    assert_eq!(rt; (items.len(), rest.len()), (1, 0));
+    Ok(())
+}
+
+/// The example of `IntoIterator`.
+#[test]
+fn loop_by_reference(rt: HostRuntime) -> Result<(), Fail> {
+    let mut set = LinkedHashSet::new(rt.alloc());
+    set.insert('x')?;
+    set.insert('y')?;
+    let mut last = None;
+    for item in &set {
+        last = Some(*item);
+    }
+    assert_eq!(rt; last, Some('y'));
+    Ok(())
+}
+
+/// The example of `IntoIterator`.
+#[test]
+fn loop_by_value(rt: HostRuntime) -> Result<(), Fail> {
+    let mut set = LinkedHashSet::new(rt.alloc());
+    set.insert('x')?;
+    set.insert('y')?;
+    let mut items = set.into_iter();
+    assert_eq!(rt; items.next_back(), Some('y'));
+    assert_eq!(rt; items.next(), Some('x'));
+    assert_eq!(rt; items.next(), None);
+    Ok(())
+}

@@ -1,0 +1,98 @@
+//! Operations on two sets.
+use linked_hash_set::LinkedHashSet;
+use std::test::Fail;
+
+/// The example of `difference`.
+#[test]
+fn difference(rt: HostRuntime) -> Result<(), Fail> {
+    let mut set = LinkedHashSet::new(rt.alloc());
+    set.extend([1, 2, 3])?;
+    let mut other = LinkedHashSet::new(rt.alloc());
+    other.extend([4, 2])?;
+    let mut items = set.difference(&other);
+    assert_eq!(rt; items.next(), Some(&1));
+    assert_eq!(rt; items.next(), Some(&3));
+    assert_eq!(rt; items.next(), None);
+    Ok(())
+}
+
+/// The example of `intersection`.
+#[test]
+fn intersection(rt: HostRuntime) -> Result<(), Fail> {
+    let mut set = LinkedHashSet::new(rt.alloc());
+    set.extend([1, 2, 3])?;
+    let mut other = LinkedHashSet::new(rt.alloc());
+    other.extend([4, 2])?;
+    let mut items = set.intersection(&other);
+    assert_eq!(rt; items.next(), Some(&2));
+    assert_eq!(rt; items.next(), None);
+    Ok(())
+}
+
+/// The example of `union`.
+#[test]
+fn union(rt: HostRuntime) -> Result<(), Fail> {
+    let mut set = LinkedHashSet::new(rt.alloc());
+    set.extend([1, 2, 3])?;
+    let mut other = LinkedHashSet::new(rt.alloc());
+    other.extend([4, 2])?;
+    let mut items = set.union(&other);
+    assert_eq!(rt; items.next(), Some(&1));
+    assert_eq!(rt; items.next(), Some(&2));
+    assert_eq!(rt; items.next(), Some(&3));
+    assert_eq!(rt; items.next(), Some(&4));
+    assert_eq!(rt; items.next(), None);
+    Ok(())
+}
+
+/// The example of `symmetric_difference`.
+#[test]
+fn symmetric_difference(rt: HostRuntime) -> Result<(), Fail> {
+    let mut set = LinkedHashSet::new(rt.alloc());
+    set.extend([1, 2, 3])?;
+    let mut other = LinkedHashSet::new(rt.alloc());
+    other.extend([4, 2])?;
+    let mut items = set.symmetric_difference(&other);
+    assert_eq!(rt; items.next(), Some(&1));
+    assert_eq!(rt; items.next(), Some(&3));
+    assert_eq!(rt; items.next(), Some(&4));
+    assert_eq!(rt; items.next(), None);
+    Ok(())
+}
+
+/// The example of `is_subset`.
+#[test]
+fn is_subset(rt: HostRuntime) -> Result<(), Fail> {
+    let mut set = LinkedHashSet::new(rt.alloc());
+    set.extend([1, 2, 3])?;
+    let mut other = LinkedHashSet::new(rt.alloc());
+    other.extend([3, 1])?;
+    assert!(rt; other.is_subset(&set));
+    assert!(rt; !set.is_subset(&other));
+    Ok(())
+}
+
+/// The example of `is_superset`.
+#[test]
+fn is_superset(rt: HostRuntime) -> Result<(), Fail> {
+    let mut set = LinkedHashSet::new(rt.alloc());
+    set.extend([1, 2, 3])?;
+    let mut other = LinkedHashSet::new(rt.alloc());
+    other.extend([3, 1])?;
+    assert!(rt; set.is_superset(&other));
+    assert!(rt; !other.is_superset(&set));
+    Ok(())
+}
+
+/// The example of `is_disjoint`.
+#[test]
+fn is_disjoint(rt: HostRuntime) -> Result<(), Fail> {
+    let mut set = LinkedHashSet::new(rt.alloc());
+    set.extend([1, 2])?;
+    let mut other = LinkedHashSet::new(rt.alloc());
+    other.extend([3])?;
+    assert!(rt; set.is_disjoint(&other));
+    other.insert(2)?;
+    assert!(rt; !set.is_disjoint(&other));
+    Ok(())
+}

@@ -1,0 +1,86 @@
+//! The set and its sizes.
+use linked_hash_set::LinkedHashSet;
+use std::hash::{BuildHasher, RandomState};
+use std::test::Fail;
+
+/// The example of `LinkedHashSet`.
+#[test]
+fn linked_hash_set(rt: HostRuntime) -> Result<(), Fail> {
+    let mut set = LinkedHashSet::new(rt.alloc());
+    assert!(rt; set.insert('x')?);
+    assert!(rt; set.insert('y')?);
+    assert!(rt; !set.insert('x')?);
+    assert_eq!(rt; set.front(), Some(&'y'));
+    assert_eq!(rt; set.back(), Some(&'x'));
+    Ok(())
+}
+
+/// The example of `len`.
+#[test]
+fn len(rt: HostRuntime) -> Result<(), Fail> {
+    let mut set = LinkedHashSet::new(rt.alloc());
+    set.insert('x')?;
+    assert_eq!(rt; set.len(), 1);
+    Ok(())
+}
+
+/// The example of `is_empty`.
+#[test]
+fn is_empty(rt: HostRuntime) -> Result<(), Fail> {
+    let mut set = LinkedHashSet::new(rt.alloc());
+    assert!(rt; set.is_empty());
+    set.insert('x')?;
+    assert!(rt; !set.is_empty());
+    Ok(())
+}
+
+/// The example of `capacity`.
+#[test]
+fn capacity(rt: HostRuntime) -> Result<(), Fail> {
+    let mut set = LinkedHashSet::new(rt.alloc());
+    set.insert('x')?;
+    assert_eq!(rt; set.capacity(), 1);
+    set.reserve(4)?;
+    assert_eq!(rt; set.capacity(), 5);
+    Ok(())
+}
+
+/// The example of `hasher`.
+#[test]
+fn hasher(rt: HostRuntime) -> Result<(), Fail> {
+    let builder = RandomState::new(&rt)?;
+    let mut set = LinkedHashSet::with_hasher(rt.alloc(), builder);
+    set.insert('x')?;
+    assert_eq!(rt; set.hasher().hash_one('x'), builder.hash_one('x'));
+    Ok(())
+}
+
+/// The example of the crate.
+#[test]
+fn seen_words(rt: HostRuntime) -> Result<(), Fail> {
+    let mut words = LinkedHashSet::new(rt.alloc());
+    words.insert("red")?;
+    words.insert("green")?;
+
+    // A present item moves to the back, except by `insert_if_absent`.
+    assert!(rt; !words.insert("red")?);
+    assert!(rt; !words.insert_if_absent("green")?);
+    assert_eq!(rt; words.front(), Some(&"green"));
+    assert_eq!(rt; words.back(), Some(&"red"));
+
+    // Operations on two sets go from the front.
+    let mut others = LinkedHashSet::new(rt.alloc());
+    others.extend(["blue", "red"])?;
+    let mut union = words.union(&others);
+    assert_eq!(rt; union.next(), Some(&"green"));
+    assert_eq!(rt; union.next(), Some(&"red"));
+    assert_eq!(rt; union.next(), Some(&"blue"));
+    assert_eq!(rt; union.next(), None);
+
+    // If an allocation fails, the item comes back and the set is unchanged.
+    match words.insert("grey") {
+        Ok(new) => assert!(rt; new),
+        Err(refused) => assert_eq!(rt; refused.item, "grey"),
+    }
+    Ok(())
+}
