@@ -1,4 +1,4 @@
-use Rattle.std.proofs.Common.{sym, ap, ◌∙◌}
+use Rattle.std.proofs.Common.{ap, ◌∙◌}
 use Rattle.linked_hash_map.specs.LinkedMap.{nowhere}
 use Rattle.linked_hash_map.proofs.pairs.OccupiedEntries.{occupied_pair-is}
 use Rattle.linked_hash_map.proofs.pairs.EntryMaps.{IsValid-current}

@@ -1,4 +1,4 @@
-use Rattle.std.proofs.Common.{◌≡◌, true, cond, Some, option_map, sym, ap, ◌∙◌, subst}
+use Rattle.std.proofs.Common.{◌≡◌, true, cond, option_map, sym, ap, ◌∙◌, subst}
 use Rattle.linked_hash_map.specs.Entry.{occupied_pair, occupied_key}
 use Rattle.linked_hash_map.specs.Cursor.{IsOutside}
 use Rattle.linked_hash_map.specs.Pairs.{value_at}
