@@ -1,0 +1,17 @@
+-- What a clone of a cache is.
+use Rattle.std.specs.Prelude.{◌≡◌, Bool, List, [], length}
+use Rattle.linked_hash_map.specs.declared.map.Mode.TheVariants.{Touch}
+use Rattle.linked_hash_map.specs.Inserts.{insert_each}
+use Rattle.linked_hash_map.specs.Clones.{AreClones}
+use Rattle.lru_cache.specs.Cache.{Cache}
+
+-- a cache d has clones of the pairs of a cache c, inserted in order, its limit, room for as many
+-- pairs, and a clone of the hasher
+pub record IsClone {K V S : Type 0} (eq : K → K → Bool) (IsKeyClone : K → K → Type 0)
+    (IsValueClone : V → V → Type 0) (IsHasherClone : S → S → Type 0) (c d : Cache K V S) : Type 0
+  where
+    pub pairs : (clones : List (K × V)) × AreClones IsKeyClone IsValueClone c.pairs clones
+        × (d.pairs ≡ insert_each eq Touch [] clones)
+    pub limit : d.limit ≡ c.limit
+    pub room : d.room ≡ length c.pairs
+    pub hasher : IsHasherClone c.hasher d.hasher

@@ -1,0 +1,132 @@
+//! Lookups.
+ghost use Rattle.std.specs.Prelude.{◌≡◌, is_some, option_copied, IfNone};
+ghost use Rattle.std.specs.Borrow.{sem};
+ghost use Rattle.std.specs.Option.{option_copied_mut};
+ghost use Rattle.linked_hash_map.specs.Pairs.{find, value_at, to_back_as_is};
+ghost use Rattle.lru_cache.specs.Cache.{Keeps};
+
+use super::LruCache;
+use linked_hash_map::Equivalent;
+use std::hash::{BuildHasher, Hash};
+
+impl<K: Eq + Hash, V, S: BuildHasher> LruCache<K, V, S> {
+    ghost use Rattle.lru_cache.specs.Lends.{lends_used, lends_value, shows_used};
+
+    /// Returns `true` if a key is present, in O(1), and uses its pair, as the original does. Hashes
+    /// the key once.
+    ///
+    /// # Examples
+    ///
+    /// ```rust
+    /// let mut cache = LruCache::new(rt.alloc(), 2);
+    /// cache.insert('x', 1)?;
+    /// cache.insert('y', 2)?;
+    /// assert!(rt; cache.contains_key(&'x'));
+    /// assert_eq!(rt; cache.remove_lru(), Some(('y', 2)));
+    /// ```
+    pub fn contains_key<Q: Equivalent<K>>(&mut self, key: Q) -> bool
+        ensures present { result ≡ is_some (find Q.equivalent self.old.pairs key) }
+        ensures pairs { self.new.pairs ≡ to_back_as_is Q.equivalent self.old.pairs key }
+        ensures keeps { Keeps self.old self.new }
+    {
+        self.map.move_to_back(key)
+    }
+
+    /// Returns the value of a key, if present, in O(1), and uses its pair. Hashes the key once.
+    ///
+    /// # Examples
+    ///
+    /// ```rust
+    /// let mut cache = LruCache::new(rt.alloc(), 2);
+    /// cache.insert('x', 1)?;
+    /// cache.insert('y', 2)?;
+    /// assert_eq!(rt; cache.get(&'x'), Some(&1));
+    /// assert_eq!(rt; cache.remove_lru(), Some(('y', 2)));
+    /// ```
+    #[tactic(auto, using(crate::proofs::Used::used))]
+    pub fn get<Q: Equivalent<K>>(&mut self, key: Q) -> Option<&V>
+        ensures* uses { sem 𝓛
+            (shows_used K.row V.row S.row S.Hasher.row K.Hash S.BuildHasher S.Hasher.Hasher
+            self.entry Q.equivalent key) }
+        ensures value { option_copied result ≡ value_at Q.equivalent self.old.pairs key }
+        // A law of lists, for the proofs of callers.
+        ensures absent { IfNone result
+            (to_back_as_is Q.equivalent self.old.pairs key ≡ self.old.pairs) }
+    {
+        if !self.map.move_to_back(key) {
+            return None;
+        }
+        match self.map.back() {
+            Some((_key, value)) => Some(value),
+            None => None,
+        }
+    }
+
+    /// Returns a mutable reference to the value of a key, if present, in O(1), and uses its pair.
+    /// Hashes the key once.
+    ///
+    /// # Examples
+    ///
+    /// ```rust
+    /// let mut cache = LruCache::new(rt.alloc(), 2);
+    /// cache.insert('x', 1)?;
+    /// if let Some(value) = cache.get_mut(&'x') {
+    ///     *value = 3;
+    /// }
+    /// assert_eq!(rt; cache.peek(&'x'), Some(&3));
+    /// ```
+    pub fn get_mut<Q: Equivalent<K>>(&mut self, key: Q) -> Option<&mut V>
+        ensures* writes_back { sem 𝓛
+            (lends_used K.row V.row S.row S.Hasher.row K.Hash S.BuildHasher S.Hasher.Hasher
+            self.entry Q.equivalent Q.as_key key result) }
+        ensures value { option_copied_mut result ≡ value_at Q.equivalent self.old.pairs key }
+    {
+        match self.map.get_refresh(key) {
+            Some(value) => Some(value),
+            None => None,
+        }
+    }
+
+    /// Returns the value of a key, if present, in O(1). It uses no pair. Hashes the key once.
+    ///
+    /// # Examples
+    ///
+    /// ```rust
+    /// let mut cache = LruCache::new(rt.alloc(), 2);
+    /// cache.insert('x', 1)?;
+    /// cache.insert('y', 2)?;
+    /// assert_eq!(rt; cache.peek(&'x'), Some(&1));
+    /// assert_eq!(rt; cache.remove_lru(), Some(('x', 1)));
+    /// ```
+    pub fn peek<Q: Equivalent<K>>(&self, key: Q) -> Option<&V>
+        ensures value { option_copied result ≡ value_at Q.equivalent self.now.pairs key }
+    {
+        self.map.get(key)
+    }
+
+    /// Returns a mutable reference to the value of a key, if present, in O(1). It uses no pair.
+    /// Hashes the key once.
+    ///
+    /// # Examples
+    ///
+    /// ```rust
+    /// let mut cache = LruCache::new(rt.alloc(), 2);
+    /// cache.insert('x', 1)?;
+    /// cache.insert('y', 2)?;
+    /// if let Some(value) = cache.peek_mut(&'x') {
+    ///     *value = 3;
+    /// }
+    /// assert_eq!(rt; cache.remove_lru(), Some(('x', 3)));
+    /// ```
+    pub fn peek_mut<Q: Equivalent<K>>(&mut self, key: Q) -> Option<&mut V>
+        ensures* writes_back { sem 𝓛
+            (lends_value K.row V.row S.row S.Hasher.row K.Hash S.BuildHasher S.Hasher.Hasher
+            self.entry Q.equivalent key result) }
+        ensures value { option_copied_mut result ≡ value_at Q.equivalent self.old.pairs key }
+    {
+        match self.map.get_mut(key) {
+            Some(value) => Some(value),
+            None => None,
+        }
+    }
+}

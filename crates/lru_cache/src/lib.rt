@@ -1,0 +1,42 @@
+//! A cache of a limited number of pairs, in the order of their last use: a port of the Rust crate
+//! lru-cache 0.1.2, called the original here, over `linked_hash_map`. `README.md` has what differs.
+//!
+//! # Examples
+//!
+//! ```rust
+//! use lru_cache::LruCache;
+//!
+//! let mut cache = LruCache::new(rt.alloc(), 2);
+//! cache.insert(1, 10)?;
+//! cache.insert(2, 20)?;
+//!
+//! // A lookup uses its pair, so that of 2 is now the one used least recently.
+//! assert_eq!(rt; cache.get(&1), Some(&10));
+//!
+//! // A new pair takes the place of the one used least recently, if the cache is full.
+//! cache.insert(3, 30)?;
+//! assert_eq!(rt; cache.get(&2), None);
+//! assert_eq!(rt; cache.remove_lru(), Some((1, 10)));
+//! ```
+//!
+//! Each example is the body of a function that has `rt: HostRuntime` and returns errors by `?`.
+//!
+//! # Calls by task
+//!
+//! - Create: `new`, `with_hasher`, `clone`.
+//! - Insert: `insert`; `put`, which returns the pair that goes; `extend`.
+//! - Look up: `get`, `get_mut` and `contains_key`, which use the pair; `peek` and `peek_mut`, which
+//!   do not.
+//! - Remove: `remove`, `remove_lru`, `retain`, `clear`, `drain`.
+//! - Iterate, the pair used least recently first: `iter`, `iter_mut`, `into_iter`.
+//! - The limit: `capacity`, `set_capacity`.
+//! - Memory: `reserve`.
+//! - Besides: `len`, `is_empty`.
+#![tactic(auto)]
+
+mod cache;
+
+pub use cache::LruCache;
+pub use linked_hash_map::{
+    DefaultHashBuilder, Drain, Equivalent, IntoIter, Iter, IterMut, Refused, ReserveError,
+};
