@@ -1,2 +1,4 @@
 pub mod Newest
+pub mod Runs
+pub mod Unlimited
 pub mod Used

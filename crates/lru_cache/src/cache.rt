@@ -22,10 +22,11 @@ use std::marker::Model;
 ///
 /// For all calls, with n the number of pairs:
 ///
-/// - Only calls that return a `Result` allocate. An error changes nothing, except that `extend` keeps
-///   what it inserted before. Nothing panics.
-/// - A full cache refuses no pair. It asks for no memory once it has had room for one pair more than
-///   its capacity: since the first pair that went for another, or by `reserve`.
+/// - Only calls that return a `Result` allocate. An error changes nothing, except that `extend`
+///   keeps what it inserted before. Nothing panics.
+/// - A full cache refuses no pair. It asks for no memory once it has room for one pair more than
+///   its capacity: since the first pair that went for another, if memory was given then, or by
+///   `reserve`.
 /// - Costs are averages: if all keys hash alike, each lookup and each removal of a pair is O(n).
 ///
 /// # Examples

@@ -31,10 +31,11 @@
 //! - Iterate, the pair used least recently first: `iter`, `iter_mut`, `into_iter`.
 //! - The limit: `capacity`, `set_capacity`.
 //! - Memory: `reserve`.
-//! - Besides: `len`, `is_empty`.
+//! - Besides: `len`, `is_empty`; [`replay`] runs commands.
 #![tactic(auto)]
 
 mod cache;
+pub mod replay;
 
 pub use cache::LruCache;
 pub use linked_hash_map::{

@@ -202,8 +202,9 @@ impl<K: Eq + Hash, V, S: BuildHasher> LruCache<K, V, S> {
     /// Makes room for `additional` more pairs than there are. With room for one pair more than
     /// `capacity`, no insertion is refused or asks for memory, until `set_capacity` raises it.
     ///
-    /// Returns `TooLarge` exactly if the sum is above the `LIMIT` of `linked_hash_map` or overflows,
-    /// and `NoRoom` if an allocation fails. It is linear in the room then, or O(1) if there is room.
+    /// Returns `TooLarge` exactly if the sum is above the `LIMIT` of `linked_hash_map` or
+    /// overflows, and `NoRoom` if an allocation fails. It is linear in the room that it makes, or
+    /// O(1) if there is room.
     ///
     /// # Examples
     ///

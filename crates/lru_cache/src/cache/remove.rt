@@ -103,8 +103,8 @@ impl<K: Eq + Hash, V, S: BuildHasher> LruCache<K, V, S> {
     }
 
     /// Removes all pairs and returns them as a double-ended iterator, the one used least recently
-    /// first. The cache is empty at once; forgetting the iterator leaks the pairs left. It is linear
-    /// in the room, or O(1) if there is no pair.
+    /// first. The cache is empty at once; forgetting the iterator leaks the pairs left. It is
+    /// linear in the room, or O(1) if there is no pair.
     ///
     /// # Examples
     ///

@@ -1,0 +1,5 @@
+//! Tests of `lru_cache`.
+#![tactic(auto)]
+
+#[cfg(test)]
+mod tests;

@@ -1,0 +1,11 @@
+//! The examples in the documentation of `lru_cache`, run. Each stands here word for word, in a test
+//! that is named for its item.
+
+mod insertion;
+mod iteration;
+mod library;
+mod lookup;
+mod making;
+mod removal;
+mod replaying;
+mod traits;
