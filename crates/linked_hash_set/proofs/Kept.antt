@@ -51,6 +51,10 @@ module _ {T V : Type 0} where
     pub contains-absent : pairs.find eq ps x ≡ None → contains eq (keys_of ps) x ≡ false
     contains-absent none = sym contains-find ∙ ap is_some none
 
+    pub contains-present : (y : T) → option_map (λ p. p.0) (pairs.find eq ps x) ≡ Some y → contains eq (keys_of ps) x ≡ true
+    contains-present y found = sym contains-find ∙ elim (pairs.find eq ps x) as (λ o. is_some o ≡ is_some (option_map (λ p. p.0) o))
+        [ None ↦ refl | Some p ↦ refl ] ∙ ap is_some found
+
     pub keys_of-without : keys_of (pairs.without eq ps x) ≡ without eq (keys_of ps) x
     keys_of-without = elim ps as (λ qs. keys_of (pairs.without eq qs x) ≡ without eq (keys_of qs) x)
         [ [] ↦ refl | p ∷ qs ↦ keys.keys_of-without (λ _ y. eq x y) (p ∷ qs) p.0 ]

@@ -1,5 +1,6 @@
 -- Single calls, on the list of a set's items, front to back.
-use Rattle.std.specs.Prelude.{Bool, not, map, List, [], ◌∷◌, ◌++◌, filter, find as find_first, Option, option_to_list, unwrap_or, if◌then◌else◌}
+use Rattle.std.specs.Prelude.{Bool, not, map, List, [], ◌∷◌, ◌++◌, filter, find as find_first}
+use Rattle.std.specs.Prelude.{Option, option_to_list, unwrap_or, if◌then◌else◌}
 use Rattle.std.specs.List.{list_any}
 
 -- by x, which is an item or looks one up: eq is whether it looks up an item

@@ -40,8 +40,8 @@
 //! - Create: `new`, `with_capacity`, `with_hasher`, `from_iter`, `clone`.
 //! - Insert: `insert` and `extend`, which move a present item to the back; `insert_if_absent`,
 //!   `get_or_insert`, `get_or_insert_with` and `replace`, which leave it in its place.
-//! - Look up: `contains`, `get`, `front`, `back`. [`Equivalent`] has what a lookup takes: a reference
-//!   to an item, or `&str` for a `String`.
+//! - Look up: `contains`, `get`, `front`, `back`. [`Equivalent`] has what a lookup takes: a
+//!   reference to an item, or `&str` for a `String`.
 //! - Remove: `remove`, `take`, `pop_front`, `pop_back`, `retain`, `clear`, `drain`.
 //! - Reorder: `to_back`, `refresh`, `to_front`.
 //! - Operate on two sets: `difference`, `symmetric_difference`, `intersection`, `union`,

@@ -55,8 +55,8 @@ impl<T: Eq + Hash, S: BuildHasher> LinkedHashSet<T, S> {
         }
     }
 
-    /// Inserts an item at the back if it is absent, and returns whether it is. If it is present, the
-    /// stored item keeps its place, and `item` is dropped. Hashes the item once.
+    /// Inserts an item at the back if it is absent, and returns whether it is. If it is present,
+    /// the stored item keeps its place, and `item` is dropped. Hashes the item once.
     ///
     /// It allocates and is refused as [`insert`](LinkedHashSet::insert).
     ///

@@ -19,8 +19,8 @@ impl<T: Eq + Hash, S: BuildHasher> LinkedHashSet<T, S> {
     ghost use Rattle.linked_hash_set.specs.Drains.{drain_rest, drain_name};
     ghost use Rattle.linked_hash_set.specs.Lends.{lends_drained};
 
-    /// Removes and drops an item, and returns whether it was present, in O(1). The others keep their
-    /// order. Hashes the item once.
+    /// Removes and drops an item, and returns whether it was present, in O(1). The others keep
+    /// their order. Hashes the item once.
     ///
     /// # Examples
     ///

@@ -63,7 +63,8 @@ fn compares_by_inclusion(rt: HostRuntime) {
     let two = set_of(&rt, rt.alloc(), &[3, 1]);
     let three = set_of(&rt, rt.alloc(), &[4]);
     let none = set_of(&rt, rt.alloc(), &[]);
-    check_eq!(rt; (two.is_subset(&one), one.is_subset(&two), none.is_subset(&two)), (true, false, true));
+    check_eq!(rt; (two.is_subset(&one), one.is_subset(&two)), (true, false));
+    check_eq!(rt; (none.is_subset(&two), two.is_subset(&none)), (true, false));
     check_eq!(rt; (one.is_superset(&two), two.is_superset(&one)), (true, false));
     check_eq!(rt; (one.is_subset(&one), one.is_superset(&one)), (true, true));
     check_eq!(rt; (one.is_disjoint(&two), two.is_disjoint(&three)), (false, true));

@@ -192,7 +192,7 @@ fn refused_clone_leaves_the_set(rt: HostRuntime) {
     // The growths: buckets, a filter, a list of chunks and a chunk.
     if let Ok(set) = full_of(&rt, rt.alloc(), &[2, 1]) {
         // The growths: the same.
-        let cloned = set.clone();
+        let cloned: Result<Set, AllocError> = set.clone();
         let given = is_clone(&rt, cloned);
         assert_set(&rt, &set, &[2, 1], 2);
         say_given(&rt, given, 9);

@@ -1,4 +1,4 @@
-//! Capacities, and the memory of a set.
+//! Sets made, and their capacities.
 
 use super::support::checks::{check, check_eq, given};
 use super::support::sets::{assert_set, set_of, with_room};
@@ -39,21 +39,4 @@ fn reserves_and_shrinks(rt: HostRuntime) {
     check_eq!(rt; set.reserve(LIMIT - 1), Err(ReserveError::TooLarge));
     check_eq!(rt; set.shrink_to_fit(), Ok(()));
     assert_set(&rt, &set, &[1, 2], 2);
-}
-
-/// Returns where an item is stored.
-fn address_of(item: Option<&u64>) -> usize {
-    match item {
-        Some(item) => item as *const u64 as usize,
-        None => 0,
-    }
-}
-
-/// Two nodes that were made in one chunk lie side by side.
-#[test]
-fn takes_forty_bytes_a_node(rt: HostRuntime) {
-    let mut set = given!(rt; LinkedHashSet::with_capacity(rt.alloc(), 2));
-    check_eq!(rt; (set.insert(1u64), set.insert(2)), (Ok(true), Ok(true)));
-    let apart = address_of(set.front()).abs_diff(address_of(set.back()));
-    check_eq!(rt; apart, 40);
 }
