@@ -46,6 +46,7 @@ pub fn fill_cache_map(
     Ok(map)
 }
 
+/// Gets `n` keys of a cache that has them, and returns the exclusive or of their values.
 pub fn cache_hit<O: Order>(cache: &mut Cache, order: &mut O, n: u64) -> u64
     requires { 0 < n }
 {
@@ -58,6 +59,7 @@ pub fn cache_hit<O: Order>(cache: &mut Cache, order: &mut O, n: u64) -> u64
     sink
 }
 
+/// Does the same with a map.
 pub fn cache_map_hit<O: Order>(map: &mut CacheMap, order: &mut O, n: u64) -> u64
     requires { 0 < n }
 {
@@ -88,6 +90,7 @@ pub fn fill_set_map(alloc: Global, start: u64, n: u64) -> Result<SetMap, AllocEr
     Ok(map)
 }
 
+/// Looks `n` items up, and returns how many there are.
 pub fn set_contains<O: Order>(set: &Set, order: &mut O, n: u64) -> u64
     requires { 0 < n }
 {
@@ -100,6 +103,7 @@ pub fn set_contains<O: Order>(set: &Set, order: &mut O, n: u64) -> u64
     count
 }
 
+/// Does the same with a map.
 pub fn set_map_contains<O: Order>(map: &SetMap, order: &mut O, n: u64) -> u64
     requires { 0 < n }
 {
@@ -112,6 +116,7 @@ pub fn set_map_contains<O: Order>(map: &SetMap, order: &mut O, n: u64) -> u64
     count
 }
 
+/// Goes over a set, and returns the exclusive or of its items.
 pub fn set_iterate(set: &Set) -> u64 {
     let mut sink = 0;
     for item in set {
@@ -120,6 +125,7 @@ pub fn set_iterate(set: &Set) -> u64 {
     sink
 }
 
+/// Does the same with a map.
 pub fn set_map_iterate(map: &SetMap) -> u64 {
     let mut sink = 0;
     for key in map.keys() {

@@ -1,5 +1,6 @@
 -- One pass over the lines of an input.
-use Rattle.std.proofs.Common.{ℕ, zero, suc, ◌-◌, ◌≡◌, Bool, true, false, cond, not, List, [], ◌∷◌, ◌++◌, drop, Option, None, Some, Result, Ok, Err, refl, sym, ap, ◌∙◌, subst, append_assoc, true≢false}
+use Rattle.std.proofs.Common.{ℕ, zero, suc, ◌-◌, ◌≡◌, Bool, true, false, cond, not, List, [], ◌∷◌, ◌++◌, drop, Option, None, Some, Result}
+use Rattle.std.proofs.Common.{Ok, Err, refl, sym, ap, ◌∙◌, subst, append_assoc, true≢false}
 use Rattle.std.specs.Prelude.{IfSome, OnOk}
 use Rattle.std.specs.Io.KnownBytes.{Appends, IsAtEnd}
 use Rattle.std.proofs.lemmas.List.{append-nil}
@@ -137,13 +138,15 @@ module _ {E : Type 0} (result : Result (Unit {0}) E) (known old new : Option (Li
       by_known None w = tt
       by_known (Some bytes) w = subst (λ ls. Appends old new (text_of ls)) (new_lines-distinct [] (lines_of bytes)) w
 
-      by_result : (r : Result (Unit {0}) E) → OnOk r (IfSome known (λ bytes. Appends old new (text_of (new_lines (distinct_lines None) [] (lines_of bytes)))))
+      by_result : (r : Result (Unit {0}) E)
+          → OnOk r (IfSome known (λ bytes. Appends old new (text_of (new_lines (distinct_lines None) [] (lines_of bytes)))))
           → OnOk r (IfSome known (λ bytes. Appends old new (text_of (kept_lines First (lines_of bytes)))))
       by_result (Ok u) w = by_known known w
       by_result (Err e) w = tt
 
   pub written-Last : (lines recent : List (List ℕ)) → lines ≡ recent → IfSome known (λ bytes. recent ≡ last_appearances (lines_of bytes))
-      → OnOk result (Appends old new (text_of lines)) → OnOk result (IfSome known (λ bytes. Appends old new (text_of (last_appearances (lines_of bytes)))))
+      → OnOk result (Appends old new (text_of lines))
+      → OnOk result (IfSome known (λ bytes. Appends old new (text_of (last_appearances (lines_of bytes)))))
   written-Last lines recent same last written = by_result result written
     where
       by_known : (k : Option (List ℕ)) → IfSome k (λ bytes. recent ≡ last_appearances (lines_of bytes)) → Appends old new (text_of lines)
