@@ -1,2 +1,3 @@
 mod Filters
+mod Finds
 pub mod Kept

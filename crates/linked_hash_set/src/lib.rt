@@ -11,7 +11,7 @@
 //! words.insert("red")?;
 //! words.insert("green")?;
 //!
-//! // A present item moves to the back, except by `insert_if_absent`.
+//! // A present item moves to the back, except by `insert_if_absent` and `replace`.
 //! assert!(rt; !words.insert("red")?);
 //! assert!(rt; !words.insert_if_absent("green")?);
 //! assert_eq!(rt; words.front(), Some(&"green"));
@@ -38,8 +38,8 @@
 //! # Calls by task
 //!
 //! - Create: `new`, `with_capacity`, `with_hasher`, `from_iter`, `clone`.
-//! - Insert: `insert` and `extend`, which move a present item to the back; `insert_if_absent`,
-//!   `get_or_insert`, `get_or_insert_with` and `replace`, which leave it in its place.
+//! - Insert: `insert`, `extend`, `get_or_insert` and `get_or_insert_with`, which move a present item
+//!   to the back; `insert_if_absent` and `replace`, which leave it in its place.
 //! - Look up: `contains`, `get`, `front`, `back`. [`Equivalent`] has what a lookup takes: a
 //!   reference to an item, or `&str` for a `String`.
 //! - Remove: `remove`, `take`, `pop_front`, `pop_back`, `retain`, `clear`, `drain`.

@@ -138,8 +138,9 @@ impl<T: Eq + Hash, S: BuildHasher> LinkedHashSet<T, S> {
         }
     }
 
-    /// Returns the stored item that is the same as a given one, which is inserted at the back if it
-    /// is absent, and else dropped. Hashes the item twice.
+    /// Inserts an item as [`insert`](LinkedHashSet::insert) does, and returns the one at the back:
+    /// the given item if it is new, and else the stored one, which moves there; `item` is then
+    /// dropped. Hashes the item once.
     ///
     /// It allocates and is refused as [`insert`](LinkedHashSet::insert).
     ///
@@ -150,7 +151,7 @@ impl<T: Eq + Hash, S: BuildHasher> LinkedHashSet<T, S> {
     /// set.insert('x')?;
     /// assert_eq!(rt; set.get_or_insert('y')?, &'y');
     /// assert_eq!(rt; set.get_or_insert('x')?, &'x');
-    /// assert_eq!(rt; (set.len(), set.back()), (2, Some(&'y')));
+    /// assert_eq!(rt; (set.len(), set.back()), (2, Some(&'x')));
     /// ```
     pub fn get_or_insert(&mut self, item: T) -> Result<&T, Refused<T>>
     where
@@ -162,24 +163,22 @@ impl<T: Eq + Hash, S: BuildHasher> LinkedHashSet<T, S> {
         ensures absent { OnErr result (contains T.eq self.old.items item ≡ false) }
         ensures full { OnErr result (length self.old.items ≡ self.old.capacity) }
     {
-        if self.contains(&item) {
-            return Ok(self.stored(&item));
-        }
         self.insert(item)?;
         Ok(self.last_item())
     }
 
-    /// Returns the stored item that is the same as a given one. If it is absent, an item that is
-    /// made of the given one is inserted as [`insert`](LinkedHashSet::insert) does, and returned.
-    /// Hashes the given item twice if it is present, and else it and the item made once each.
+    /// Moves the stored item that is the same as a given one to the back, and returns it. If it is
+    /// absent, an item is made of the given one, inserted as [`insert`](LinkedHashSet::insert)
+    /// does, and the one at the back returned. Hashes the given item once, and the one made once.
     ///
     /// # Examples
     ///
     /// ```rust
     /// let mut set = LinkedHashSet::new(rt.alloc());
-    /// assert_eq!(rt; set.get_or_insert_with(&'x', |item| *item)?, &'x');
-    /// assert_eq!(rt; set.get_or_insert_with(&'x', |_item| 'y')?, &'x');
-    /// assert_eq!(rt; set.len(), 1);
+    /// set.insert('x')?;
+    /// assert_eq!(rt; set.get_or_insert_with(&'y', |item| *item)?, &'y');
+    /// assert_eq!(rt; set.get_or_insert_with(&'x', |_item| 'z')?, &'x');
+    /// assert_eq!(rt; (set.len(), set.back()), (2, Some(&'x')));
     /// ```
     pub fn get_or_insert_with<Q: Equivalent<T>, F: FnOnce(Q) -> T>(
         &mut self,
@@ -199,22 +198,11 @@ impl<T: Eq + Hash, S: BuildHasher> LinkedHashSet<T, S> {
         ensures absent { OnErr result (contains Q.equivalent self.old.items item ≡ false) }
         ensures full { OnErr result (length self.old.items ≡ self.old.capacity) }
     {
-        if self.contains(item) {
-            return Ok(self.stored(item));
+        if self.to_back(item) {
+            return Ok(self.last_item());
         }
         self.insert(make(item))?;
         Ok(self.last_item())
-    }
-
-    /// Returns the stored item that is the same as a given one, which is present.
-    fn stored<Q: Equivalent<T>>(&self, item: Q) -> &T
-        requires { contains Q.equivalent self.now.items item ≡ true }
-        ensures { find Q.equivalent self.now.items item ≡ Some result.now }
-    {
-        match self.map.get_key_value(item) {
-            Some((stored, _unit)) => stored,
-            None => unreachable!(),
-        }
     }
 
     /// Returns the back item of a set that has one.

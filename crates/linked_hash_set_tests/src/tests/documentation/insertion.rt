@@ -42,7 +42,7 @@ fn get_or_insert(rt: HostRuntime) -> Result<(), Fail> {
     set.insert('x')?;
     assert_eq!(rt; set.get_or_insert('y')?, &'y');
     assert_eq!(rt; set.get_or_insert('x')?, &'x');
-    assert_eq!(rt; (set.len(), set.back()), (2, Some(&'y')));
+    assert_eq!(rt; (set.len(), set.back()), (2, Some(&'x')));
     Ok(())
 }
 
@@ -50,9 +50,10 @@ fn get_or_insert(rt: HostRuntime) -> Result<(), Fail> {
 #[test]
 fn get_or_insert_with(rt: HostRuntime) -> Result<(), Fail> {
     let mut set = LinkedHashSet::new(rt.alloc());
-    assert_eq!(rt; set.get_or_insert_with(&'x', |item| *item)?, &'x');
-    assert_eq!(rt; set.get_or_insert_with(&'x', |_item| 'y')?, &'x');
-    assert_eq!(rt; set.len(), 1);
+    set.insert('x')?;
+    assert_eq!(rt; set.get_or_insert_with(&'y', |item| *item)?, &'y');
+    assert_eq!(rt; set.get_or_insert_with(&'x', |_item| 'z')?, &'x');
+    assert_eq!(rt; (set.len(), set.back()), (2, Some(&'x')));
     Ok(())
 }
 

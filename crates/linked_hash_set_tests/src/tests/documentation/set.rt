@@ -62,7 +62,7 @@ fn seen_words(rt: HostRuntime) -> Result<(), Fail> {
     words.insert("red")?;
     words.insert("green")?;
 
-    // A present item moves to the back, except by `insert_if_absent`.
+    // A present item moves to the back, except by `insert_if_absent` and `replace`.
     assert!(rt; !words.insert("red")?);
     assert!(rt; !words.insert_if_absent("green")?);
     assert_eq!(rt; words.front(), Some(&"green"));
