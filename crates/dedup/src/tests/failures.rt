@@ -24,8 +24,7 @@ fn check_read(
     wanted: (u8, &[u8], &[u8]),
 ) {
     let words = given!(rt; arguments(alloc, words));
-    let mut source = Source::new(INPUT, failing.0);
-    source.calls.kind = failing.1;
+    let source = Source::new(INPUT, failing.0, failing.1);
     let mut input = given!(rt; BufReader::with_capacity(alloc, BUFFER_LEN, source));
     let mut output = Output::new(alloc, NEVER);
     let mut faults = Output::new(alloc, NEVER);

@@ -45,12 +45,11 @@ pub struct Source<'a> {
 }
 
 impl<'a> Source<'a> {
-    /// Creates a reader that fails at a call.
-    pub fn new(bytes: &'a [u8], fails_at: usize) -> Source<'a> {
-        Source {
-            left: bytes,
-            calls: Calls::new(fails_at),
-        }
+    /// Creates a reader that fails at a call by an error of a kind.
+    pub fn new(bytes: &'a [u8], fails_at: usize, kind: ErrorKind) -> Source<'a> {
+        let mut calls = Calls::new(fails_at);
+        calls.kind = kind;
+        Source { left: bytes, calls }
     }
 }
 
