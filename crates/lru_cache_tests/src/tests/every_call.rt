@@ -114,7 +114,7 @@ fn set_capacity_keeps_the_most_recently_used(rt: HostRuntime) {
 fn drains_and_retains(rt: HostRuntime) {
     let mut cache = cache_of_two(&rt, rt.alloc());
     cache.retain(|key, value| {
-        *value += 1;
+        *value = value.wrapping_add(1);
         *key == 2
     });
     assert_cache(&rt, &cache, &[(2, 21)], 2);
@@ -127,10 +127,10 @@ fn drains_and_retains(rt: HostRuntime) {
 /// Loops over a cache in three ways, which use no pair.
 fn loop_over(rt: &impl Abort, mut cache: Cache) {
     for (_key, value) in &mut cache {
-        *value += 1;
+        *value = value.wrapping_add(1);
     }
     for (_key, value) in cache.iter_mut() {
-        *value += 1;
+        *value = value.wrapping_add(1);
     }
     assert_cache(rt, &cache, &[(1, 12), (2, 22)], 2);
     let mut last = None;

@@ -264,7 +264,7 @@ fn look_up_without_memory(rt: &impl Abort, cache: &mut Cache) {
     write(cache, 6, 61);
     write_unused(cache, 4, 43);
     for (_key, value) in cache.iter_mut() {
-        *value += 1;
+        *value = value.wrapping_add(1);
     }
     assert_cache(rt, cache, &[(4, 44), (6, 62)], 2);
 }
