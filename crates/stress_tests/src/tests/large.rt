@@ -8,14 +8,14 @@ use std::process::Abort;
 
 type LargeMap = LinkedHashMap<u64, u64>;
 
-const MANY: usize = 10_000;
+const MANY: usize = 2000;
 
 /// Checks that a map has the keys below `MANY` in order, each with itself as its value, and this
 /// capacity.
 fn assert_many(rt: &impl Abort, map: &LargeMap, capacity: usize) {
     check_eq!(rt; (map.len(), map.capacity()), (MANY, capacity));
     let mut pairs = map.iter();
-    for key in 0..10_000 {
+    for key in 0..2000 {
         check_eq!(rt; pairs.next(), Some((&key, &key)));
         check_eq!(rt; map.get(&key), Some(&key));
     }
@@ -49,7 +49,7 @@ fn insert_some_way(rt: &impl Abort, map: &mut LargeMap, key: u64) {
 /// Makes a map of the keys below `MANY`, one by one.
 fn many(rt: &impl Abort, alloc: Global) -> LargeMap {
     let mut map = LinkedHashMap::new(alloc);
-    for key in 0..10_000 {
+    for key in 0..2000 {
         insert_some_way(rt, &mut map, key);
     }
     map
@@ -67,13 +67,13 @@ fn grows_above_a_thousand_one_by_one(rt: HostRuntime) {
 #[test]
 fn extends_above_a_thousand(rt: HostRuntime) {
     let mut extended = LinkedHashMap::new(rt.alloc());
-    let _ = given!(rt; extended.extend((0..10_000).map(|key| (key, key))));
+    let _ = given!(rt; extended.extend((0..2000).map(|key| (key, key))));
     assert_many(&rt, &extended, MANY);
 }
 
 /// Inserts the keys below `MANY`, which are absent.
 fn insert_many(rt: &impl Abort, map: &mut LargeMap) {
-    for key in 0..10_000 {
+    for key in 0..2000 {
         check_eq!(rt; map.insert(key, key), Ok(None));
     }
 }
@@ -90,7 +90,7 @@ fn grows_above_a_thousand_at_once(rt: HostRuntime) {
     let mut map = many_at_once(&rt, rt.alloc());
     assert_many(&rt, &map, MANY);
     let _ = given!(rt; map.reserve(MANY));
-    assert_many(&rt, &map, 20_000);
+    assert_many(&rt, &map, 4000);
     let _ = given!(rt; map.shrink_to_fit());
     assert_many(&rt, &map, MANY);
 }
@@ -140,7 +140,7 @@ fn assert_listed(rt: &impl Abort, replies: &[Reply<u64, u64>]) {
     let Some(Answer::Pairs(list)) = replies.last().map(|reply| &reply.answer) else {
         panic!(rt; "the pairs are not listed");
     };
-    check_eq!(rt; (list.len(), list.as_slice().last()), (MANY, Some(&(9999, 9999))));
+    check_eq!(rt; (list.len(), list.as_slice().last()), (MANY, Some(&(1999, 1999))));
 }
 
 #[test]
@@ -148,6 +148,6 @@ fn replays_above_a_thousand(rt: HostRuntime) {
     let pairs = many_shrunk(&rt, rt.alloc()).into_iter();
     let mut map = LinkedHashMap::new(rt.alloc());
     let replies = given!(rt; replay(&mut map, commands_of(&rt, rt.alloc(), pairs)));
-    check_eq!(rt; (replies.len(), map.len(), map.capacity()), (10_002, 0, MANY));
+    check_eq!(rt; (replies.len(), map.len(), map.capacity()), (2002, 0, MANY));
     assert_listed(&rt, replies.as_slice());
 }

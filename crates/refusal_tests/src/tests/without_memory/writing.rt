@@ -24,7 +24,6 @@ fn write_all(rt: &(impl Abort + Print + AllocGlobal), made: Result<Map, ReserveE
         write_all_but_first(rt, &mut map);
         loop_over(&mut map);
         reorder(rt, &mut map);
-        replace_keys(rt, &mut map);
         write_by_values(rt, &mut map);
         insert_present(rt, &mut map);
         remove_pairs(rt, &mut map);
@@ -101,11 +100,6 @@ fn reorder(rt: &impl Abort, map: &mut Map) {
     rotate(map, 2);
     check_eq!(rt; (map.front_mut().copied(), map.back_mut().copied()), (Some(11), Some(22)));
     assert_map(rt, map, &[(1, 11), (2, 22), (3, 22)], 3, 0);
-}
-
-/// Replaces a key that is present, and one that is not.
-fn replace_keys(rt: &impl Abort, map: &mut Map) {
-    check_eq!(rt; (map.replace_key(1), map.replace_key(4)), (Ok(1), Err(4)));
 }
 
 /// Moves the first pairs of a map behind the others, if it has as many.
