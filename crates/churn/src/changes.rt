@@ -60,16 +60,6 @@ fn refresh_each<K: Key, V: Value>(alloc: Global) -> Result<u64, Stop> {
     Ok(written)
 }
 
-/// Replaces each key of a full map, and one more that is absent.
-fn replace_keys<K: Key, V: Value>(alloc: Global) -> Result<u64, Stop> {
-    let mut map: Map<K, V> = filled(alloc)?;
-    let mut replaced: u64 = 0;
-    for number in 0..=PAIRS {
-        replaced = replaced.wrapping_add(map.replace_key(K::key(alloc, number)?).is_ok() as u64);
-    }
-    Ok(replaced)
-}
-
 /// Writes each value of a map by a loop.
 fn write_values<K: Key, V: Value>(alloc: Global, map: &mut Map<K, V>) -> Result<u64, Stop> {
     let mut written: u64 = 0;
@@ -104,7 +94,6 @@ pub fn run<K: Key, V: Value>(alloc: Global) -> Result<u64, Stop> {
         remove::<K, V>(alloc)?,
         pop::<K, V>(alloc)?,
         refresh_each::<K, V>(alloc)?,
-        replace_keys::<K, V>(alloc)?,
         write_each::<K, V>(alloc)?,
         retain::<K, V>(alloc)?,
     ];
