@@ -25,17 +25,6 @@ fn insertion_if_absent_keeps_the_place_of_a_present_item(rt: HostRuntime) {
 }
 
 #[test]
-fn get_or_insert_moves_a_present_item_to_the_back(rt: HostRuntime) {
-    let mut set = set_of(&rt, rt.alloc(), &[1, 2, 3]);
-    check_eq!(rt; set.get_or_insert(1), Ok(&1));
-    assert_set(&rt, &set, &[2, 3, 1], 3);
-    check_eq!(rt; set.get_or_insert_with(&3, |_item| 4), Ok(&3));
-    assert_set(&rt, &set, &[2, 1, 3], 3);
-    check_eq!(rt; set.get_or_insert_with(&4, |_item| 2), Ok(&2));
-    assert_set(&rt, &set, &[1, 3, 2], 3);
-}
-
-#[test]
 fn moves_to_the_back_and_to_the_front(rt: HostRuntime) {
     let mut set = set_of(&rt, rt.alloc(), &[1, 2, 3]);
     check_eq!(rt; (set.to_back(&1), set.to_back(&4)), (true, false));

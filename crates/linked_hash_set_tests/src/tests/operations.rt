@@ -16,7 +16,11 @@ fn assert_difference(rt: &impl Abort, mut items: Difference<'_, u8, BuildLastByt
 }
 
 /// Checks that an intersection yields these items, and then nothing, twice.
-fn assert_intersection(rt: &impl Abort, mut items: Intersection<'_, u8, BuildLastByte>, wanted: &[u8]) {
+fn assert_intersection(
+    rt: &impl Abort,
+    mut items: Intersection<'_, u8, BuildLastByte>,
+    wanted: &[u8],
+) {
     for item in wanted {
         check_eq!(rt; items.next(), Some(item));
     }
