@@ -191,7 +191,7 @@ impl<K, V> Index<K, V> {
 
 impl<K: Eq + Hash, V> Index<K, V> {
     /// Returns the position of the node with this hash and key, if any, and the counts, which take
-    /// no instruction: contracts alone read a `Snapshot`. It reads no node if the filter lacks the
+    /// no bytes: contracts alone read a `Snapshot`. It reads no node if the filter lacks the
     /// hash.
     pub fn position<Q: Equivalent<K>>(
         &self,

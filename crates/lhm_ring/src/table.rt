@@ -359,7 +359,7 @@ impl<K: Eq + Hash, V> Table<K, V> {
     }
 
     /// Returns the position of the pair with this hash and key, if any, and the counts, which take
-    /// no instruction: contracts alone read a `Snapshot`. It reads no pair if the filter lacks the
+    /// no bytes: contracts alone read a `Snapshot`. It reads no pair if the filter lacks the
     /// hash.
     pub fn position<Q: Equivalent<K>>(
         &self,
