@@ -82,7 +82,8 @@ fn put_into_full(
     let Ok(mut set) = made else {
         return false;
     };
-    let item = after.len() as u8;
+    // The items are 1, 2 and so on, so the last one is the new one.
+    let item = after.last().copied().unwrap_or(0);
     let given = put_or_put_again(rt, &mut set, call, item, before);
     assert_set(rt, &set, after, after.len());
     given
@@ -119,7 +120,7 @@ fn extend(rt: &impl Abort, set: &mut Set) -> bool {
         Ok(()) => assert_set(rt, set, &[1, 2, 3], 3),
         Err(refused) => {
             let kept = [1, 2];
-            let before = refused.item as usize - 1;
+            let before = (refused.item as usize).saturating_sub(1);
             assert_set(rt, set, kept.get(..before).unwrap_or(&[]), before);
             return false;
         }
