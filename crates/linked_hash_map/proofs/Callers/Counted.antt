@@ -15,12 +15,12 @@ use Rattle.linked_hash_map.proofs.Callers.Keys.{keys_of-set_or_push, is_some-fin
 
 module _ {K : Type 0} {eq : K → K → Bool} (laws : IsEquivalence eq) (pairs : List (K × ℕ)) (items : List K) where
   -- the next item is counted
-  count_by-set_or_push : (d q : K) (n i : ℕ) → i < length items
+  count_by-set_or_push : (d q : K) {n : ℕ} (i : ℕ) → i < length items
       → ((q : K) → unwrap_or (value_at eq pairs q) 0 ≡ count_by (eq q) (take i items))
       → n ≡ unwrap_or (value_at eq pairs (get_or items i d)) 0 + 1
       → unwrap_or (value_at eq (set_or_push eq pairs (get_or items i d) n) q) 0
       ≡ count_by (eq q) (take (i + 1) items)
-  count_by-set_or_push d q n i within before more = by_test (eq item q) refl
+  count_by-set_or_push d q {n} i within before more = by_test (eq item q) refl
     where
       item : K
       item = get_or items i d
@@ -90,7 +90,7 @@ module _ {K : Type 0} {eq : K → K → Bool} (laws : IsEquivalence eq) {before 
       → CountsItems eq after (take (i + 1) items)
   CountsItems-counted {after} {stored} acts written = record {
     count = λ q. ap (λ pairs. unwrap_or (value_at eq pairs q) 0) own
-        ∙ count_by-set_or_push laws before items k q n i within w.count (ap (λ j. unwrap_or (value_at eq before j) 0 + 1) item_is);
+        ∙ count_by-set_or_push laws before items k q i within w.count (ap (λ j. unwrap_or (value_at eq before j) 0 + 1) item_is);
     order = ap keys_of own ∙ keys_of-set_or_push_first_seen laws before items k n i within w.order;
   }
     where

@@ -231,22 +231,22 @@ module _ {K V : Type 0} {eq : K → K → Bool} (laws : IsEquivalence eq) (start
       ∙ sym (answer-allowed laws start' log command answer' told')
 
   same_answers : (commands : List (Command K V)) (replies replies' : List (Reply K V)) (log : Log K V)
-      → IsRun eq start log commands replies → IsRun eq start' log commands replies'
+      → IsRun eq start log commands replies × IsRun eq start' log commands replies'
       → refusals replies ≡ refusals replies'
       → (map (λ reply. reply.answer) replies ≡ map (λ reply. reply.answer) replies')
       × (last_log eq log commands replies ≡ last_log eq log commands replies')
-  same_answers [] [] [] log run run' same = (refl, refl)
-  same_answers [] (reply ∷ replies) replies' log run run' same = absurd run
-  same_answers [] [] (reply' ∷ replies') log run run' same = absurd run'
-  same_answers (command ∷ commands) [] replies' log run run' same = absurd run
-  same_answers (command ∷ commands) (reply ∷ replies) [] log run run' same = absurd run'
-  same_answers (command ∷ commands) (reply ∷ replies) (reply' ∷ replies') log run run' same =
+  same_answers [] [] [] log runs same = (refl, refl)
+  same_answers [] (reply ∷ replies) replies' log runs same = absurd runs.0
+  same_answers [] [] (reply' ∷ replies') log runs same = absurd runs.1
+  same_answers (command ∷ commands) [] replies' log runs same = absurd runs.0
+  same_answers (command ∷ commands) (reply ∷ replies) [] log runs same = absurd runs.1
+  same_answers (command ∷ commands) (reply ∷ replies) (reply' ∷ replies') log (run, run') same =
       let first : refused_after reply.answer ≡ refused_after reply'.answer = cc in
       let others : refusals replies ≡ refusals replies' = cc in
       let answer = same_answer log command reply.answer reply'.answer run.0.allowed.answers
       run'.0.allowed.answers first in
       let rest = same_answers commands replies replies' (log_after eq log command reply.answer)
-      run.1 (subst (λ answer. IsRun eq start' (log_after eq log command answer) commands replies')
+      (run.1, subst (λ answer. IsRun eq start' (log_after eq log command answer) commands replies')
       (sym answer) run'.1) others in (
         ap₂ (λ answer answers. answer ∷ answers) answer rest.0,
         rest.1 ∙ ap (λ answer. last_log eq (log_after eq log command answer) commands replies') answer,
@@ -294,7 +294,7 @@ module _ {K V S T E : Type 0} {eq : K → K → Bool} (laws : IsEquivalence eq)
         let again = subst (λ log. IsRun eq old'.capacity log commands replies'.items) begun
         (subst (λ cs. IsRun eq old'.capacity (first_log old'.mode old'.pairs) cs replies'.items) (sym copied) replayed'.run) in
         let run = same_answers laws old.capacity old'.capacity commands replies.items replies'.items
-        first replayed.run again refused_alike in
+        first (replayed.run, again) refused_alike in
         let ends : last_log eq first commands replies.items
         ≡ last_log eq (first_log old'.mode old'.pairs) copies replies'.items =
         run.1 ∙ ap₂ (λ log cs. last_log eq log cs replies'.items) (sym begun) copied in (

@@ -99,14 +99,16 @@ pointers-bare [] = refl
 pointers-bare (t ∷ hs) = ap (λ ps. t.at ∷ ps) (pointers-bare hs)
 
 -- hs are the nodes before, and ks those where the one at p is before the others
-module _ {K V : Type 0} (hs ks : List (Held (K × V))) {p : Ptr}
-    (first : AtHeld hs p (λ xs x ys. ks ≡ x ∷ (xs ++ ys)))
-    (lies : before p hs < length hs) where
+pub record IsMovedToFront {K V : Type 0} (p : Ptr) (hs ks : List (Held (K × V))) : Type 0 where
+  pub first : AtHeld hs p (λ xs x ys. ks ≡ x ∷ (xs ++ ys))
+  pub lies : before p hs < length hs
+
+module _ {K V : Type 0} {hs ks : List (Held (K × V))} {p : Ptr} (is_moved : IsMovedToFront p hs ks) where
   cut_moved : CutAt p hs
-  cut_moved = CutAt-before p hs lies
+  cut_moved = CutAt-before p hs is_moved.lies
 
   moved : ks ≡ cut_moved.held.node ∷ (cut_moved.held.before ++ cut_moved.held.after)
-  moved = let h = cut_moved.held in first h.before h.node h.after h.is h.at_is
+  moved = let h = cut_moved.held in is_moved.first h.before h.node h.after h.is h.at_is
 
   pub pairs-moved : (pair : K × V) → slice_get (pairs_of hs) (before p hs) ≡ Some pair
       → pairs_of ks ≡ pair ∷ remove (pairs_of hs) (before p hs)
@@ -176,5 +178,5 @@ module _ {K V : Type 0} (hs ks : List (Held (K × V))) {p : Ptr}
       → IsKept eq hash (bare ks) n no_visit
   IsKept-front laws kept apart same =
       let at = before-bare p hs in let long = length-bare hs in
-      IsKept-visited (IsKept-moved (IsKept-visited kept (Some p) (omega (arith, at, long, lies)))
+      IsKept-visited (IsKept-moved (IsKept-visited kept (Some p) (omega (arith, at, long, is_moved.lies)))
       (inr (omega arith)) apart laws refl same) None tt

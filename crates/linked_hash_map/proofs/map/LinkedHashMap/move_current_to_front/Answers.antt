@@ -5,7 +5,7 @@ use Rattle.linked_hash_map.proofs.pairs.Indexes.{to_front-index}
 use Rattle.linked_hash_map.proofs.nodes.HeldPairs.{length-pairs_of}
 use Rattle.linked_hash_map.proofs.nodes.Kept.{distinct_keys, IsValid-kept}
 use Rattle.linked_hash_map.proofs.nodes.Current.{current_of-Some, current_at-Some, before-current, CutAt-current, IsElsewhere-current}
-use Rattle.linked_hash_map.proofs.nodes.MovedToFront.{pairs-moved, length-to_front, before-at_front, IsKept-moved}
+use Rattle.linked_hash_map.proofs.nodes.MovedToFront.{IsMovedToFront, pairs-moved, length-to_front, before-at_front, IsKept-moved}
 use Rattle.linked_hash_map.proofs.nodes.MovedToFront.{to_visit-moved, elsewhere-moved}
 use Rattle.linked_hash_map.proofs.nodes.Outside.{IsElsewhere}
 use Rattle.linked_hash_map.proofs.map.LinkedHashMap.move_current_to_front.Goals as goal
@@ -18,9 +18,12 @@ move_to_front-requires g c = (CutAt-current c.self.inside.table.held c.self.inva
 is : (g : _) (c : goal.After-move_to_front g) → current_of c.self.inside.visit ≡ Some (pointer_of c.unwrap-at.result)
 is g c = current_of-Some c.current.ensures c.unwrap-at.ensures
 
-lies : (g : _) (c : goal.After-move_to_front g)
-    → before (pointer_of c.unwrap-at.result) c.self.inside.table.held < length c.self.inside.table.held
-lies g c = before-current c.self.inside.table.held c.self.invariant (is g c)
+is_moved : (g : _) (c : goal.After-move_to_front g)
+    → IsMovedToFront (pointer_of c.unwrap-at.result) c.self.inside.table.held c.move_to_front.new.self.held
+is_moved g c = record {
+  first = c.move_to_front.ensures.first;
+  lies = before-current c.self.inside.table.held c.self.invariant (is g c);
+}
 
 elsewhere : (g : _) (c : goal.After-move_to_front g)
     → IsElsewhere (before (pointer_of c.unwrap-at.result) c.self.inside.table.held)
@@ -29,16 +32,15 @@ elsewhere g c = IsElsewhere-current c.self.inside.table.held c.self.invariant (i
     (ap (λ m. m.cursor) c.self.view_is) c.requires.outside
 
 pub invariant_of-self : goal.invariant_of-self
-invariant_of-self g c = IsKept-moved c.self.inside.table.held c.move_to_front.new.self.held
-    c.move_to_front.ensures.first (lies g c) c.self.invariant (elsewhere g c) c.move_to_front.ensures.apart
-    g.met.K.Eq.laws (is g c) c.move_to_front.ensures.keeps.capacity
+invariant_of-self g c = IsKept-moved (is_moved g c) c.self.invariant (elsewhere g c)
+    c.move_to_front.ensures.apart g.met.K.Eq.laws (is g c) c.move_to_front.ensures.keeps.capacity
 
 pub returns-clause-pairs : goal.returns-clause-pairs
 returns-clause-pairs g c =
     let hs = c.self.inside.table.held in
     rw (← c.self.view_is) (λ key index.
     let here = subst (IsIndex g.K.PartialEq.eq (pairs_of hs) key) (current_at-Some (is g c) hs) index in
-    pairs-moved hs c.move_to_front.new.self.held c.move_to_front.ensures.first (lies g c) here.pair here.there
+    pairs-moved (is_moved g c) here.pair here.there
     ∙ sym (to_front-index g.met.K.Eq.laws (distinct_keys hs c.self.invariant) here here.there))
 
 pub returns-clause-pair : goal.returns-clause-pair
@@ -46,25 +48,24 @@ returns-clause-pair g c =
     let hs = c.self.inside.table.held in let ks = c.move_to_front.new.self.held in
     rw (← c.self.view_is) (λ pair there.
     let was = ap (slice_get (pairs_of hs)) (sym (current_at-Some (is g c) hs)) ∙ there in
-    let pushed = pairs-moved hs ks c.move_to_front.ensures.first (lies g c) pair was in
-    let at = current_at-Some (is g c) ks ∙ before-at_front hs ks c.move_to_front.ensures.first (lies g c) in
+    let pushed = pairs-moved (is_moved g c) pair was in
+    let at = current_at-Some (is g c) ks ∙ before-at_front (is_moved g c) in
     ap₂ (λ ps i. slice_get ps i) pushed at)
 
 pub returns-clause-len : goal.returns-clause-len
 returns-clause-len g c =
     let hs = c.self.inside.table.held in let ks = c.move_to_front.new.self.held in
-    rw (← c.self.view_is) (length-pairs_of ks ∙ length-to_front hs ks c.move_to_front.ensures.first (lies g c) ∙ sym (length-pairs_of hs))
+    rw (← c.self.view_is) (length-pairs_of ks ∙ length-to_front (is_moved g c) ∙ sym (length-pairs_of hs))
 
 pub returns-clause-to_visit : goal.returns-clause-to_visit
-returns-clause-to_visit g c = rw (← c.self.view_is) (to_visit-moved c.self.inside.table.held c.move_to_front.new.self.held
-    c.move_to_front.ensures.first (lies g c) c.self.invariant (elsewhere g c) c.move_to_front.ensures.apart)
+returns-clause-to_visit g c = rw (← c.self.view_is) (to_visit-moved (is_moved g c) c.self.invariant (elsewhere g c)
+    c.move_to_front.ensures.apart)
 
 pub returns-clause-outside : goal.returns-clause-outside
 returns-clause-outside g c =
     let ks = c.move_to_front.new.self.held in
     subst (λ k. IsElsewhere k (visit_of c.self.inside.visit) (bare ks)) (sym (current_at-Some (is g c) ks))
-    (elsewhere-moved c.self.inside.table.held ks c.move_to_front.ensures.first (lies g c) c.self.invariant
-    (elsewhere g c) c.move_to_front.ensures.apart)
+    (elsewhere-moved (is_moved g c) c.self.invariant (elsewhere g c) c.move_to_front.ensures.apart)
 
 pub returns-clause-stays_valid : goal.returns-clause-stays_valid
 returns-clause-stays_valid g c = IsValid-kept _ (invariant_of-self g c) refl refl refl

@@ -8,7 +8,7 @@ use Rattle.linked_hash_map.proofs.nodes.AbsentKeys.{hash_by-respects, find-IsAbs
 use Rattle.linked_hash_map.proofs.nodes.FoundKeys.{before-HasKey, IsIndex-before}
 use Rattle.linked_hash_map.proofs.nodes.HeldPairs.{length-pairs_of}
 use Rattle.linked_hash_map.proofs.nodes.Kept.{distinct_keys, IsValid-kept}
-use Rattle.linked_hash_map.proofs.nodes.MovedToFront.{pairs-moved, length-to_front, IsKept-front}
+use Rattle.linked_hash_map.proofs.nodes.MovedToFront.{IsMovedToFront, pairs-moved, length-to_front, IsKept-front}
 use Rattle.linked_hash_map.proofs.nodes.StoredKeys.{eq-stored, HasKey-stored, find-stored}
 use Rattle.linked_hash_map.proofs.pairs.Indexes.{to_front-index}
 use Rattle.linked_hash_map.proofs.map.LinkedHashMap.move_to_front.Goals as goal
@@ -21,19 +21,22 @@ has : (g : _) (c : goal.After-move_to_front g)
     (pointer_of c.in-Some.at)
 has g c = of-Some _ c.in-Some.is c.position-found.ensures.found
 
+is_moved : (g : _) (c : goal.After-move_to_front g)
+    → IsMovedToFront (pointer_of c.in-Some.at) c.self.inside.table.held c.move_to_front.new.self.held
+is_moved g c = record { first = c.move_to_front.ensures.first; lies = before-HasKey (has g c) }
+
 -- the pair of the stored key is moved
 moved : (g : _) (c : goal.After-move_to_front g) → pairs_of c.move_to_front.new.self.held
     ≡ to_front g.K.PartialEq.eq (pairs_of c.self.inside.table.held) (has g c).held.node.pair.0
 moved g c =
     let laws = g.met.K.Eq.laws in let hs = c.self.inside.table.held in
     let index = IsIndex-before (HasKey-stored laws (g.met.Q.Equivalent.respects_eq c.args.key) (has g c)) in
-    pairs-moved hs c.move_to_front.new.self.held c.move_to_front.ensures.first (before-HasKey (has g c)) index.pair index.there
+    pairs-moved (is_moved g c) index.pair index.there
     ∙ sym (to_front-index laws (distinct_keys hs c.self.invariant) index index.there)
 
 pub invariant_of-self : goal.invariant_of-self
-invariant_of-self g c = IsKept-front c.self.inside.table.held c.move_to_front.new.self.held
-    c.move_to_front.ensures.first (before-HasKey (has g c)) g.met.K.Eq.laws c.self.invariant c.move_to_front.ensures.apart
-    c.move_to_front.ensures.keeps.capacity
+invariant_of-self g c = IsKept-front (is_moved g c) g.met.K.Eq.laws c.self.invariant
+    c.move_to_front.ensures.apart c.move_to_front.ensures.keeps.capacity
 
 pub returns-in-Some-clause-found : goal.returns-in-Some-clause-found
 returns-in-Some-clause-found g c =
@@ -55,7 +58,7 @@ pub returns-in-Some-clause-len : goal.returns-in-Some-clause-len
 returns-in-Some-clause-len g c =
     let hs = c.self.inside.table.held in let ks = c.move_to_front.new.self.held in
     rw (← c.self.view_is)
-    (length-pairs_of ks ∙ length-to_front hs ks c.move_to_front.ensures.first (before-HasKey (has g c)) ∙ sym (length-pairs_of hs))
+    (length-pairs_of ks ∙ length-to_front (is_moved g c) ∙ sym (length-pairs_of hs))
 
 pub returns-in-Some-clause-finds : goal.returns-in-Some-clause-finds
 returns-in-Some-clause-finds g c =
