@@ -156,21 +156,6 @@ pub distinct-nil : {K : Type 0} (eq : K → K → Bool) → IsDistinct eq []
 unfolding IsDistinct
 distinct-nil eq = tt
 
-pub distinct-set_value : {K V : Type 0} (eq : K → K → Bool) (pairs : List (K × V)) (k : K) (v : V)
-    → IsDistinct eq (keys_of pairs) → IsDistinct eq (keys_of (set_value eq pairs k v))
-distinct-set_value eq pairs k v distinct = subst (IsDistinct eq) (sym (keys_of-set_value eq pairs k v)) distinct
-
-pub distinct-set_or_push : {K V : Type 0} {eq : K → K → Bool} → IsEquivalence eq
-    → (pairs : List (K × V)) (k : K) (v : V) → IsDistinct eq (keys_of pairs)
-    → IsDistinct eq (keys_of (set_or_push eq pairs k v))
-distinct-set_or_push {K} {V} {eq} laws pairs k v distinct = by_pair (find eq pairs k) refl
-  where
-    by_pair : (o : Option (K × V)) → find eq pairs k ≡ o
-        → IsDistinct eq (keys_of (cond (is_some o) (set_value eq pairs k v) (pairs ++ (k, v) ∷ [])))
-    by_pair None none = subst (λ ps. IsDistinct eq (keys_of ps)) (to_back-absent eq pairs k v none)
-        (distinct-to_back laws pairs k v distinct)
-    by_pair (Some pair) found = distinct-set_value eq pairs k v distinct
-
 -- a new key in place of the oldest: the first pair goes, the others stand, and the new one is last
 find_drop : {K V : Type 0} (test : K → Bool) (n : ℕ) (pairs : List (K × V))
     → lookup_entry test pairs ≡ None → lookup_entry test (drop n pairs) ≡ None

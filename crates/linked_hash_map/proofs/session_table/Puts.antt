@@ -74,15 +74,6 @@ module _ {T : Type 0} where
   pub find-new : (ps : List (ℕ × Weighted T)) (id : ℕ) → is_some (session_of (sessions_of ps) id) ≡ false → pairs.find nat_eq ps id ≡ None
   find-new ps id new = none_is (pairs.find nat_eq ps id) (sym (is_some-session_of ps id) ∙ new)
 
-  some_weight : (o : Option (Session T)) → is_some (option_map (λ (session : Session T). session.1) o) ≡ is_some o
-  some_weight None = refl
-  some_weight (Some session) = refl
-
-  pub is_some-weight : (sessions : List (Session T)) (id : ℕ) {weight : Option ℕ}
-      → weight ≡ option_map (λ session. session.1) (session_of sessions id)
-      → is_some (session_of sessions id) ≡ is_some weight
-  is_some-weight sessions id known = sym (ap is_some known ∙ some_weight (session_of sessions id))
-
   pub find-drop_new : (ps : List (ℕ × Weighted T)) (count id : ℕ) {left : List (ℕ × Weighted T)}
       → pairs.find nat_eq ps id ≡ None → left ≡ drop count ps → pairs.find nat_eq left id ≡ None
   find-drop_new ps count id none oldest = ap (λ l. pairs.find nat_eq l id) oldest ∙ find-drop nat_eq ps id count none
