@@ -245,9 +245,11 @@ module _ {K V : Type 0} {eq : K → K → Bool} (laws : IsEquivalence eq) (start
       let others : refusals replies ≡ refusals replies' = cc in
       let answer = same_answer log command reply.answer reply'.answer run.0.allowed.answers
       run'.0.allowed.answers first in
-      let rest = same_answers commands replies replies' (log_after eq log command reply.answer)
-      (run.1, subst (λ answer. IsRun eq start' (log_after eq log command answer) commands replies')
-      (sym answer) run'.1) others in (
+      let rest = same_answers commands replies replies' (log_after eq log command reply.answer) (
+        run.1,
+        subst (λ answer. IsRun eq start' (log_after eq log command answer) commands replies')
+            (sym answer) run'.1,
+      ) others in (
         ap₂ (λ answer answers. answer ∷ answers) answer rest.0,
         rest.1 ∙ ap (λ answer. last_log eq (log_after eq log command answer) commands replies') answer,
       )
