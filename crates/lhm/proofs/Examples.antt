@@ -17,7 +17,8 @@ lines_of-ended : lines_of (codes "a" ++ 10 ∷ []) ≡ codes "a" ∷ []
 lines_of-ended = refl
 
 -- any of the separators, one or more, and at the ends of the line too
-words_of-separated : words_of (32 ∷ codes "insert" ++ 9 ∷ codes "01" ++ 32 ∷ 13 ∷ codes "5" ++ 13 ∷ []) ≡ codes "insert" ∷ codes "01" ∷ codes "5" ∷ []
+words_of-separated : words_of (32 ∷ codes "insert" ++ 9 ∷ codes "01" ++ 32 ∷ 13 ∷ codes "5" ++ 13 ∷ [])
+    ≡ codes "insert" ∷ codes "01" ∷ codes "5" ∷ []
 words_of-separated = refl
 
 words_of-blank : words_of (32 ∷ 9 ∷ 13 ∷ []) ≡ []
@@ -60,6 +61,7 @@ quote_text-cut : quote_text (replicate 41 97) ≡ codes "\"aaaaaaaaaaaaaaaaaaaaa
 unfolding lib.Utf8.encode
 quote_text-cut = refl
 
-stop_text-line : (line : Bor (List ℕ)) → line.now ≡ codes "insert 5" → stop_text (NotACommand 3 line) ≡ codes "line 3: not a command: \"insert 5\""
+stop_text-line : (line : Bor (List ℕ)) → line.now ≡ codes "insert 5"
+    → stop_text (NotACommand 3 line) ≡ codes "line 3: not a command: \"insert 5\""
 unfolding digits lib.Utf8.encode
 stop_text-line line same = rw same refl

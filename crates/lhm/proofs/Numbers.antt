@@ -14,7 +14,9 @@ no_digit word i l out = λ (says : IsNumber word).
     grind (arith, out, r)
 
 -- one digit more
-pub one_more : (word : List ℕ) (i value digit : ℕ) → i < length word → IsInRange 48 57 (get_or word i 0) → digit + 48 ≡ get_or word i 0 → value ≡ digits_value 10 (take i word) → value * 10 + digit ≡ digits_value 10 (take (i + 1) word)
+pub one_more : (word : List ℕ) (i value digit : ℕ) → i < length word → IsInRange 48 57 (get_or word i 0)
+    → digit + 48 ≡ get_or word i 0 → value ≡ digits_value 10 (take i word)
+    → value * 10 + digit ≡ digits_value 10 (take (i + 1) word)
 one_more word i value digit l r d e =
     let same = digit_value_digit (get_or word i 0) r in
     rw (digits_value_more 10 word i l, ← e) (omega (arith, same, d))
@@ -27,7 +29,8 @@ too_large word i front e big = λ (says : IsNumber word).
     omega (arith, le, fits, e, big)
 
 -- the whole word
-pub whole : (word : List ℕ) (value : ℕ) → 0 < length word → ((k : ℕ) → k < length word → IsInRange 48 57 (get_or word k 0)) → value ≡ digits_value 10 word → value < 2 ^ 64 → IsNumber word × (value ≡ digits_value 10 word)
+pub whole : (word : List ℕ) (value : ℕ) → 0 < length word → ((k : ℕ) → k < length word → IsInRange 48 57 (get_or word k 0))
+    → value ≡ digits_value 10 word → value < 2 ^ 64 → IsNumber word × (value ≡ digits_value 10 word)
 whole word value some digits e small =
     let own = numerals_by_value _ tells_by_index in
     let fits : digits_value 10 word < 2 ^ 64 = omega (arith, e, small) in

@@ -2,7 +2,9 @@
 use Rattle.std.specs.Prelude.{ℕ, ◌≡◌, ◌≢◌, ◌+◌, ◌⊎◌, List, [], ◌∷◌, ◌++◌, Bool, true, false, All, codes, filter, length, map}
 use Rattle.std.specs.List.{AllZip}
 use Rattle.linked_hash_map.specs.declared.replay.Command.{Command}
-use Rattle.linked_hash_map.specs.declared.replay.Command.TheVariants.{Insert, Write, Refresh, Remove, PopFront, PopBack, Clear, Drain, Extend, OrInsert, EntryInsert, EntryRemove, Reserve, Shrink, SetMode}
+use Rattle.linked_hash_map.specs.declared.replay.Command.TheVariants.{Insert, Write, Refresh, Remove, PopFront, PopBack, Clear}
+use Rattle.linked_hash_map.specs.declared.replay.Command.TheVariants.{Drain, Extend, OrInsert, EntryInsert, EntryRemove}
+use Rattle.linked_hash_map.specs.declared.replay.Command.TheVariants.{Reserve, Shrink, SetMode}
 use Rattle.linked_hash_map.specs.declared.map.Mode.{Mode}
 use Rattle.linked_hash_map.specs.declared.map.Mode.TheVariants.{Touch, Keep}
 use Rattle.lhm.specs.declared.parser.Name.{Name}

@@ -8,15 +8,16 @@ use Rattle.lhm.proofs.parser.commands.Goals as goal
 
 pub returns-in-Err-NotACommand-clause-err : goal.returns-in-Err-NotACommand-clause-err
 returns-in-Err-NotACommand-clause-err c =
-    c.loop-rest.invariant.first_invalid 1 c.split_line.result.0.now (rw c.split_line.ensures.lines (IsFirstInvalid-one _ _ (c.in-Err-NotACommand.ensures.err (ap Err c.in-Err-NotACommand.field-0-is))))
+    let invalid = c.in-Err-NotACommand.ensures.err (ap Err c.in-Err-NotACommand.field-0-is) in
+    c.loop-rest.invariant.first_invalid 1 c.split_line.result.0.now (rw c.split_line.ensures.lines (IsFirstInvalid-one _ _ invalid))
 
 pub loop-rest-preserved-in-Ok-None : goal.loop-rest-preserved-in-Ok-None
 loop-rest-preserved-in-Ok-None c =
     let blank : words_of c.split_line.result.0.now ≡ [] = rw c.in-Ok-None.field-0-is at c.in-Ok-None.ensures.ok in
     record {
       said = λ (cs : List (Command ℕ ℕ)) (said : AreCommandsOf (lines_of c.split_line.result.1.now) cs).
-          c.loop-rest.invariant.said cs
-          (rw c.split_line.ensures.lines (AreCommandsOf-blank c.split_line.result.0.now (lines_of c.split_line.result.1.now) cs blank said));
+          let more = AreCommandsOf-blank c.split_line.result.0.now (lines_of c.split_line.result.1.now) cs blank said in
+          c.loop-rest.invariant.said cs (rw c.split_line.ensures.lines more);
       first_invalid = λ (n : ℕ) (line : List ℕ) (first : IsFirstInvalid (lines_of c.split_line.result.1.now) n line).
           rw add_assoc (c.loop-rest.invariant.first_invalid (1 + n) line
           (rw c.split_line.ensures.lines (IsFirstInvalid-add c.split_line.result.0.now _ n line (inl blank) first)));
@@ -28,9 +29,10 @@ loop-rest-preserved c =
     let says : IsSaidBy c.in-Ok-Some.command (words_of c.split_line.result.0.now) = rw c.in-Ok-Some.field-0-is at c.in-Ok-Some.ensures.ok in
     record {
       said = λ (cs : List (Command ℕ ℕ)) (said : AreCommandsOf (lines_of c.split_line.result.1.now) cs).
-          let more = c.loop-rest.invariant.said (c.in-Ok-Some.command ∷ cs)
-          (rw c.split_line.ensures.lines (AreCommandsOf-said c.split_line.result.0.now (lines_of c.split_line.result.1.now) c.in-Ok-Some.command cs says said)) in
-          rw (c.in_ok-push-in-Ok-Some.ensures.items, append_assoc, c.in-Ok-Some.field-0-is) more;
+          let command = c.in-Ok-Some.command in
+          let more = AreCommandsOf-said c.split_line.result.0.now (lines_of c.split_line.result.1.now) command cs says said in
+          let whole = c.loop-rest.invariant.said (command ∷ cs) (rw c.split_line.ensures.lines more) in
+          rw (c.in_ok-push-in-Ok-Some.ensures.items, append_assoc, c.in-Ok-Some.field-0-is) whole;
       first_invalid = λ (n : ℕ) (line : List ℕ) (first : IsFirstInvalid (lines_of c.split_line.result.1.now) n line).
           rw add_assoc (c.loop-rest.invariant.first_invalid (1 + n) line
           (rw c.split_line.ensures.lines (IsFirstInvalid-add c.split_line.result.0.now _ n line (inr (c.in-Ok-Some.command, says)) first)));

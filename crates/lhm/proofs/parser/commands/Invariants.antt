@@ -8,7 +8,8 @@ use Rattle.lhm.proofs.parser.commands.Given as goal
 -- valid
 pub record IsParsedTo (bytes rest : List ℕ) (line_number : ℕ) (commands : List (Command ℕ ℕ)) : Type 0 where
   pub said : (cs : List (Command ℕ ℕ)) → AreCommandsOf (lines_of rest) cs → AreCommandsOf (lines_of bytes) (commands ++ cs)
-  pub first_invalid : (n : ℕ) (line : List ℕ) → IsFirstInvalid (lines_of rest) n line → IsFirstInvalid (lines_of bytes) (line_number + n) line
+  pub first_invalid : (n : ℕ) (line : List ℕ) → IsFirstInvalid (lines_of rest) n line
+      → IsFirstInvalid (lines_of bytes) (line_number + n) line
   pub counted : line_number + length rest ≤ length bytes
 
 abbrev pub invariant-loop-rest : goal.invariant-loop-rest

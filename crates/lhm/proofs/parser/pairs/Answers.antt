@@ -2,7 +2,8 @@ use Rattle.std.proofs.Common.{ℕ, List, ◌∷◌, [], append_assoc, arith}
 use Rattle.std.proofs.lemmas.List.{append-nil}
 use Rattle.lhm.specs.Grammar.{words_of}
 use Rattle.lhm.specs.Commands.{SpellNumbers, numbers_of}
-use Rattle.lhm.proofs.Words.{words-some, StartWithNumber-split, SpellsNumber-split, SpellNumbers-cons, numbers_of-left, StartWithNumber-pairs, StartWithNumber-second, length-after}
+use Rattle.lhm.proofs.Words.{words-some, StartWithNumber-split, SpellsNumber-split, StartWithNumber-pairs, StartWithNumber-second}
+use Rattle.lhm.proofs.Words.{SpellNumbers-cons, numbers_of-left, length-after}
 use Rattle.lhm.proofs.parser.pairs.Goals as goal
 
 pub loop-word-init : goal.loop-word-init
@@ -40,7 +41,7 @@ loop-word-preserved c =
           rw (c.in_ok-push.ensures.items, append_assoc) (c.loop-word.invariant.spell ((c.in_ok-k.k, c.in_ok-v.v) ∷ others) both);
       spelled = λ (others : List (ℕ × ℕ)) (spell : SpellNumbers (words_of c.args.rest.now) (numbers_of others)).
           let left = c.loop-word.invariant.spelled others spell in
-          numbers_of-left _ _ _ c.in_ok-k.k c.in_ok-v.v left.0 (words-some _ _ _ c.in-Some.ensures) first c.in_ok-v.ensures.ok left.1;
+          numbers_of-left _ _ c.in_ok-k.k c.in_ok-v.v left.0 (words-some _ _ _ c.in-Some.ensures) first c.in_ok-v.ensures.ok left.1;
     }
 
 pub returns-clause-ok : goal.returns-clause-ok

@@ -7,7 +7,8 @@ use Rattle.lhm.proofs.parser.pairs.Given as goal
 -- pairs, so does the rest
 pub record IsSpelledTo (whole rest : List (List ℕ)) (pairs : List (ℕ × ℕ)) : Type 0 where
   pub spell : (others : List (ℕ × ℕ)) → SpellNumbers rest (numbers_of others) → SpellNumbers whole (numbers_of (pairs ++ others))
-  pub spelled : (others : List (ℕ × ℕ)) → SpellNumbers whole (numbers_of others) → (left : List (ℕ × ℕ)) × SpellNumbers rest (numbers_of left)
+  pub spelled : (others : List (ℕ × ℕ)) → SpellNumbers whole (numbers_of others)
+      → (left : List (ℕ × ℕ)) × SpellNumbers rest (numbers_of left)
 
 abbrev pub invariant-loop-word : goal.invariant-loop-word
 invariant-loop-word l = IsSpelledTo (words_of l.fn.rest) (words_of l.rest) l.pairs.items
