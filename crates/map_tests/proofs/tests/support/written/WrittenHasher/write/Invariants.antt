@@ -5,5 +5,6 @@ use Rattle.map_tests.proofs.tests.support.written.WrittenHasher.write.Given as g
 -- the bytes so far were pushed
 abbrev pub invariant-loop-byte : goal.invariant-loop-byte
 invariant-loop-byte l =
-    let push : Written → ℕ → Written = λ state byte. cond (nat_lt state.len 32) (record { bytes = slice_set state.bytes state.len byte; len = state.len + 1 }) state in
+    let pushed : Written → ℕ → Written = λ state byte. record { bytes = slice_set state.bytes state.len byte; len = state.len + 1 } in
+    let push : Written → ℕ → Written = λ state byte. cond (nat_lt state.len 32) (pushed state byte) state in
     l.self ≡ fold push l.initial.self (take l.byte-index l.bytes)
