@@ -1,3 +1,2 @@
 mod Filters
-mod Finds
 pub mod Kept

@@ -1,7 +1,14 @@
--- Insertions one after another, of what an iterator gives.
-use Rattle.std.specs.Prelude.{◌≡◌, Bool, List, fold, Option}
+-- An insertion, and insertions one after another, of what an iterator gives.
+use Rattle.std.specs.Prelude.{◌≡◌, Bool, List, fold, length, max, Option}
 use Rattle.linked_hash_map.specs.Inserts.{GivesAll, GivesThen}
 use Rattle.linked_hash_set.specs.Items.{to_back}
+use Rattle.linked_hash_set.specs.LinkedSet.{LinkedSet}
+
+-- the set with x at the back, which is the stored item, or x if there is none, and room for it
+abbrev pub inserted : {T S : Type 0} → (T → T → Bool) → LinkedSet T S → T → LinkedSet T S
+inserted eq s x =
+    let items = to_back eq s.items x in
+    record s { items = items; capacity = max s.capacity (length items) }
 
 -- the items once others went in one by one
 abbrev pub insert_each : {T : Type 0} → (T → T → Bool) → List T → List T → List T

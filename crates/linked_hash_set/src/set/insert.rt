@@ -1,9 +1,10 @@
 //! Insertion.
 #![tactic(auto, using(crate::proofs::Kept::kept))]
 
-ghost use Rattle.std.specs.Prelude.{◌≡◌, ◌+◌, ◌++◌, ◌∷◌, [], length, max, not, true, false, unwrap_or, Some, ◌<◌, IsTrue, IfOk, IfErr, OnOk, OnErr, if◌then◌else◌};
+ghost use Rattle.std.specs.Prelude.{◌≡◌, ◌+◌, ◌++◌, ◌∷◌, [], length, max, not, true, false, unwrap_or, Some, IsSome, IsTrue, IfOk, IfErr, OnOk, OnErr, if◌then◌else◌};
 ghost use Rattle.linked_hash_map.specs.Pairs.{last};
-ghost use Rattle.linked_hash_set.specs.Items.{contains, find, to_back, push_if_absent, set_or_push};
+ghost use Rattle.linked_hash_set.specs.Inserts.{inserted};
+ghost use Rattle.linked_hash_set.specs.Items.{contains, find, to_back, to_back_as_is, push_if_absent, set_or_push};
 ghost use Rattle.linked_hash_set.specs.Validity.{IsValid};
 
 use super::LinkedHashSet;
@@ -198,16 +199,48 @@ impl<T: Eq + Hash, S: BuildHasher> LinkedHashSet<T, S> {
         ensures absent { OnErr result (contains Q.equivalent self.old.items item ≡ false) }
         ensures full { OnErr result (length self.old.items ≡ self.old.capacity) }
     {
+        self.to_back_or_insert(item, make)?;
+        Ok(self.last_item())
+    }
+
+    /// Moves the stored item that is the same as a given one to the back. If it is absent, an item
+    /// is made of the given one, and inserted.
+    ///
+    /// No clause of a call that lends an item, and whose error has one, can say what the set is
+    /// afterwards. So this call, which changes it and lends nothing, says so.
+    fn to_back_or_insert<Q: Equivalent<T>, F: FnOnce(Q) -> T>(
+        &mut self,
+        item: Q,
+        make: F,
+    ) -> Result<(), Refused<T>>
+    where
+        T: Drop,
+        requires { contains Q.equivalent self.old.items item ≡ false → F.pre make item }
+        ensures present { contains Q.equivalent self.old.items item ≡ true
+            → self.new ≡ record self.old {
+              items = to_back_as_is Q.equivalent self.old.items item;
+            } }
+        ensures made { OnOk result (contains Q.equivalent self.old.items item ≡ false
+            → (made : T) × F.post make item made × (self.new ≡ inserted T.eq self.old made)) }
+        ensures stays_valid { IsValid T.eq self.new }
+        // A consequence of `present` and `made`, for the proof of the caller.
+        ensures some { OnOk result (IsSome (last self.new.items)) }
+
+        ensures item_back { IfErr result (λ refused. F.post make item refused.item) }
+        ensures unchanged { OnErr result (self.new ≡ self.old) }
+        ensures absent { OnErr result (contains Q.equivalent self.old.items item ≡ false) }
+        ensures full { OnErr result (length self.old.items ≡ self.old.capacity) }
+    {
         if self.to_back(item) {
-            return Ok(self.last_item());
+            return Ok(());
         }
         self.insert(make(item))?;
-        Ok(self.last_item())
+        Ok(())
     }
 
     /// Returns the back item of a set that has one.
     fn last_item(&self) -> &T
-        requires { 0 < length self.now.items }
+        requires { IsSome (last self.now.items) }
         ensures { last self.now.items ≡ Some result.now }
     {
         match self.map.back() {

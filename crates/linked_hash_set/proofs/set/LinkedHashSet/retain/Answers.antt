@@ -1,40 +1,32 @@
-use Rattle.std.proofs.Common.{◌≡◌, suc, Bool, true, false, cond, List, [], ◌∷◌, refl, ap, ◌∙◌, rules}
+use Rattle.std.proofs.Common.{◌≡◌, suc, Bool, List, [], ◌∷◌, refl, ap, arith, rules}
 use Rattle.std.specs.Borrow.{Bor, MutBor}
 use Rattle.std.specs.Fn.{CalledAt}
-use Rattle.std.specs.List.{items_where_true}
 use Rattle.std.specs.List.Retain.{IsFiltered}
 use Rattle.std.specs.Map.{keys_of}
 use Rattle.std.specs.Map.Calls.{RetainsPairs}
 use denote.Param.Always.{always_mut, mut_next}
 use denote.Param.Members.{Mut}
-use Rattle.linked_hash_map.proofs.Callers.Retained.{callable-ready, first-retained}
+use Rattle.linked_hash_map.proofs.Callers.Retained.{callable-ready}
 use Rattle.linked_hash_set.proofs.set.LinkedHashSet.retain.Goals as goal
 
 -- the items that a closure keeps, by what a call of the map's closure says of it
 module _ {F T C V : Type 0} (g : Mut F (Bor T × Unit {0}) Bool) (calls : C → T → V → Bool → V → C → Type 0) (inner : C → F)
-    (says : (c : C) (k : T) (v : V) (b : Bool) (w : V) (c' : C) → calls c k v b w c' → CalledAt g (inner c) k b (inner c')) where
+    (says : (c : C) (k : T) (v : V) (b : Bool) (w : V) (d : C) → calls c k v b w d → CalledAt g (inner c) k b (inner d)) where
   items-retained : (c : C) (pairs kept : List (T × V)) → RetainsPairs calls c pairs kept
       → IsFiltered (CalledAt g) (inner c) (keys_of pairs) (keys_of kept)
   items-retained c [] kept r = ([], inner c, refl, refl, ap keys_of r)
-  items-retained c (pair ∷ pairs) kept r =
-      let of = first-retained calls c pair pairs kept r in let rest = items-retained of.closure pairs of.rest of.retained in (
-        of.returned ∷ rest.0,
-        rest.1,
-        ap suc rest.2,
-        (inner of.closure, says c pair.0 pair.1 of.returned of.value of.closure of.called, rest.3),
-        ap keys_of of.kept_is ∙ elim of.returned as (λ b. keys_of (cond b ((pair.0, of.value) ∷ of.rest) of.rest)
-            ≡ items_where_true (b ∷ rest.0) (pair.0 ∷ keys_of pairs))
-            [ true ↦ ap (λ ys. pair.0 ∷ ys) rest.4 | false ↦ rest.4 ],
-      )
+  items-retained c (pair ∷ pairs) kept (b, w, d, rest, called, r, is) =
+      let tail = items-retained d pairs rest r in
+      (b ∷ tail.0, tail.1, ap suc tail.2, (inner d, says c pair.0 pair.1 b w d called, tail.3), grind (arith, tail.4, ap keys_of is))
 
 pub retain-requires : goal.retain-requires
 retain-requires g c =
     callable-ready _ (λ (s : record { 0 : MutBor g.row.F.Denot }). always_mut g.F.FnMut s.0.now)
-    (λ s k v b w s' call always. let told : CalledAt g.F.FnMut s.0.now k b s'.0.now = search rules in
+    (λ s k v b w d call always. let told : CalledAt g.F.FnMut s.0.now k b d.0.now = search rules in
     mut_next g.F.FnMut _ _ _ _ _ told.called refl always)
     _ (λ s k v always key value is_key is_value. always) _ _ c.requires
 
 pub returns-clause-items : goal.returns-clause-items
 returns-clause-items g c = rw (← c.self.view_is)
-    (items-retained g.F.FnMut _ (λ (s : record { 0 : MutBor g.row.F.Denot }). s.0.now) (λ s k v b w s' call. search rules)
+    (items-retained g.F.FnMut _ (λ (s : record { 0 : MutBor g.row.F.Denot }). s.0.now) (λ s k v b w d call. search rules)
     _ _ _ c.retain.ensures.pairs)
