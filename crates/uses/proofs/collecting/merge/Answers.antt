@@ -1,8 +1,7 @@
+use Rattle.std.proofs.Common.{rules}
 use Rattle.linked_hash_map.proofs.Callers.Extended.{Merges-InsertsAll}
 use Rattle.uses.proofs.collecting.merge.Goals as goal
 
 pub returns : goal.returns
-returns g c =
-    let is = Merges-InsertsAll g.met.K.Eq.laws c.args.others.pairs c.in_ok-extend.ensures.all
-    (λ it m. (m.0, m.1.distinct)) in
-    record { all = is.pairs; values = is.values; keep = is.keep; touch = is.touch; absent = tt; full = tt }
+returns g c = let is = Merges-InsertsAll g.met.K.Eq.laws c.args.others.pairs
+    c.in_ok-extend.ensures.all (λ it m. (m.0, m.1.distinct)) in search rules
