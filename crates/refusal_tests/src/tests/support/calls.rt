@@ -30,6 +30,11 @@ pub fn check_remove(rt: &impl Abort, map: &mut Map, key: u8, value: Option<u64>)
     check_eq!(rt; map.remove(&key), value);
 }
 
+/// Replaces a key, and checks which key comes back, and whether that was stored.
+pub fn check_replace_key(rt: &impl Abort, map: &mut Map, key: u8, wanted: Result<u8, u8>) {
+    check_eq!(rt; map.replace_key(key), wanted);
+}
+
 /// Checks the value of a key.
 pub fn check_get(rt: &impl Abort, map: &Map, key: u8, value: Option<&u64>) {
     check_eq!(rt; map.get(&key), value);

@@ -1,7 +1,8 @@
 //! Calls on maps of no pair, of one and of many.
 
 use crate::tests::support::calls::{
-    check_get, check_insert, check_pop_back, check_pop_front, check_remove, check_shrink,
+    check_get, check_insert, check_pop_back, check_pop_front, check_remove, check_replace_key,
+    check_shrink,
 };
 use crate::tests::support::checks::{check, check_eq};
 use crate::tests::{ABSENT, BUILDER, Map, say_given, with_room};
@@ -119,9 +120,11 @@ fn reorder(rt: &impl Abort, map: &mut Map, len: u8) {
     for key in 0..len {
         check_eq!(rt; map.get_refresh(&key).copied(), Some(u64::from(key)));
         check_eq!(rt; (map.move_to_front(&key), map.move_to_back(&key)), (true, true));
+        check_replace_key(rt, map, key, Ok(key));
     }
     check!(rt; map.get_refresh(&ABSENT).is_none());
     check_eq!(rt; (map.move_to_front(&ABSENT), map.move_to_back(&ABSENT)), (false, false));
+    check_replace_key(rt, map, ABSENT, Err(ABSENT));
     map.rotate_left(map.len());
 }
 
