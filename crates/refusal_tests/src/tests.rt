@@ -4,12 +4,12 @@
 //! If none was, a test says so, and how many it asks for. That number is counted by hand, from
 //! what the calls promise: a map asks for one growth for its buckets and one for their filter if
 //! the number of buckets changes to another than 0, and one for a chunk of nodes if it has too
-//! few. Its list of chunks takes one at the first chunk, at the fifth and at the ninth. A chunk has
-//! the nodes that are missing. If the capacity rises by one, it has further ones, up to 64 in all
-//! and up to a node for each bucket. If there are to be fewer buckets, the pairs move into one new
-//! chunk, which has a list of its own. The last growth is one that the test asks for itself, behind
-//! the calls. So a growth whose refusal a call ignores is seen too, as one more or one fewer than
-//! the test says.
+//! few. Its list of chunks takes one at the first chunk, at the fifth, at the ninth, and then at
+//! twice as many each time. A chunk has the nodes that are missing. If the capacity rises by one, it
+//! has further ones, up to 64 in all and up to a node for each bucket. If there are to be fewer
+//! buckets, the pairs move into one new chunk, which has a list of its own. The last growth is one
+//! that the test asks for itself, behind the calls. So a growth whose refusal a call ignores is seen
+//! too, as one more or one fewer than the test says.
 
 mod capacities;
 mod clones;

@@ -123,6 +123,28 @@ fn reserve_one(rt: &impl Abort, map: &mut Map) {
 }
 
 #[test]
+fn refused_reservation_of_an_empty_map_keeps_its_room(rt: HostRuntime) {
+    // The growths: buckets, a filter, a list of chunks and a chunk.
+    reserve_five_more(&rt, with_room(rt.alloc(), 2));
+}
+
+fn reserve_five_more(rt: &(impl Abort + Print + AllocGlobal), made: Result<Map, ReserveError>) {
+    if let Ok(mut map) = made {
+        raise_empty(rt, &mut map);
+    }
+}
+
+/// The growths: 8 buckets for 2, a filter and a chunk of three nodes.
+fn raise_empty(rt: &(impl Abort + Print + AllocGlobal), map: &mut Map) {
+    if is_reserved(rt, map, 5) {
+        assert_map(rt, map, &[], 5, 0);
+        say_given(rt, 8);
+    } else {
+        assert_map(rt, map, &[], 2, 0);
+    }
+}
+
+#[test]
 fn refused_shrink_keeps_buckets_and_nodes(rt: HostRuntime) {
     // The growths: buckets, a filter, a list of chunks and a chunk.
     shrink(&rt, with_room(rt.alloc(), 9));

@@ -109,16 +109,16 @@ fn grow_or_grow_again(
 #[test]
 fn refused_growth_of_many_chunks_is_asked_for_again(rt: HostRuntime) {
     let mut ring = Ring::new(rt.alloc());
-    // The growths: 18 chunks of one node; a list of chunks for the first, the fifth, the ninth and
-    // the 17th.
+    // The growths: 66 chunks of one node; a list of chunks for the first, the fifth, the ninth, the
+    // 17th, the 33rd and the 65th.
     let given = grow_one_by_one(&rt, &mut ring);
-    say_if_given(&rt, given, 23);
+    say_if_given(&rt, given, 73);
 }
 
 /// Makes nodes spare one by one, in chunks of one. Tells whether none was refused.
 fn grow_one_by_one(rt: &impl Abort, ring: &mut Ring<char, u64>) -> bool {
     let mut given = true;
-    for spares in 0..18 {
+    for spares in 0..66 {
         given &= grow_or_grow_again(rt, ring, spares, 0);
     }
     given
