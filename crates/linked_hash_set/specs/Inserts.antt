@@ -1,7 +1,7 @@
--- An insertion, and insertions one after another, of what an iterator gives.
+-- An insertion, a refresh, and insertions one after another, of what an iterator gives.
 use Rattle.std.specs.Prelude.{◌≡◌, Bool, List, fold, length, max, Option}
 use Rattle.linked_hash_map.specs.Inserts.{GivesAll, GivesThen}
-use Rattle.linked_hash_set.specs.Items.{to_back}
+use Rattle.linked_hash_set.specs.Items.{to_back, to_back_as_is}
 use Rattle.linked_hash_set.specs.LinkedSet.{LinkedSet}
 
 -- the set with x at the back, which is the stored item, or x if there is none, and room for it
@@ -9,6 +9,10 @@ abbrev pub inserted : {T S : Type 0} → (T → T → Bool) → LinkedSet T S �
 inserted eq s x =
     let items = to_back eq s.items x in
     record s { items = items; capacity = max s.capacity (length items) }
+
+-- the set with the item that x looks up at the back, if there is one
+abbrev pub refreshed : {A T S : Type 0} → (A → T → Bool) → LinkedSet T S → A → LinkedSet T S
+refreshed eq s x = record s { items = to_back_as_is eq s.items x }
 
 -- the items once others went in one by one
 abbrev pub insert_each : {T : Type 0} → (T → T → Bool) → List T → List T → List T

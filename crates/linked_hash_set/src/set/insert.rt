@@ -3,8 +3,8 @@
 
 ghost use Rattle.std.specs.Prelude.{◌≡◌, ◌+◌, ◌++◌, ◌∷◌, [], length, max, not, true, false, unwrap_or, Some, IsSome, IsTrue, IfOk, IfErr, OnOk, OnErr, if◌then◌else◌};
 ghost use Rattle.linked_hash_map.specs.Pairs.{last};
-ghost use Rattle.linked_hash_set.specs.Inserts.{inserted};
-ghost use Rattle.linked_hash_set.specs.Items.{contains, find, to_back, to_back_as_is, push_if_absent, set_or_push};
+ghost use Rattle.linked_hash_set.specs.Inserts.{inserted, refreshed};
+ghost use Rattle.linked_hash_set.specs.Items.{contains, find, to_back, push_if_absent, set_or_push};
 ghost use Rattle.linked_hash_set.specs.Validity.{IsValid};
 
 use super::LinkedHashSet;
@@ -217,9 +217,7 @@ impl<T: Eq + Hash, S: BuildHasher> LinkedHashSet<T, S> {
         T: Drop,
         requires { contains Q.equivalent self.old.items item ≡ false → F.pre make item }
         ensures present { contains Q.equivalent self.old.items item ≡ true
-            → self.new ≡ record self.old {
-              items = to_back_as_is Q.equivalent self.old.items item;
-            } }
+            → self.new ≡ refreshed Q.equivalent self.old item }
         ensures made { OnOk result (contains Q.equivalent self.old.items item ≡ false
             → (made : T) × F.post make item made × (self.new ≡ inserted T.eq self.old made)) }
         ensures stays_valid { IsValid T.eq self.new }

@@ -1,4 +1,4 @@
-use Rattle.std.proofs.Common.{rules, arith}
+use Rattle.std.proofs.Common.{rules}
 use Rattle.linked_hash_map.proofs.Callers.Visits.{VisitKeeps-removed}
 use Rattle.uses.proofs.loops.take_out_zeros.Goals as goal
 

@@ -1,4 +1,4 @@
-use Rattle.std.proofs.Common.{◌≡◌, suc, Bool, List, [], ◌∷◌, refl, ap, arith, rules}
+use Rattle.std.proofs.Common.{suc, Bool, List, [], ◌∷◌, refl, ap, arith, rules}
 use Rattle.std.specs.Borrow.{Bor, MutBor}
 use Rattle.std.specs.Fn.{CalledAt}
 use Rattle.std.specs.List.Retain.{IsFiltered}
