@@ -3,8 +3,8 @@
 # its result.
 #
 # The parts are the scripts in scripts/, each of which runs by itself too, their self-tests, and the
-# gate, `rt ci`. What needs no proof runs beside the gate, on what the gate leaves of the processors.
-# RT_CI is a word for `rt ci`, as `--anew`. The last line is that of the gate, or says what failed.
+# gate, `rt ci`. What needs no proof runs beside it, on what it leaves of the processors. RT_CI is a
+# word for `rt ci`, as `--anew`. The last line is that of the gate, or says what failed.
 set -u
 cd "$(dirname "$0")" || exit 2
 work=$(mktemp -d) || exit 2
