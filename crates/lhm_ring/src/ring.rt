@@ -372,8 +372,9 @@ pub struct Links {
     pub hash: u64,
 }
 
-// A node with a `u64` as key and as value: six words.
+// A node with a `u64` as key takes six words with a `u64` as value, and five with a `()`.
 const _: () = prove!(size_of::<Node<Links, u64, u64>>() == 48);
+const _: () = prove!(size_of::<Node<Links, u64, ()>>() == 40);
 
 /// The front and the back node of a ring, if any.
 #[derive(Clone, Copy)]

@@ -10,13 +10,6 @@ use Rattle.lhm_ring.specs.declared.buckets.Word.{Word}
 use Rattle.lhm_ring.specs.Buckets.{BucketState, leads_to, bits_of}
 use Rattle.lhm_ring.specs.Pointer.{led_to}
 
--- the pointer of a head is the head of the pointers
-pub get_or-leads_to : (heads : List Head) (b : ℕ) (h : Head) → b < length heads
-    → get_or (map leads_to heads) b None ≡ leads_to (get_or heads b h)
-get_or-leads_to [] b h l = absurd (omega (arith, l))
-get_or-leads_to (k ∷ heads) zero h l = refl
-get_or-leads_to (k ∷ heads) (suc b) h l = get_or-leads_to heads b h (omega (arith, l))
-
 -- there are as many words as heads
 pub length-words : (heads : List Head) (words : List Word) {s : BucketState}
     → record { heads = map leads_to heads; words = map bits_of words } ≡ s

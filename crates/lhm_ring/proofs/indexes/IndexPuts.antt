@@ -4,13 +4,13 @@ use Rattle.std.proofs.Common.{Option, Some, None, append_assoc, length-append, a
 use Rattle.std.proofs.lemmas.Bool.{cases_lt}
 use Rattle.std.proofs.lemmas.List.{length-set}
 use denote.RawPtr.{Ptr}
-use Rattle.lhm_ring.proofs.rings.Ends.{First, First-first_at, none-first_at}
+use Rattle.lhm_ring.proofs.rings.Ends.{First, First-first_at}
 use Rattle.lhm_ring.proofs.indexes.Entries.{entries-link, length-same_entries}
 use Rattle.lhm_ring.proofs.indexes.IndexMoves.{PutsIn-last}
 use Rattle.lhm_ring.proofs.indexes.Spots.{PutsIn-spots}
-use Rattle.lhm_ring.proofs.indexes.WholeBuckets.{Indexes-put, Indexes-none}
+use Rattle.lhm_ring.proofs.indexes.WholeBuckets.{Indexes-put}
 use Rattle.lhm_ring.specs.Ring.{Held, IsHeld, AtHeld, linked_to, first_at}
-use Rattle.lhm_ring.specs.Buckets.{BucketState, HasNoChain}
+use Rattle.lhm_ring.specs.Buckets.{BucketState}
 use Rattle.lhm_ring.specs.Index.{Indexes, spot, spots, entries, HoldsOthers, IsPutFirst, PutsFirst}
 
 module _ {K V : Type 0} where
@@ -55,19 +55,6 @@ pub record IsRehashing {K V : Type 0} (i : BucketState) (old nodes : List (Held 
   pub count_is : count ≡ length done
   pub kept : entries nodes ≡ entries old
   pub buckets_is : length i.heads ≡ buckets
-
-pub IsRehashing-start : {K V : Type 0} (i : BucketState) (nodes : List (Held (K × V))) (pointer : Option Ptr) (buckets : ℕ) → HasNoChain i
-    → length i.words ≡ length i.heads → pointer ≡ first_at nodes → length i.heads ≡ buckets → IsRehashing i nodes nodes pointer 0 buckets
-IsRehashing-start i nodes pointer buckets h count e n = record {
-  done = [];
-  rest = nodes;
-  is = refl;
-  indexed = Indexes-none i h count;
-  pointer_is = e;
-  count_is = refl;
-  kept = refl;
-  buckets_is = n;
-}
 
 module _ {K V : Type 0} {i : BucketState} {old nodes : List (Held (K × V))} {pointer : Option Ptr} {count buckets : ℕ}
     (w : IsRehashing i old nodes pointer count buckets) where
@@ -123,14 +110,3 @@ module _ {K V : Type 0} {i : BucketState} {old nodes : List (Held (K × V))} {po
           kept = entries-put_first p i i' nodes nodes' put g ∙ w.kept;
           buckets_is = length-put_first p i i' nodes nodes' put g ∙ w.buckets_is;
         }
-
-  -- at the end
-  module _ (e : pointer ≡ None) where
-    done-rehashing : nodes ≡ w.done
-    done-rehashing = w.is ∙ ap (λ (v : List (Held (K × V))). w.done ++ v) (none-first_at w.rest (sym e ∙ w.pointer_is)) ∙ append-nil w.done
-
-    pub Indexes-rehashing : Indexes i (spots nodes)
-    Indexes-rehashing = subst (λ (v : List (Held (K × V))). Indexes i (spots v)) (sym done-rehashing) w.indexed
-
-    pub count-rehashed : count ≡ length old
-    count-rehashed = w.count_is ∙ ap length (sym done-rehashing) ∙ length-same_entries nodes old w.kept

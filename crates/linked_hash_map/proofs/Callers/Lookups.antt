@@ -164,9 +164,6 @@ module _ {K V : Type 0} {eq : K → K → Bool} (laws : IsEquivalence eq) where
   find-set_value [] k q v = elim (eq k q) as (λ b. None ≡ cond {A = Option (K × V)} b None None) [ true ↦ refl | false ↦ refl ]
   find-set_value (pair ∷ pairs) k q v = by_test (eq k pair.0) (eq q pair.0) refl refl (find-set_value pairs k q v)
     where
-      set : Option (K × V) → Option (K × V)
-      set o = option_map (λ p. (p.0, v)) o
-
       by_test : (b c : Bool) → eq k pair.0 ≡ b → eq q pair.0 ≡ c
           → find eq (set_value eq pairs k v) q
           ≡ cond (eq k q) (option_map (λ p. (p.0, v)) (find eq pairs q)) (find eq pairs q)

@@ -38,6 +38,6 @@ returns-clause-held g c = λ xs t ys e at.
     ∙ ChangesOnly-held c.self.invariant.ring c.self.view_is c.args.at.pointer.ptr xs t ys e at (rekeyed c.args.key)
 
 pub returns-clause-old : goal.returns-clause-old
-returns-clause-old g c = λ xs t ys e at. ap (λ z. z.0)
-    (pair-inside c.self.inside c.self.invariant c.self.view_is c.args.at.pointer.ptr c.args.at.block
-    c.take-old.ensures.body xs t ys e at)
+returns-clause-old g c = λ xs t ys e at.
+    let is = pair-inside c.self.inside c.self.invariant c.self.view_is c.args.at.pointer.ptr c.args.at.block
+    c.take-old.ensures.body in ap (λ z. z.0) (is xs t ys e at)
