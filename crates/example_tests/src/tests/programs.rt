@@ -12,8 +12,9 @@ use uses::document::{Document, copy_of, is_same};
 use uses::hasher::for_strangers;
 use uses::interner::Interner;
 use uses::loops::{
-    first_and_third, first_of_cursor, insert_on_the_way, into_list, keys_in_order, oldest_key,
-    reset, sum_by_values, sum_of, take_all, take_out_zeros, visit_by_value,
+    copy_behind, first_and_third, first_of_cursor, insert_on_the_way, into_list, into_reversed,
+    keys_in_order, oldest_key, reset, sum_by_values, sum_of, take_all, take_out_zeros,
+    visit_by_value,
 };
 use uses::memory::{empty_out, rehashed, reserve_and_extend, reserve_and_insert};
 use uses::modes::insert_in_place;
@@ -21,6 +22,7 @@ use uses::numbered::{Numbered, add_both};
 use uses::prices::{Prices, limit};
 use uses::printing::insert_and_print;
 use uses::queue::Queue;
+use uses::recent::Recent;
 use uses::refusal::{insert_anyway, insert_if_new};
 use uses::retains::{age, keep_frequent};
 use uses::text::{age_of, first_page, note_age, note_pages};
@@ -197,6 +199,34 @@ fn entries_are_inserted_on_the_way(rt: HostRuntime) {
     let mut other = four_pairs(&rt, rt.alloc());
     let visited = given!(rt; visit_by_value(rt.alloc(), &mut other));
     check_eq!(rt; visited.as_slice(), [1, 2, 3, 4].as_slice());
+}
+
+#[test]
+fn copies_go_behind_the_pairs(rt: HostRuntime) {
+    let mut map = three_pairs(&rt, rt.alloc());
+    check_eq!(rt; copy_behind(&mut map, 5), 3);
+    check_eq!(rt;
+        given!(rt; into_list(rt.alloc(), map)).as_slice(),
+        [(1, 10), (2, 20), (3, 30), (6, 10), (7, 20), (8, 30)].as_slice()
+    );
+    // The key 1 + 2 is there.
+    let mut other = three_pairs(&rt, rt.alloc());
+    check_eq!(rt; copy_behind(&mut other, 2), 0);
+    check_eq!(rt;
+        given!(rt; into_reversed(rt.alloc(), other)).as_slice(),
+        [(3, 30), (2, 20), (1, 10)].as_slice()
+    );
+}
+
+#[test]
+fn the_key_used_longest_ago_goes(rt: HostRuntime) {
+    let mut recent = Recent::new(rt.alloc());
+    check_eq!(rt; recent.use_key("ant"), Ok(()));
+    check_eq!(rt; recent.use_key("bee"), Ok(()));
+    check_eq!(rt; recent.use_key("ant"), Ok(()));
+    check_eq!(rt; recent.forget_oldest(), Some("bee"));
+    check_eq!(rt; recent.forget_oldest(), Some("ant"));
+    check_eq!(rt; recent.forget_oldest(), None);
 }
 
 #[test]

@@ -220,9 +220,9 @@ fn insert_after_a_refusal(rt: &impl Abort, map: &mut Map, alloc: Global) {
     check!(rt; called);
 }
 
-/// Asks for growths until one is refused, at most 64 times.
+/// Asks for growths until one is refused, at most 128 times.
 fn meet_the_refusal(alloc: Global) -> bool {
-    (0..64).any(|_| !is_given(alloc))
+    (0..128).any(|_| !is_given(alloc))
 }
 
 fn find_without_the_closure(rt: &impl Abort, map: &mut Map) {

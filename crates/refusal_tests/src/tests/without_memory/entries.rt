@@ -37,6 +37,7 @@ fn use_occupied(rt: &impl Abort, map: &mut Map) {
         check_eq!(rt; (*entry.key(), *entry.get()), (1, 10));
         *entry.get_mut() = 11;
         check_eq!(rt; entry.insert(12), 11);
+        check_eq!(rt; entry.replace_key(1), Ok(1));
         entry.move_to_front();
         entry.move_to_back();
         *entry.into_mut() = 13;
