@@ -372,8 +372,10 @@ pub struct Links {
     pub hash: u64,
 }
 
-// A node with a `u64` as key takes six words with a `u64` as value, and five with a `()`.
+// A node with a `u64` as key and as value: six words.
 const _: () = prove!(size_of::<Node<Links, u64, u64>>() == 48);
+
+// A node with a `u64` as key and no value, as in a set: five words.
 const _: () = prove!(size_of::<Node<Links, u64, ()>>() == 40);
 
 /// The front and the back node of a ring, if any.
