@@ -1,5 +1,4 @@
-use Rattle.std.proofs.Common.{suc, Bool, List, [], ◌∷◌, refl, ap, arith, rules}
-use Rattle.std.specs.Borrow.{Bor, MutBor}
+use Rattle.std.proofs.Common.{suc, Bool, List, [], ◌∷◌, Bor, MutBor, refl, ap, arith, rules}
 use Rattle.std.specs.Fn.{CalledAt}
 use Rattle.std.specs.List.Retain.{IsFiltered}
 use Rattle.std.specs.Map.{keys_of}
@@ -22,8 +21,7 @@ module _ {F T C V : Type 0} (g : Mut F (Bor T × Unit {0}) Bool) (calls : C → 
 pub retain-requires : goal.retain-requires
 retain-requires g c =
     callable-ready _ (λ (s : record { 0 : MutBor g.row.F.Denot }). always_mut g.F.FnMut s.0.now)
-    (λ s k v b w d call always. let told : CalledAt g.F.FnMut s.0.now k b d.0.now = search rules in
-    mut_next g.F.FnMut _ _ _ _ _ told.called refl always)
+    (λ s k v b w d call always. search (rules, mut_next g.F.FnMut))
     _ (λ s k v always key value is_key is_value. always) _ _ c.requires
 
 pub returns-clause-items : goal.returns-clause-items
