@@ -21,7 +21,7 @@ module _ {T V : Type 0} where
       → keys_of (of_map.insert_each eq Touch ps qs) ≡ insert_each eq (keys_of ps) (keys_of qs)
   keys_of-insert_each eq ps [] = refl
   keys_of-insert_each eq ps (q ∷ qs) =
-      rw (keys_of-insert_each eq (to_back eq ps q.0 q.1) qs, keys_of-to_back eq ps q.0 q.1, key_or-find eq ps q.0) refl
+      rw (keys_of-insert_each eq (to_back eq ps q.0 q.1) qs, keys_of-to_back, key_or-find) refl
 
 pub returns : goal.returns
 returns g c =
