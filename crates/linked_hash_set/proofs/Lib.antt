@@ -1,2 +1,1 @@
-mod Filters
 pub mod Kept

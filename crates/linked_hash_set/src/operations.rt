@@ -1,5 +1,4 @@
 //! Operations on two sets. A contract sees an iterator as the list of items left.
-#![tactic(auto, using(crate::proofs::Filters::filters))]
 
 ghost use Rattle.std.specs.Prelude.{◌≡◌, length, ⊤};
 ghost use Rattle.std.specs.Iterator.{at_most};

@@ -1,5 +1,4 @@
 //! Changes of the capacity.
-#![tactic(auto, using(crate::proofs::Kept::kept))]
 
 ghost use Rattle.std.specs.Prelude.{◌≡◌, ◌+◌, ◌<◌, ◌≤◌, length, max, IsErrOf, ◌↔◌, OnOk, OnErr};
 ghost use Rattle.linked_hash_set.specs.Validity.{IsValid};

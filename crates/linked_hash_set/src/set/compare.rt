@@ -1,5 +1,4 @@
 //! Equality, hash and debug text, item by item.
-#![tactic(auto, using(crate::proofs::Kept::kept))]
 
 ghost use Rattle.std.specs.Prelude.{◌≡◌, drop};
 ghost use Rattle.std.specs.Cmp.{on_equiv, on_per};

@@ -1,5 +1,4 @@
 //! The constructors.
-#![tactic(auto, using(crate::proofs::Kept::kept))]
 
 ghost use Rattle.std.specs.Prelude.{◌≡◌, ◌<◌, ◌≤◌, [], IsErrOf, ◌↔◌, IfOk};
 ghost use Rattle.linked_hash_map.specs.Hashers.{IsDefaultHashBuilder};

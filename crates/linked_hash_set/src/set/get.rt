@@ -1,5 +1,4 @@
 //! Lookups.
-#![tactic(auto, using(crate::proofs::Kept::kept))]
 
 ghost use Rattle.std.specs.Prelude.{◌≡◌, option_copied};
 ghost use Rattle.linked_hash_map.specs.Pairs.{first, last};

@@ -1,5 +1,4 @@
 //! Insertion.
-#![tactic(auto, using(crate::proofs::Kept::kept))]
 
 ghost use Rattle.std.specs.Prelude.{◌≡◌, ◌+◌, ◌++◌, ◌∷◌, [], length, max, not, true, false, unwrap_or, Some, IsSome, IsTrue, IfOk, IfErr, OnOk, OnErr, if◌then◌else◌};
 ghost use Rattle.linked_hash_map.specs.Pairs.{last};

@@ -1,5 +1,4 @@
 //! The iterators over one set.
-#![tactic(auto, using(crate::proofs::Kept::kept))]
 
 ghost use Rattle.std.specs.Prelude.{◌≡◌};
 ghost use Rattle.std.specs.Map.Iter.{deref, ShowsInOrder, ShowsInReverse, GivesInOrder, GivesInReverse};

@@ -1,5 +1,4 @@
 //! The order of the items: moves to the ends.
-#![tactic(auto, using(crate::proofs::Kept::kept))]
 
 ghost use Rattle.std.specs.Prelude.{◌≡◌, length, IsFalse};
 ghost use Rattle.linked_hash_set.specs.Items.{contains, to_back_as_is, to_front};

@@ -1,5 +1,4 @@
 //! Removal.
-#![tactic(auto, using(crate::proofs::Kept::kept))]
 
 ghost use Rattle.std.specs.Prelude.{◌≡◌, [], length};
 ghost use Rattle.std.specs.Borrow.{sem};

@@ -4,8 +4,7 @@ use Rattle.linked_hash_set.proofs.operations.IntersectionIterator.next.Given as 
 
 abbrev pub invariant-loop-item : goal.invariant-loop-item
 invariant-loop-item g l =
-    intersection g.T.PartialEq.eq l.initial.self-inside.iter l.initial.self-inside.other.now.items
-    ≡ intersection g.T.PartialEq.eq l.self-inside.iter l.self-inside.other.now.items
+    l.fn.self ≡ intersection g.T.PartialEq.eq l.self-inside.iter l.self-inside.other.now.items
 
 abbrev pub decreases-loop-item : goal.decreases-loop-item
 decreases-loop-item g l = length l.self-inside.iter

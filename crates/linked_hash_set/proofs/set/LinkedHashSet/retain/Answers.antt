@@ -1,5 +1,4 @@
-use Rattle.std.proofs.Common.{suc, Bool, List, [], ◌∷◌, refl, ap, arith, rules}
-use Rattle.std.specs.Borrow.{Bor, MutBor}
+use Rattle.std.proofs.Common.{suc, Bool, List, [], ◌∷◌, Bor, MutBor, refl, ap, arith, rules}
 use Rattle.std.specs.Fn.{CalledAt}
 use Rattle.std.specs.List.Retain.{IsFiltered}
 use Rattle.std.specs.Map.{keys_of}
@@ -10,8 +9,9 @@ use Rattle.linked_hash_map.proofs.Callers.Retained.{callable-ready}
 use Rattle.linked_hash_set.proofs.set.LinkedHashSet.retain.Goals as goal
 
 -- the items that a closure keeps, by what a call of the map's closure says of it
-module _ {F T C V : Type 0} (g : Mut F (Bor T × Unit {0}) Bool) (calls : C → T → V → Bool → V → C → Type 0) (inner : C → F)
-    (says : (c : C) (k : T) (v : V) (b : Bool) (w : V) (d : C) → calls c k v b w d → CalledAt g (inner c) k b (inner d)) where
+module _ {F T C V : Type 0} (g : Mut F (Bor T × Unit {0}) Bool) (inner : C → F)
+    (calls : C → T → V → Bool → V → C → Type 0) (says : (c : C) (k : T) (v : V) (b : Bool) (w : V)
+    (d : C) → calls c k v b w d → CalledAt g (inner c) k b (inner d)) where
   items-retained : (c : C) (pairs kept : List (T × V)) → RetainsPairs calls c pairs kept
       → IsFiltered (CalledAt g) (inner c) (keys_of pairs) (keys_of kept)
   items-retained c [] kept r = ([], inner c, refl, refl, ap keys_of r)
@@ -22,11 +22,10 @@ module _ {F T C V : Type 0} (g : Mut F (Bor T × Unit {0}) Bool) (calls : C → 
 pub retain-requires : goal.retain-requires
 retain-requires g c =
     callable-ready _ (λ (s : record { 0 : MutBor g.row.F.Denot }). always_mut g.F.FnMut s.0.now)
-    (λ s k v b w d call always. let told : CalledAt g.F.FnMut s.0.now k b d.0.now = search rules in
-    mut_next g.F.FnMut _ _ _ _ _ told.called refl always)
+    (λ s k v b w d call always. search (rules, mut_next g.F.FnMut))
     _ (λ s k v always key value is_key is_value. always) _ _ c.requires
 
 pub returns-clause-items : goal.returns-clause-items
-returns-clause-items g c = rw (← c.self.view_is)
-    (items-retained g.F.FnMut _ (λ (s : record { 0 : MutBor g.row.F.Denot }). s.0.now) (λ s k v b w d call. search rules)
+returns-clause-items g c = rw (← c.self.view_is) (items-retained g.F.FnMut
+    (λ (s : record { 0 : MutBor g.row.F.Denot }). s.0.now) _ (λ s k v b w d call. search rules)
     _ _ _ c.retain.ensures.pairs)
