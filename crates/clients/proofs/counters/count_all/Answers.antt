@@ -3,5 +3,5 @@ use Rattle.linked_hash_map.proofs.Callers.Counted.{CountsItems-counted}
 use Rattle.clients.proofs.counters.count_all.Goals as goal
 
 pub loop-item-preserved : goal.loop-item-preserved
-loop-item-preserved g c = CountsItems-counted g.met.K.Eq.laws c.args.items.now c.loop-item.item-index
-    c.loop-item.invariant (search rules) c.item-item.is c.entry.ensures.acts (search rules)
+loop-item-preserved g c = CountsItems-counted g.met.K.Eq.laws _ _ c.loop-item.invariant (search)
+    c.item-item.is c.entry.ensures.acts (search rules)

@@ -3,5 +3,5 @@ use Rattle.linked_hash_map.proofs.Callers.Counted.{CountsItems-counted}
 use Rattle.uses.proofs.count.counts_of.Goals as goal
 
 pub loop-word-preserved : goal.loop-word-preserved
-loop-word-preserved g c = CountsItems-counted g.met.K.Eq.laws c.args.words.now c.loop-word.word-index
-    c.loop-word.invariant (search rules) c.word-item.is c.entry.ensures.acts (search rules)
+loop-word-preserved g c = CountsItems-counted g.met.K.Eq.laws _ _ c.loop-word.invariant (search)
+    c.word-item.is c.entry.ensures.acts (search rules)

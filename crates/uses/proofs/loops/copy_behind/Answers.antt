@@ -8,11 +8,11 @@ loop-entry-preserved c = let told = c.in-Some.ensures in
     visit.VisitAppends-appended nat_eq_equiv c.loop-entry.invariant told.visits
     told.valid.distinct told.value told.pairs (search rules) (search rules)
 
-pub returns-then-not-copy_pair_behind-clause-stops : goal.returns-then-not-copy_pair_behind-clause-stops
+pub returns-then-not-copy_pair_behind-clause-stops :
+    goal.returns-then-not-copy_pair_behind-clause-stops
 returns-then-not-copy_pair_behind-clause-stops c = let told = c.in-Some.ensures in
-    let at = visit.VisitAppends-at nat_eq_equiv c.loop-entry.invariant told.visits told.valid.distinct told.value in
-    rw at (search rules)
+    rw (visit.VisitAppends-at nat_eq_equiv c.loop-entry.invariant told.visits told.valid.distinct
+    told.value) (search rules)
 
 pub returns-clause-stops : goal.returns-clause-stops
-returns-clause-stops c =
-    let passed = visit.VisitAppends-end c.loop-entry.invariant (search rules) in rw passed tt
+returns-clause-stops c = rw (visit.VisitAppends-end c.loop-entry.invariant (search rules)) tt

@@ -9,7 +9,7 @@ returns-clause-stays_valid g c =
     search (rules, IsValid-set_or_pushed laws c.entry.result lent.field-0.now told.valid told.limit)
 
 pub returns-clause-present : goal.returns-clause-present
-returns-clause-present g c = λ there.
-    let m = c.args.map.now in let v = c.in_ok-or_insert.field-0.now in let told = c.entry.ensures in
-    let own = set_or_push-own g.met.K.Eq.laws m.pairs c.args.key v told.valid.distinct (grind arith) in
+returns-clause-present g c = λ there. let told = c.entry.ensures in
+    let v = c.in_ok-or_insert.field-0.now in let own = set_or_push-own g.met.K.Eq.laws
+    c.args.map.now.pairs c.args.key v told.valid.distinct (grind arith) in
     search (rules, told.acts.sets_or_pushes v, own)
