@@ -199,12 +199,12 @@ module _ (E : Three) {M : Type 1} {𝓤 : Ura M} (𝓛 : Logic 𝓤) (h : (Nr E)
 
 module _ {M : Type 1} {𝓤 : Ura M} {𝓛 : Logic 𝓤} {K : Type 0} {Γ : List (Item 𝓤)} {G : Goal 𝓤 𝓛.H} where
   -- three values make a triple
-  pub three_made : K → (R S U : RattleType) (x : R.Denot) (y : S.Denot) (z : U.Denot) (u v w : Val)
+  pub three_made : K → (R S U : RattleType) (x : R.Denot) (y : S.Denot) (z : U.Denot) {u v w : Val}
       → Step K 𝓛 (‵ ((Struct
       (record { name = []; args = []; types = []; fields = R ∷ S ∷ U ∷ [] })).own_val
       (x, (y, (z, tt))) (vstruct (vcons u (vcons v (vcons w vnil))) ∷ [])) ∷ Γ) G
       (‵ (R.own_val x (u ∷ [])) ∷ ‵ (S.own_val y (v ∷ [])) ∷ ‵ (U.own_val z (w ∷ [])) ∷ Γ) G
-  three_made t R S U x y z u v w = step (λ s.
+  three_made t R S U x y z {u} {v} {w} = step (λ s.
       let all : Val = vstruct (vcons u (vcons v (vcons w vnil))) in
       empty t $ move t (3 ∷ 0 ∷ []) $ fjoin t $ move t (2 ∷ 0 ∷ []) $ fjoin t $ move t (1 ∷ 0 ∷ [])
       $ fjoin t $ feq_i t (List Val) (all ∷ []) (all ∷ []) refl $ fjoin t $

@@ -1,5 +1,6 @@
 -- One proof for each function that shows a field of a node through a `&`. Assumes `Logic`.
 --     links_lent, key_lent, value_lent      what a lent node lends of each field
+--     Field      a field of the nodes, and what the function that shows it asks and tells
 --     Seen, field_seen      what is found at the pointer passed, and that a function of this code
 --     then meets its contract
 use Rattle.lhm_ring.proofs.memory.Steps.{◌≡◌, ℕ, ◌+◌, List, [], ◌∷◌, ◌++◌, refl, sym, ap, ◌∙◌}
@@ -70,11 +71,16 @@ module _ {M : Type 1} {𝓤 : Ura M} (𝓛 : Logic 𝓤) (E : Three) (κ : Lft) 
     pub value_lent : ent 𝓤 Lent (At (RV E) (vo E) x.1)
     value_lent = via 𝓤 _ both_lent (snd∗ 𝓤 (At (RK E) (ko E) x.0) (At (RV E) (vo E) x.1))
 
--- the field of the i-th parameter Y, at `off` within a node
-module _ (E : Three) (i : ℕ) (Y : RattleType) (off : ℕ) {M : Type 1} {𝓤 : Ura M} (𝓛 : Logic 𝓤) (𝓜 : Model 𝓤 𝓛.H) (𝓡 : Running 𝓤 𝓛.H 𝓜)
-    (Asked : List (Node E) → Ptr → Type 0) (Told : Y.Denot → List (Node E) → Ptr → Type 0) where
+pub record Field (E : Three) : Type 2 where
+  pub index : ℕ  -- of the type among the parameters
+  pub type : RattleType
+  pub offset : ℕ  -- within a node
+  pub Asked : List (Node E) → Ptr → Type 0
+  pub Told : type.Denot → List (Node E) → Ptr → Type 0
+
+module _ {E : Three} (A : Field E) {M : Type 1} {𝓤 : Ura M} (𝓛 : Logic 𝓤) {𝓜 : Model 𝓤 𝓛.H} (𝓡 : Running 𝓤 𝓛.H 𝓜) where
   abbrev F : RattleType
-  F = param i Y
+  F = param A.index A.type
 
   abbrev 𝓣 : MachineTables 𝓤 𝓛.H 𝓜
   𝓣 = tables 𝓤 𝓛.H 𝓜 𝓡 𝓡.env
@@ -90,21 +96,21 @@ module _ (E : Three) (i : ℕ) (Y : RattleType) (off : ℕ) {M : Type 1} {𝓤 :
     requires = λ _. sep 𝓤 (fact 𝓤 (lft_at 4 1 tt κs ⊑ E.links.lives))
         (sep 𝓤 (fact 𝓤 (lft_at 4 2 tt κs ⊑ E.key.lives))
         (sep 𝓤 (fact 𝓤 (lft_at 4 3 tt κs ⊑ E.value.lives))
-        (fact 𝓤 (Asked a.0.now.cells a.1.0.ptr))));
-    ensures = λ _ r _. fact 𝓤 (Told r.now a.0.now.cells a.1.0.ptr);
+        (fact 𝓤 (A.Asked a.0.now.cells a.1.0.ptr))));
+    ensures = λ _ r _. fact 𝓤 (A.Told r.now a.0.now.cells a.1.0.ptr);
   }
 
   pub record Seen (cs : List (Node E)) (p : Ptr) : Type 1 where
-    pub value : Y.Denot
-    pub told : Told value cs p
+    pub value : A.type.Denot
+    pub told : A.Told value cs p
     pub cut : Cut cs p
     pub lent : (κ : Lft) → ent 𝓤 (sem 𝓛 (cell_lent (RL E) (RK E) (RV E) cut.split.node κ))
-        (sem 𝓛 (lent_at F (cut.split.node.at +ₚ off) value κ))
+        (sem 𝓛 (lent_at F (cut.split.node.at +ₚ A.offset) value κ))
 
   pub field_seen : (f : Args → Callee) (fn : Fn) → Closed 𝓤 𝓛.H 𝓣.C 𝓣.Λ (f (args E)) (inst_fn (args E) fn)
       → {ρ σ : Ty} {ν : Sym} {δ τ : Ty} {k : ℕ} → inst_fn (args E) fn ≡ with_code
-      (inst_fn (args E) fn) ρ σ ν δ k → field_of δ k ≡ some (τ, off)
-      → ((cs : List (Node E)) (p : Ptr) → Asked cs p → Seen cs p) → Meets 𝓛 ended.signature (𝓣.C (f (args E))) (closing 𝓛 ended clauses)
+      (inst_fn (args E) fn) ρ σ ν δ k → field_of δ k ≡ some (τ, A.offset)
+      → ((cs : List (Node E)) (p : Ptr) → A.Asked cs p → Seen cs p) → Meets 𝓛 ended.signature (𝓣.C (f (args E))) (closing 𝓛 ended clauses)
   field_seen f fn closed {ρ} {σ} {ν} {δ} {τ} {k} code lies seen =
       let H = 𝓛.H in let N = Nr E in let R = RL E in let S = RK E in let W = RV E in
       let Self = RefOf (0 ∷ []) tt (plain (λ _. N)) (λ _. tt) in
@@ -120,8 +126,8 @@ module _ (E : Three) (i : ℕ) (Y : RattleType) (off : ℕ) {M : Type 1} {𝓤 :
       let h : N.Denot = a.0.now in let p : Ptr = a.1.0.ptr in
       qed 𝓛 (((‵ (flft κs.0 qs.0) ⊛ ‵ (tokens 3 κs.1 qs.1)) ⊛ ‵
       (owns (types_at ended.signature.params κs) a vss)) ∷ raw (fact 𝓤 _) ∷ raw (fact 𝓤 _) ∷ raw
-      (fact 𝓤 _) ∷ raw (fact 𝓤 (Asked h.cells p)) ∷ []) ∵
-      keep ! (4 ∷ 0 ∷ []) $ heard ! (Asked h.cells p) (λ asked. split ! $ split ! $ move !
+      (fact 𝓤 _) ∷ raw (fact 𝓤 (A.Asked h.cells p)) ∷ []) ∵
+      keep ! (4 ∷ 0 ∷ []) $ heard ! (A.Asked h.cells p) (λ asked. split ! $ split ! $ move !
       (2 ∷ []) $ fsplit ! $ fsplit ! $ keep ! (1 ∷ 3 ∷ 4 ∷ []) $
       let us : List Val = vptr rb ro ∷ word p ∷ [] in let fn' : Fn = with_code (inst_fn (args E) fn)
       ρ σ ν δ k in let Run : Fn → List Val → SProp 𝓤 = λ e ws. WpFn 𝓤 H 𝓣.C 𝓣.Λ e ws Post in
@@ -131,16 +137,16 @@ module _ (E : Three) (i : ℕ) (Y : RattleType) (off : ℕ) {M : Type 1} {𝓤 :
       enter ! 𝓣.C 𝓣.Λ fn' us Post $ alloc_all ! (λ l. pass_all ! refl ((tt, tt), (word-Good ν p, tt)) $ let Ev = env fn'.locals l in
       let s = seen h.cells p asked in let x = s.value in let c : Node E = s.cut.split.node in
       unhide ! $ fsplit ! $ drop ! $ rewrite ! 0 (λ (cs : List (Node E)). ‵ (cells_lent R S W cs κ)) s.cut.split.is refl $
-      use1 𝓛 (‵ (lent_at F (c.at +ₚ off) x κ)) (via 𝓤 (sem 𝓛 (cell_lent R S W c κ))
+      use1 𝓛 (‵ (lent_at F (c.at +ₚ A.offset) x κ)) (via 𝓤 (sem 𝓛 (cell_lent R S W c κ))
       (cell_seen 𝓛 E κ s.cut.split.before c s.cut.split.after) (s.lent κ)) $
-      in_a_block ! c.at (λ q. lent_at F (q +ₚ off) x κ)
+      in_a_block ! c.at (λ q. lent_at F (q +ₚ A.offset) x κ)
       (fst∗ 𝓤 (never 𝓤) (sem 𝓛 (shared_of F x 0 0 κ))) (λ pb po e. fsplit ! $ drop ! $ hide ! $
-      let r : Val = vptr pb (po + off) in let out : Bor Y.Denot = record { ref_ptr = (pb, po + off); now = x } in
+      let r : Val = vptr pb (po + A.offset) in let out : Bor A.type.Denot = record { ref_ptr = (pb, po + A.offset); now = x } in
       sets ! (is ! (of_opd ! (get_in ! (fld ! refl (stop !)) (sub ! 0 refl (whole !))))
       (ap ptr_val (sym s.cut.split.at_is ∙ e))) refl (tt, tt) $ first ! $ blocks ! $
       sets_last ! (addr ! (through ! refl (fld ! lies (stop !)))) refl (tt, tt) $ exec ! 𝓣.C 𝓣.Λ Ev
       (after 2 fn'.body) (at_ret Ev Post) $ sets ! (of_opd ! (get ! refl)) refl (tt, tt) $
       feq_i ! (List Val) (r ∷ []) (r ∷ []) refl $ fjoin ! $ move ! (1 ∷ 2 ∷ []) $ join ! $
-      states ! (Told x h.cells p) s.told $ all_spent ! 2 $
+      states ! (A.Told x h.cells p) s.told $ all_spent ! 2 $
       returns ! (look_at ! 0 refl) $ free_all ! refl $ keep ! (2 ∷ 0 ∷ 3 ∷ 1 ∷ []) $ by !
       (leaves 𝓛 ended hs clauses y r out (tt, (tt, tt)) (tt, (tt, tt)))))))

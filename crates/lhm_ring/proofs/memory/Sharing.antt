@@ -50,23 +50,22 @@ module _ {M : Type 1} {𝓤 : Ura M} (𝓛 : Logic 𝓤) (l : Lft) where
     Lends-parts f h Z (c ∷ cs) = Lends-both 𝓛 (f c) (parts_own f Z cs) (cell_lent L K V c)
         (cells_lent L K V cs) l (h c) (Lends-parts f h Z cs)
 
-module _ {M : Type 1} {𝓤 : Ura M} (𝓛 : Logic 𝓤) (l : Lft) (L K V : RattleType) (LL : Laws L)
-    (LK : Laws K) (LV : Laws V) (incL : Incl l L.lives) (incK : Incl l K.lives)
-    (incV : Incl l V.lives) where
+module _ {M : Type 1} {𝓤 : Ura M} (𝓛 : Logic 𝓤) {l : Lft} {L K V : RattleType} (LL : Laws L)
+    (LK : Laws K) (LV : Laws V) (inc : Incl l L.lives × Incl l K.lives × Incl l V.lives) where
   Lends-body : (p : Ptr) (x : Option (K.Denot × V.Denot)) → Lends 𝓛 (body_owns L K V p x) (body_lent L K V p x) l
   Lends-body p None = Lends-nothing 𝓛 (body_owns L K V p None) l
   Lends-body p (Some x) = Lends-both 𝓛 (lies_at K full_share (key_address L K V p) x.0)
       (lies_at V full_share (value_address L K V p) x.1) (lent_at K (key_address L K V p) x.0)
       (lent_at V (value_address L K V p) x.1) l
-      (Lends-lies 𝓛 K l (key_address L K V p) x.0 (Shares-less 𝓛 K K.lives l incK (LK.shares 𝓛)
+      (Lends-lies 𝓛 K l (key_address L K V p) x.0 (Shares-less 𝓛 K K.lives l inc.1 (LK.shares 𝓛)
       x.0)) (Lends-lies 𝓛 V l (value_address L K V p) x.1
-      (Shares-less 𝓛 V V.lives l incV (LV.shares 𝓛) x.1))
+      (Shares-less 𝓛 V V.lives l inc.2 (LV.shares 𝓛) x.1))
 
   Lends-cell : (c : Cell L.Denot (K.Denot × V.Denot)) → Lends 𝓛 (cell_owns L K V c) (cell_lent L K V c) l
   Lends-cell c =
       Lends-both 𝓛 (lies_at L full_share (links_address L K V c.at) c.links) (fsep (body_owns L K V c.at c.body) (deed_owns L K V c.at))
       (lent_at L (links_address L K V c.at) c.links) (body_lent L K V c.at c.body) l
-      (Lends-lies 𝓛 L l (links_address L K V c.at) c.links (Shares-less 𝓛 L L.lives l incL (LL.shares 𝓛) c.links))
+      (Lends-lies 𝓛 L l (links_address L K V c.at) c.links (Shares-less 𝓛 L L.lives l inc.0 (LL.shares 𝓛) c.links))
       (Lends-first 𝓛 (body_owns L K V c.at c.body) (deed_owns L K V c.at) (body_lent L K V c.at c.body) l (Lends-body c.at c.body))
 
   pub Lends-cells : (Z : Fml) (cs : List (Cell L.Denot (K.Denot × V.Denot))) → Lends 𝓛 (cells_own L K V Z cs) (cells_lent L K V cs) l

@@ -57,7 +57,7 @@ module _ {M : Type 1} {𝓤 : Ura M} (𝓛 : Logic 𝓤) (V : RattleType) (f : P
       use1 𝓛 (‵ (lies_at V full_share (f p) y) ⊛ ‵ (spread V (ats (xs ++ ys)) (ofs (xs ++ ys))))
       (run_cut xs y ys) $ split ! $ move ! (2 ∷ 1 ∷ []) $ fjoin ! $ move ! (1 ∷ []) $ done !
 
-  module _ (b o : ℕ) (e : f p ≡ block_ptr b o) where
+  module _ {b o : ℕ} (e : f p ≡ block_ptr b o) where
     pub run_glue : (xs : Run) (y : V.Denot) (ys : Run) (w : V.Denot) (ws : List V.Denot)
         → ent 𝓤 (sep 𝓤 (sem 𝓛 ((mem V).own_at w b o)) (sep 𝓤 (sem 𝓛 (spread V (ats (xs ++ ys)) ws))
         (emp 𝓤))) (sem 𝓛 (spread V (ats (xs ++ (p, y) ∷ ys)) (take (length xs) ws ++ w ∷ drop_l

@@ -294,7 +294,7 @@ module _ (S W : RattleType) where
       use1 𝓛 (given (length ws ≡ length ps) (‵ ftrue)) (spread-length 𝓛 ps ws) $ learn !
       (λ e. by ! (fact_i 𝓤 (suc (length ws) ≡ suc (length ps)) (emp 𝓤) (ap suc e)))
 
-  module _ {M : Type 1} {𝓤 : Ura M} (𝓛 : Logic 𝓤) (a : Inside S W) (d : Seen) (seen : view a ≡ d) (ok : good a) (b o : ℕ) where
+  module _ {M : Type 1} {𝓤 : Ura M} (𝓛 : Logic 𝓤) (a : Inside S W) {d : Seen} (seen : view a ≡ d) (ok : good a) (b o : ℕ) where
     abbrev pub Fields : Fml
     Fields = part_at (Thinned S W (kept_by a)) full_share (thinned S W (kept_by a) a) b o
 

@@ -92,9 +92,10 @@ lend_bodies_spec 𝓤 𝓛 𝓜 𝓡 wired L K V LL LK LV =
     -- [the loan of the contents; the anchor; the fields' borrow; nothing; the token; what follows;
     -- the other tokens]
     move ! (2 ∷ 4 ∷ []) $
+    let shared = Shares-bare R S W 𝓛 (param_laws 0 L LL) (H-laws.the_row_laws S (param_laws 1 K LK))
+    (H-laws.the_row_laws W (param_laws 2 V LV)) in
     use2 𝓛 (later (‵ ((BareRow R S W).shr_at h rb ro κ) ⊛ ‵ (flft κ q)))
-    (Shares-bare R S W 𝓛 (param_laws 0 L LL) (H-laws.the_row_laws S (param_laws 1 K LK))
-    (H-laws.the_row_laws W (param_laws 2 V LV)) h κ ((κ, q) ∷ []) rb ro
+    (shared h κ ((κ, q) ∷ []) rb ro
     (N-laws.the_within R (HS R S W) (HW R S W) κ (Incl-trans bounds.0 inL)
     (H-laws.the_within S κ (Incl-trans bounds.1.0 inK))
     (H-laws.the_within W κ (Incl-trans bounds.1.1.0 inV))) (Incl-refl κ)) $ await ! tt $ split ! $
@@ -102,7 +103,7 @@ lend_bodies_spec 𝓤 𝓛 𝓜 𝓡 wired L K V LL LK LV =
     -- [the nodes, shared; the token; the loan of the contents; the anchor; nothing; what follows;
     -- the other tokens]
     move ! (3 ∷ 0 ∷ 2 ∷ []) $ three_made ! (MutRef (named 0) κ Anchor) (ShrRef (named 0) κ Hr) It
-    top seen lent (vptr rb ro) (vptr rb ro) marker $
+    top seen lent $
     let out : Val = vstruct (vcons (vptr rb ro) (vcons (vptr rb ro) (vcons marker vnil))) in
     sets ! (addr ! (through ! refl (stop !))) refl (tt, tt) $ sets !
     (addr ! (through ! refl (stop !))) refl (tt, tt) $ first ! $ blocks ! $ sets_last !

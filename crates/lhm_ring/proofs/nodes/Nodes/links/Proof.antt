@@ -1,6 +1,6 @@
 -- `links` shows the links of one node. Assumes `Logic`.
 use Rattle.std.proofs.Common.{◌≡◌, refl, ap, Some}
-use Rattle.lhm_ring.proofs.memory.FieldSeen.{links_lent, field_seen}
+use Rattle.lhm_ring.proofs.memory.FieldSeen.{links_lent, Field, field_seen}
 use Rattle.lhm_ring.proofs.rings.Lookup.{Cut-links_at}
 use Rattle.lhm_ring.proofs.memory.NodeFields.{Three, three_rows, lo}
 use Rattle.lhm_ring.specs.contracts.nodes.Nodes.links.Key.{name as #self}
@@ -11,7 +11,8 @@ use Rattle.lhm_ring.specs.Nodes.{IsAt, links_at, links_of}
 pub links_spec : {M : Type 1} → statement M
 links_spec 𝓤 𝓛 𝓜 𝓡 wired L K V LL LK LV =
     let E : Three = three_rows LL LK LV in
-    field_seen E 0 L (lo E) 𝓛 𝓜 𝓡 IsAt (λ x cs p. links_at cs p ≡ Some x) #self code.function
+    let A : Field E = record { index = 0; type = L; offset = lo E; Asked = IsAt; Told = λ x cs p. links_at cs p ≡ Some x } in
+    field_seen A 𝓛 𝓡 #self code.function
     (code.unfolded 𝓤 𝓛.H 𝓜 𝓡 wired (L, (K, (V, tt)))) refl refl
     (λ cs p asked. let k = Cut-links_at cs p asked.0 asked.1 in record {
       value = k.split.node.links;

@@ -1,6 +1,6 @@
 -- `value` shows the value of one node. Assumes `Logic`.
 use Rattle.std.proofs.Common.{refl}
-use Rattle.lhm_ring.proofs.memory.FieldSeen.{value_lent, field_seen}
+use Rattle.lhm_ring.proofs.memory.FieldSeen.{value_lent, Field, field_seen}
 use Rattle.lhm_ring.proofs.rings.Lookup.{Cut-held, held_here}
 use Rattle.lhm_ring.proofs.memory.NodeFields.{Three, three_rows, vo}
 use Rattle.lhm_ring.specs.contracts.nodes.Nodes.value.Key.{name as #self}
@@ -11,7 +11,8 @@ use Rattle.lhm_ring.specs.Nodes.{Holds, IsValue, body_at}
 pub value_spec : {M : Type 1} → statement M
 value_spec 𝓤 𝓛 𝓜 𝓡 wired L K V LL LK LV =
     let E : Three = three_rows LL LK LV in
-    field_seen E 2 V (vo E) 𝓛 𝓜 𝓡 Holds (λ x cs p. IsValue x (body_at cs p)) #self code.function
+    let A : Field E = record { index = 2; type = V; offset = vo E; Asked = Holds; Told = λ x cs p. IsValue x (body_at cs p) } in
+    field_seen A 𝓛 𝓡 #self code.function
     (code.unfolded 𝓤 𝓛.H 𝓜 𝓡 wired (L, (K, (V, tt)))) refl refl
     (λ cs p asked. let x = asked.0 in let k = Cut-held cs p x asked.1 in record {
       value = x.1;

@@ -27,22 +27,22 @@ use Rattle.lhm_ring.specs.RingAfterLoan.{holding, value_set}
 use Rattle.lhm_ring.specs.Nodes.{cell, change, Holds, IsValue, body_at, links_address, key_address, value_address, body_owns, deed_owns}
 use Rattle.lhm_ring.proofs.memory.NodeTaken.{node_cut, node_glue, Others}
 
-module _ (E : Three) {M : Type 1} {𝓤 : Ura M} (𝓛 : Logic 𝓤) (h : (Nr E).Denot) (p : Ptr)
-    (k : Cut h.cells p) (x : E.key.Denot × E.value.Denot) (vs : List Val) (rb ro pb po : ℕ) where
+module _ (E : Three) {M : Type 1} {𝓤 : Ura M} (𝓛 : Logic 𝓤) (h : (Nr E).Denot) {p : Ptr}
+    (k : Cut h.cells p) (held : Holds h.cells p) (vs : List Val) (rb ro : ℕ) where
   -- all but the value
   abbrev Rest : Fml
   Rest = fsep (lies_at (RL E) full_share (links_address (RL E) (RK E) (RV E) k.split.node.at)
       k.split.node.links) (fsep
-      (lies_at (RK E) full_share (key_address (RL E) (RK E) (RV E) k.split.node.at) x.0)
+      (lies_at (RK E) full_share (key_address (RL E) (RK E) (RV E) k.split.node.at) held.0.0)
       (fsep (deed_owns (RL E) (RK E) (RV E) k.split.node.at)
       (fsep (Cells E (Land E h) (k.split.before ++ k.split.after))
       (fsep ((Marker E).own_val (tt, tt) vs) (cell_at full_share (Nr E).mir vs rb ro)))))
 
-  back : k.split.node.at ≡ block_ptr pb po → body_at h.cells p ≡ Some x → (w : E.value.Denot)
+  back : {pb po : ℕ} → k.split.node.at ≡ block_ptr pb po → (w : E.value.Denot)
       → ent 𝓤 (sep 𝓤 (sem 𝓛 ((mem (RV E)).own_at w pb (po + vo E))) (sem 𝓛 Rest))
       (sem 𝓛 ((mem (Nr E)).own_at (holding h p w) rb ro))
   unfolding part_of
-  back e is w =
+  back {pb} {po} e w =
       let f : Node E = k.split.node in let f' : Node E → Node E = λ c. cell c.at c.links (value_set w (body_at h.cells p)) in
       qed 𝓛 (‵ (part_at (RV E) full_share w pb (po + vo E)) ∷ ‵ Rest ∷ []) ∵ rewrite ! 0
       (λ (q : Ptr). ‵ (lies_at (RV E) full_share (value_address (RL E) (RK E) (RV E) q) w))
@@ -50,7 +50,7 @@ module _ (E : Three) {M : Type 1} {𝓤 : Ura M} (𝓛 : Logic 𝓤) (h : (Nr E)
       move ! (1 ∷ []) $ fsplit3 ! $ move ! (2 ∷ []) $ fsplit3 ! $ move ! (2 ∷ []) $ fsplit ! $
       -- [the marker; its cell; the deed; the other nodes; the links; the key; the value]
       move ! (5 ∷ 6 ∷ []) $ fjoin ! $ rewrite ! 0 (λ (o : Option (E.key.Denot × E.value.Denot)). ‵
-      (body_owns (RL E) (RK E) (RV E) f.at (value_set w o))) (sym is) refl $ move ! (0 ∷ 3 ∷ []) $
+      (body_owns (RL E) (RK E) (RV E) f.at (value_set w o))) (sym held.1) refl $ move ! (0 ∷ 3 ∷ []) $
       fjoin ! $ move ! (4 ∷ 0 ∷ []) $ fjoin ! $ move ! (0 ∷ 3 ∷ []) $
       use2 𝓛 (‵ (Cells E (Land E h) (change p f' h.cells))) (node_glue 𝓛 E (Land E h) k f') $
       move ! (1 ∷ 0 ∷ []) $ fjoin ! $ move ! (1 ∷ 0 ∷ []) $ fjoin ! $ fpack ! (List Val)
@@ -91,7 +91,7 @@ value_mut_spec 𝓤 𝓛 𝓜 𝓡 wired L K V LL LK LV =
     (after 2 fn.body) (at_ret Ev Post) $ sets ! (of_opd ! (get ! refl)) refl (tt, tt) $
     move ! (4 ∷ 5 ∷ 6 ∷ []) $ fjoin3 ! $ move ! (3 ∷ 0 ∷ []) $ fjoin ! $ move ! (3 ∷ 2 ∷ 0 ∷ []) $
     fjoin3 ! $ move ! (2 ∷ 3 ∷ 4 ∷ 1 ∷ 0 ∷ []) $ group ! 5 $
-    let O = sem 𝓛 (Rest E 𝓛 h p k x vs rb ro pb po) in let way = back E 𝓛 h p k x vs rb ro pb po e asked.1 in
+    let O = sem 𝓛 (Rest E 𝓛 h k asked vs rb ro) in let way = back E 𝓛 h k asked vs rb ro e in
     use1 𝓛 (later (some (λ (δ : ℕ). raw (Part 𝓛 N W (holding h p) (named 0) κ q rb ro pb (po + vo E) γ O way x.1 δ))))
     (lends_Part 𝓛 N W (holding h p) (named 0) κ q rb ro pb (po + vo E) γ O way hcode hcode x.1) $ await ! tt $ pick ! (λ δ.
     let r : Val = vptr pb (po + vo E) in let out : MutBor V.Denot = record { ref_ptr = (pb, po + vo E); ghost_name = δ; now = x.1 } in

@@ -108,9 +108,9 @@ lend_spec 𝓤 𝓛 𝓜 𝓡 wired K V LK LV =
     let i : Inside S W = x.0 in let seen = x.1.0 in let ok = x.1.1 in let kb : Ptr
     → _ = kept_by S W i in let es = entries S W i in let ps : List Ptr = at_pointers Q S W es in
     let ws : List V.Denot = vals Q S W es in
-    let As' : SemTy = As S W 𝓛 i d seen ok rb ro in let Vs : SemTy = Vals S W i in let Fs : Fml =
-    Fields S W 𝓛 i d seen ok rb ro in let is : placed S W 𝓛 i d seen ok rb ro (held_values d.held)
-    ≡ ws = placed-own S W 𝓛 i d seen ok rb ro in
+    let As' : SemTy = As S W 𝓛 i seen ok rb ro in let Vs : SemTy = Vals S W i in let Fs : Fml =
+    Fields S W 𝓛 i seen ok rb ro in let is : placed S W 𝓛 i seen ok rb ro (held_values d.held)
+    ≡ ws = placed-own S W 𝓛 i seen ok rb ro in
     use1 𝓛 (‵ (spread W ps ws) ⊛ ‵ Fs) (ring_cut S W kb 𝓛 i rb ro) $ split ! $
     -- [the values; the fields; the open borrow, in three; the other tokens]
     rewrite ! 0 (λ (l : List V.Denot). ‵ (spread W ps l)) (sym is) refl $ nothing ! $ move !
@@ -118,16 +118,16 @@ lend_spec 𝓤 𝓛 𝓜 𝓡 wired K V LK LV =
     use1 𝓛 (later (some (λ (ν : ℕ). ‵ (fobs ν (As'.coded.code vs)) ⊛ ‵ (fbor κ (Borrowed As' 0 0 ν))
     ⊛ ‵ (flft κ q) ⊛ ‵ (follows R Seq γ ν (with_values d)) ⊛ ‵ (fbor κ Fs) ⊛ ‵ ftrue)))
     (takes_beside 𝓛 (mem R) As' (with_values d) κ q rb ro 0 0 γ (Fs ∷ []) (emp 𝓤)
-    (back S W 𝓛 i d seen ok rb ro) dcode dcode vs) $ await ! tt $ pick !
+    (back S W 𝓛 i seen ok rb ro) dcode dcode vs) $ await ! tt $ pick !
     (λ ν. split3 ! $ move ! (2 ∷ []) $ split3 ! $ move ! (3 ∷ 4 ∷ 0 ∷ []) $
     -- [the name; the borrow; its token; what follows; the shared parts; the other tokens]
     open_ref ! tt As' {x = vs} {b = 0} {o = 0} $ rewrite ! 0
     (λ (l : List V.Denot). ‵ (spread W ps l)) is refl $ nothing ! $ move !
     (2 ∷ 3 ∷ 4 ∷ 1 ∷ 0 ∷ []) $ group ! 5 $
     use1 𝓛 (later (some (λ (δ : ℕ). ‵ (fobs δ (Vs.coded.code ws)) ⊛ ‵ (fbor κ (Borrowed Vs 0 0 δ)) ⊛
-    ‵ (flft κ q) ⊛ ‵ (afterwards As' Vs ν δ (listed_as S W 𝓛 i d seen ok rb ro)))))
-    (takes_part 𝓛 As' Vs (listed_as S W 𝓛 i d seen ok rb ro) κ q 0 0 0 0 ν (emp 𝓤)
-    (ordered_back S W 𝓛 i d seen ok rb ro) (As'.coded.code vs) (As'.coded.code vs) ws) $ await ! tt
+    ‵ (flft κ q) ⊛ ‵ (afterwards As' Vs ν δ (listed_as S W 𝓛 i seen ok rb ro)))))
+    (takes_part 𝓛 As' Vs (listed_as S W 𝓛 i seen ok rb ro) κ q 0 0 0 0 ν (emp 𝓤)
+    (ordered_back S W 𝓛 i seen ok rb ro) (As'.coded.code vs) (As'.coded.code vs) ws) $ await ! tt
     $ pick ! (λ δ. split3 ! $ fjoin ! $
     let lent : ValueLoan Links K.Denot V.Denot =
     record { marker = record {}; name = δ; tie = ν; run = run_of es } in
@@ -165,7 +165,7 @@ lend_spec 𝓤 𝓛 𝓜 𝓡 wired K V LK LV =
     let O = triple_of 𝓛 (g.signature K V) (g.spec K V 𝓛 𝓜.mem 𝓡.returns) in let z : O.Ghost =
     ((κs, qs, bounds, (lv, tt), (out ∷ [], tt)), tt) in
     move ! (1 ∷ 5 ∷ []) $ join ! $ move ! (1 ∷ 2 ∷ []) $ fjoin ! $ move ! (1 ∷ 0 ∷ []) $ join ! $
-    states ! (AreLent (run_of es) d.held) (AreLent-entries S W 𝓛 i d seen ok rb ro) $ use0 𝓛
+    states ! (AreLent (run_of es) d.held) (AreLent-entries S W 𝓛 i seen ok rb ro) $ use0 𝓛
     (raw (fact 𝓤 (κs.1.1.0 ⊑ V.lives))) (fact_i 𝓤 (κs.1.1.0 ⊑ V.lives) (emp 𝓤) inV) $ join ! $
     use0 𝓛 (raw (fact 𝓤 (κs.1.0 ⊑ K.lives))) (fact_i 𝓤 (κs.1.0 ⊑ K.lives) (emp 𝓤) inK) $ join ! $
     move ! (1 ∷ 0 ∷ []) $ use2 𝓛 (raw (O.pre z)) (id⊢ 𝓤 _) $

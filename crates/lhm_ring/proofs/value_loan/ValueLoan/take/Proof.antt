@@ -77,7 +77,7 @@ take_spec 𝓤 𝓛 𝓜 𝓡 wired L K V LL LK LV =
     (fbor κ (Borrowed (Spread W (ats (xs ++ ys))) 0 0 γs.1)))
     ⊛ ‵ (flft κ q) ⊛ ‵ (after₂ (Spread W (ats all)) (mem W) (Spread W (ats (xs ++ ys))) d.name γs.0 γs.1 F))))
     (takes_two 𝓛 (Spread W (ats all)) (mem W) (Spread W (ats (xs ++ ys))) F κ q 0 0 pb (po + vo E) 0
-    0 d.name (emp 𝓤) (run_glue 𝓛 W f p pb (po + vo E) at xs v ys)
+    0 d.name (emp 𝓤) (run_glue 𝓛 W f p at xs v ys)
     ((coded_list W.coded).code (ofs all)) ((coded_list W.coded).code (ofs all)) v (ofs (xs ++ ys)))
     $ await ! tt $ pick ! (λ γs. split3 ! $
     let r : Val = vptr pb (po + vo E) in let out : MutBor V.Denot = record { ref_ptr = (pb, po + vo E); ghost_name = γs.0; now = v } in
