@@ -23,10 +23,7 @@ impl<T: Eq + Hash, S: BuildHasher> LinkedHashSet<T, S> {
     /// set.extend([1, 2, 3])?;
     /// let mut other = LinkedHashSet::new(rt.alloc());
     /// other.extend([4, 2])?;
-    /// let mut items = set.difference(&other);
-    /// assert_eq!(rt; items.next(), Some(&1));
-    /// assert_eq!(rt; items.next(), Some(&3));
-    /// assert_eq!(rt; items.next(), None);
+    /// assert!(rt; set.difference(&other).eq(&[1, 3]));
     /// ```
     pub fn difference<'a>(&'a self, other: &'a Self) -> Difference<'a, T, S>
         ensures items { result ≡ difference T.eq self.now.items other.now.items }
@@ -46,9 +43,7 @@ impl<T: Eq + Hash, S: BuildHasher> LinkedHashSet<T, S> {
     /// set.extend([1, 2, 3])?;
     /// let mut other = LinkedHashSet::new(rt.alloc());
     /// other.extend([4, 2])?;
-    /// let mut items = set.intersection(&other);
-    /// assert_eq!(rt; items.next(), Some(&2));
-    /// assert_eq!(rt; items.next(), None);
+    /// assert!(rt; set.intersection(&other).eq(&[2]));
     /// ```
     pub fn intersection<'a>(&'a self, other: &'a Self) -> Intersection<'a, T, S>
         ensures items { result ≡ intersection T.eq self.now.items other.now.items }
@@ -69,12 +64,7 @@ impl<T: Eq + Hash, S: BuildHasher> LinkedHashSet<T, S> {
     /// set.extend([1, 2, 3])?;
     /// let mut other = LinkedHashSet::new(rt.alloc());
     /// other.extend([4, 2])?;
-    /// let mut items = set.union(&other);
-    /// assert_eq!(rt; items.next(), Some(&1));
-    /// assert_eq!(rt; items.next(), Some(&2));
-    /// assert_eq!(rt; items.next(), Some(&3));
-    /// assert_eq!(rt; items.next(), Some(&4));
-    /// assert_eq!(rt; items.next(), None);
+    /// assert!(rt; set.union(&other).eq(&[1, 2, 3, 4]));
     /// ```
     pub fn union<'a>(&'a self, other: &'a Self) -> Union<'a, T, S>
         ensures items { result ≡ union T.eq self.now.items other.now.items }
@@ -95,11 +85,7 @@ impl<T: Eq + Hash, S: BuildHasher> LinkedHashSet<T, S> {
     /// set.extend([1, 2, 3])?;
     /// let mut other = LinkedHashSet::new(rt.alloc());
     /// other.extend([4, 2])?;
-    /// let mut items = set.symmetric_difference(&other);
-    /// assert_eq!(rt; items.next(), Some(&1));
-    /// assert_eq!(rt; items.next(), Some(&3));
-    /// assert_eq!(rt; items.next(), Some(&4));
-    /// assert_eq!(rt; items.next(), None);
+    /// assert!(rt; set.symmetric_difference(&other).eq(&[1, 3, 4]));
     /// ```
     pub fn symmetric_difference<'a>(&'a self, other: &'a Self) -> SymmetricDifference<'a, T, S>
         ensures items { result ≡ symmetric_difference T.eq self.now.items other.now.items }

@@ -18,8 +18,7 @@ use std::hash::{BuildHasher, Hash, Hasher};
 ///
 /// ```rust
 /// let mut set = LinkedHashSet::new(rt.alloc());
-/// set.insert('x')?;
-/// set.insert('y')?;
+/// set.extend(['x', 'y'])?;
 /// let mut other = LinkedHashSet::new(rt.alloc());
 /// other.insert('y')?;
 /// other.insert('x')?;
@@ -72,8 +71,7 @@ impl<T: Eq + Hash, S: BuildHasher> Hash for LinkedHashSet<T, S> {
 ///
 /// ```rust
 /// let mut set = LinkedHashSet::new(rt.alloc());
-/// set.insert('x')?;
-/// set.insert('y')?;
+/// set.extend(['x', 'y'])?;
 /// let text = format!(in rt.alloc(); "{set:?}")?;
 /// assert_eq!(rt; text.as_str(), "{'x', 'y'}");
 /// ```

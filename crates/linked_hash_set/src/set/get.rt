@@ -50,8 +50,7 @@ impl<T: Eq + Hash, S: BuildHasher> LinkedHashSet<T, S> {
     ///
     /// ```rust
     /// let mut set = LinkedHashSet::new(rt.alloc());
-    /// set.insert('x')?;
-    /// set.insert('y')?;
+    /// set.extend(['x', 'y'])?;
     /// assert_eq!(rt; set.front(), Some(&'x'));
     /// ```
     pub fn front(&self) -> Option<&T>
@@ -67,8 +66,7 @@ impl<T: Eq + Hash, S: BuildHasher> LinkedHashSet<T, S> {
     ///
     /// ```rust
     /// let mut set = LinkedHashSet::new(rt.alloc());
-    /// set.insert('x')?;
-    /// set.insert('y')?;
+    /// set.extend(['x', 'y'])?;
     /// assert_eq!(rt; set.back(), Some(&'y'));
     /// ```
     pub fn back(&self) -> Option<&T>

@@ -25,8 +25,7 @@ impl<T: Eq + Hash, S: BuildHasher> LinkedHashSet<T, S> {
     ///
     /// ```rust
     /// let mut set = LinkedHashSet::new(rt.alloc());
-    /// set.insert('x')?;
-    /// set.insert('y')?;
+    /// set.extend(['x', 'y'])?;
     /// let mut items = set.iter();
     /// assert_eq!(rt; items.next(), Some(&'x'));
     /// let mut rest = items.clone()?;
@@ -50,8 +49,7 @@ impl<T: Eq + Hash, S: BuildHasher> LinkedHashSet<T, S> {
 ///
 /// ```rust
 /// let mut set = LinkedHashSet::new(rt.alloc());
-/// set.insert('x')?;
-/// set.insert('y')?;
+/// set.extend(['x', 'y'])?;
 /// let mut last = None;
 /// for item in &set {
 ///     last = Some(*item);
@@ -80,12 +78,8 @@ impl<'a, T: Eq + Hash, S: BuildHasher> IntoIterator for &'a LinkedHashSet<T, S> 
 ///
 /// ```rust
 /// let mut set = LinkedHashSet::new(rt.alloc());
-/// set.insert('x')?;
-/// set.insert('y')?;
-/// let mut items = set.into_iter();
-/// assert_eq!(rt; items.next_back(), Some('y'));
-/// assert_eq!(rt; items.next(), Some('x'));
-/// assert_eq!(rt; items.next(), None);
+/// set.extend(['x', 'y'])?;
+/// assert!(rt; set.into_iter().rev().eq(['y', 'x']));
 /// ```
 impl<T: Eq + Hash + Drop, S: BuildHasher + Drop> IntoIterator for LinkedHashSet<T, S> {
     type Item = T;

@@ -17,8 +17,7 @@ impl<T: Eq + Hash, S: BuildHasher> LinkedHashSet<T, S> {
     ///
     /// ```rust
     /// let mut set = LinkedHashSet::new(rt.alloc());
-    /// set.insert('x')?;
-    /// set.insert('y')?;
+    /// set.extend(['x', 'y'])?;
     /// assert!(rt; set.to_back(&'x'));
     /// assert_eq!(rt; set.back(), Some(&'x'));
     /// assert!(rt; !set.to_back(&'z'));
@@ -43,8 +42,7 @@ impl<T: Eq + Hash, S: BuildHasher> LinkedHashSet<T, S> {
     ///
     /// ```rust
     /// let mut set = LinkedHashSet::new(rt.alloc());
-    /// set.insert('x')?;
-    /// set.insert('y')?;
+    /// set.extend(['x', 'y'])?;
     /// assert!(rt; set.refresh(&'x'));
     /// assert_eq!(rt; set.back(), Some(&'x'));
     /// assert!(rt; !set.refresh(&'z'));
@@ -69,8 +67,7 @@ impl<T: Eq + Hash, S: BuildHasher> LinkedHashSet<T, S> {
     ///
     /// ```rust
     /// let mut set = LinkedHashSet::new(rt.alloc());
-    /// set.insert('x')?;
-    /// set.insert('y')?;
+    /// set.extend(['x', 'y'])?;
     /// assert!(rt; set.to_front(&'y'));
     /// assert_eq!(rt; set.front(), Some(&'y'));
     /// assert!(rt; !set.to_front(&'z'));

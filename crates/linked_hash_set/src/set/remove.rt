@@ -25,8 +25,7 @@ impl<T: Eq + Hash, S: BuildHasher> LinkedHashSet<T, S> {
     ///
     /// ```rust
     /// let mut set = LinkedHashSet::new(rt.alloc());
-    /// set.insert('x')?;
-    /// set.insert('y')?;
+    /// set.extend(['x', 'y'])?;
     /// assert!(rt; set.remove(&'x'));
     /// assert!(rt; !set.remove(&'x'));
     /// assert_eq!(rt; (set.len(), set.capacity()), (1, 2));
@@ -50,8 +49,7 @@ impl<T: Eq + Hash, S: BuildHasher> LinkedHashSet<T, S> {
     ///
     /// ```rust
     /// let mut set = LinkedHashSet::new(rt.alloc());
-    /// set.insert('x')?;
-    /// set.insert('y')?;
+    /// set.extend(['x', 'y'])?;
     /// assert_eq!(rt; set.take(&'x'), Some('x'));
     /// assert_eq!(rt; set.take(&'x'), None);
     /// assert_eq!(rt; (set.len(), set.capacity()), (1, 2));
@@ -73,8 +71,7 @@ impl<T: Eq + Hash, S: BuildHasher> LinkedHashSet<T, S> {
     ///
     /// ```rust
     /// let mut set = LinkedHashSet::new(rt.alloc());
-    /// set.insert('x')?;
-    /// set.insert('y')?;
+    /// set.extend(['x', 'y'])?;
     /// assert_eq!(rt; set.pop_front(), Some('x'));
     /// assert_eq!(rt; set.front(), Some(&'y'));
     /// ```
@@ -94,8 +91,7 @@ impl<T: Eq + Hash, S: BuildHasher> LinkedHashSet<T, S> {
     ///
     /// ```rust
     /// let mut set = LinkedHashSet::new(rt.alloc());
-    /// set.insert('x')?;
-    /// set.insert('y')?;
+    /// set.extend(['x', 'y'])?;
     /// assert_eq!(rt; set.pop_back(), Some('y'));
     /// assert_eq!(rt; set.back(), Some(&'x'));
     /// ```
@@ -118,9 +114,7 @@ impl<T: Eq + Hash, S: BuildHasher> LinkedHashSet<T, S> {
     ///
     /// ```rust
     /// let mut set = LinkedHashSet::new(rt.alloc());
-    /// set.insert('x')?;
-    /// set.insert('y')?;
-    /// set.insert('z')?;
+    /// set.extend(['x', 'y', 'z'])?;
     /// set.retain(|item| *item != 'y');
     /// assert_eq!(rt; (set.len(), set.contains(&'y')), (2, false));
     /// assert_eq!(rt; set.front(), Some(&'x'));
@@ -168,8 +162,7 @@ impl<T: Eq + Hash, S: BuildHasher> LinkedHashSet<T, S> {
     ///
     /// ```rust
     /// let mut set = LinkedHashSet::new(rt.alloc());
-    /// set.insert('x')?;
-    /// set.insert('y')?;
+    /// set.extend(['x', 'y'])?;
     /// let mut items = set.drain();
     /// assert_eq!(rt; items.next(), Some('x'));
     /// assert_eq!(rt; items.len(), 1);

@@ -7,8 +7,7 @@ use std::test::Fail;
 #[test]
 fn equality(rt: HostRuntime) -> Result<(), Fail> {
     let mut set = LinkedHashSet::new(rt.alloc());
-    set.insert('x')?;
-    set.insert('y')?;
+    set.extend(['x', 'y'])?;
     let mut other = LinkedHashSet::new(rt.alloc());
     other.insert('y')?;
     other.insert('x')?;
@@ -33,8 +32,7 @@ fn hash(rt: HostRuntime) -> Result<(), Fail> {
 #[test]
 fn debug(rt: HostRuntime) -> Result<(), Fail> {
     let mut set = LinkedHashSet::new(rt.alloc());
-    set.insert('x')?;
-    set.insert('y')?;
+    set.extend(['x', 'y'])?;
     let text = format!(in rt.alloc(); "{set:?}")?;
     assert_eq!(rt; text.as_str(), "{'x', 'y'}");
     Ok(())

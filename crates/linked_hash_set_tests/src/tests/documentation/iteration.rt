@@ -6,8 +6,7 @@ use std::test::Fail;
 #[test]
 fn iter(rt: HostRuntime) -> Result<(), Fail> {
     let mut set = LinkedHashSet::new(rt.alloc());
-    set.insert('x')?;
-    set.insert('y')?;
+    set.extend(['x', 'y'])?;
     let mut items = set.iter();
     assert_eq!(rt; items.next(), Some(&'x'));
     let mut rest = items.clone()?;
@@ -20,8 +19,7 @@ fn iter(rt: HostRuntime) -> Result<(), Fail> {
 #[test]
 fn loop_by_reference(rt: HostRuntime) -> Result<(), Fail> {
     let mut set = LinkedHashSet::new(rt.alloc());
-    set.insert('x')?;
-    set.insert('y')?;
+    set.extend(['x', 'y'])?;
     let mut last = None;
     for item in &set {
         last = Some(*item);
@@ -34,11 +32,7 @@ fn loop_by_reference(rt: HostRuntime) -> Result<(), Fail> {
 #[test]
 fn loop_by_value(rt: HostRuntime) -> Result<(), Fail> {
     let mut set = LinkedHashSet::new(rt.alloc());
-    set.insert('x')?;
-    set.insert('y')?;
-    let mut items = set.into_iter();
-    assert_eq!(rt; items.next_back(), Some('y'));
-    assert_eq!(rt; items.next(), Some('x'));
-    assert_eq!(rt; items.next(), None);
+    set.extend(['x', 'y'])?;
+    assert!(rt; set.into_iter().rev().eq(['y', 'x']));
     Ok(())
 }

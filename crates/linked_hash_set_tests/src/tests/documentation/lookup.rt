@@ -26,8 +26,7 @@ fn get(rt: HostRuntime) -> Result<(), Fail> {
 #[test]
 fn front(rt: HostRuntime) -> Result<(), Fail> {
     let mut set = LinkedHashSet::new(rt.alloc());
-    set.insert('x')?;
-    set.insert('y')?;
+    set.extend(['x', 'y'])?;
     assert_eq!(rt; set.front(), Some(&'x'));
     Ok(())
 }
@@ -36,8 +35,7 @@ fn front(rt: HostRuntime) -> Result<(), Fail> {
 #[test]
 fn back(rt: HostRuntime) -> Result<(), Fail> {
     let mut set = LinkedHashSet::new(rt.alloc());
-    set.insert('x')?;
-    set.insert('y')?;
+    set.extend(['x', 'y'])?;
     assert_eq!(rt; set.back(), Some(&'y'));
     Ok(())
 }

@@ -6,8 +6,7 @@ use std::test::Fail;
 #[test]
 fn to_back(rt: HostRuntime) -> Result<(), Fail> {
     let mut set = LinkedHashSet::new(rt.alloc());
-    set.insert('x')?;
-    set.insert('y')?;
+    set.extend(['x', 'y'])?;
     assert!(rt; set.to_back(&'x'));
     assert_eq!(rt; set.back(), Some(&'x'));
     assert!(rt; !set.to_back(&'z'));
@@ -18,8 +17,7 @@ fn to_back(rt: HostRuntime) -> Result<(), Fail> {
 #[test]
 fn refresh(rt: HostRuntime) -> Result<(), Fail> {
     let mut set = LinkedHashSet::new(rt.alloc());
-    set.insert('x')?;
-    set.insert('y')?;
+    set.extend(['x', 'y'])?;
     assert!(rt; set.refresh(&'x'));
     assert_eq!(rt; set.back(), Some(&'x'));
     assert!(rt; !set.refresh(&'z'));
@@ -30,8 +28,7 @@ fn refresh(rt: HostRuntime) -> Result<(), Fail> {
 #[test]
 fn to_front(rt: HostRuntime) -> Result<(), Fail> {
     let mut set = LinkedHashSet::new(rt.alloc());
-    set.insert('x')?;
-    set.insert('y')?;
+    set.extend(['x', 'y'])?;
     assert!(rt; set.to_front(&'y'));
     assert_eq!(rt; set.front(), Some(&'y'));
     assert!(rt; !set.to_front(&'z'));

@@ -6,8 +6,7 @@ use std::test::Fail;
 #[test]
 fn remove(rt: HostRuntime) -> Result<(), Fail> {
     let mut set = LinkedHashSet::new(rt.alloc());
-    set.insert('x')?;
-    set.insert('y')?;
+    set.extend(['x', 'y'])?;
     assert!(rt; set.remove(&'x'));
     assert!(rt; !set.remove(&'x'));
     assert_eq!(rt; (set.len(), set.capacity()), (1, 2));
@@ -18,8 +17,7 @@ fn remove(rt: HostRuntime) -> Result<(), Fail> {
 #[test]
 fn take(rt: HostRuntime) -> Result<(), Fail> {
     let mut set = LinkedHashSet::new(rt.alloc());
-    set.insert('x')?;
-    set.insert('y')?;
+    set.extend(['x', 'y'])?;
     assert_eq!(rt; set.take(&'x'), Some('x'));
     assert_eq!(rt; set.take(&'x'), None);
     assert_eq!(rt; (set.len(), set.capacity()), (1, 2));
@@ -30,8 +28,7 @@ fn take(rt: HostRuntime) -> Result<(), Fail> {
 #[test]
 fn pop_front(rt: HostRuntime) -> Result<(), Fail> {
     let mut set = LinkedHashSet::new(rt.alloc());
-    set.insert('x')?;
-    set.insert('y')?;
+    set.extend(['x', 'y'])?;
     assert_eq!(rt; set.pop_front(), Some('x'));
     assert_eq!(rt; set.front(), Some(&'y'));
     Ok(())
@@ -41,8 +38,7 @@ fn pop_front(rt: HostRuntime) -> Result<(), Fail> {
 #[test]
 fn pop_back(rt: HostRuntime) -> Result<(), Fail> {
     let mut set = LinkedHashSet::new(rt.alloc());
-    set.insert('x')?;
-    set.insert('y')?;
+    set.extend(['x', 'y'])?;
     assert_eq!(rt; set.pop_back(), Some('y'));
     assert_eq!(rt; set.back(), Some(&'x'));
     Ok(())
@@ -52,9 +48,7 @@ fn pop_back(rt: HostRuntime) -> Result<(), Fail> {
 #[test]
 fn retain(rt: HostRuntime) -> Result<(), Fail> {
     let mut set = LinkedHashSet::new(rt.alloc());
-    set.insert('x')?;
-    set.insert('y')?;
-    set.insert('z')?;
+    set.extend(['x', 'y', 'z'])?;
     set.retain(|item| *item != 'y');
     assert_eq!(rt; (set.len(), set.contains(&'y')), (2, false));
     assert_eq!(rt; set.front(), Some(&'x'));
@@ -75,8 +69,7 @@ fn clear(rt: HostRuntime) -> Result<(), Fail> {
 #[test]
 fn drain(rt: HostRuntime) -> Result<(), Fail> {
     let mut set = LinkedHashSet::new(rt.alloc());
-    set.insert('x')?;
-    set.insert('y')?;
+    set.extend(['x', 'y'])?;
     let mut items = set.drain();
     assert_eq!(rt; items.next(), Some('x'));
     assert_eq!(rt; items.len(), 1);

@@ -59,23 +59,20 @@ fn hasher(rt: HostRuntime) -> Result<(), Fail> {
 #[test]
 fn seen_words(rt: HostRuntime) -> Result<(), Fail> {
     let mut words = LinkedHashSet::new(rt.alloc());
-    words.insert("red")?;
-    words.insert("green")?;
+    words.extend(["red", "green"])?;
 
     // A present item moves to the back, except by `insert_if_absent` and `replace`.
     assert!(rt; !words.insert("red")?);
     assert!(rt; !words.insert_if_absent("green")?);
-    assert_eq!(rt; words.front(), Some(&"green"));
-    assert_eq!(rt; words.back(), Some(&"red"));
+    assert_eq!(rt;
+        (words.front(), words.back()),
+        (Some(&"green"), Some(&"red"))
+    );
 
     // Operations on two sets go from the front.
     let mut others = LinkedHashSet::new(rt.alloc());
     others.extend(["blue", "red"])?;
-    let mut union = words.union(&others);
-    assert_eq!(rt; union.next(), Some(&"green"));
-    assert_eq!(rt; union.next(), Some(&"red"));
-    assert_eq!(rt; union.next(), Some(&"blue"));
-    assert_eq!(rt; union.next(), None);
+    assert!(rt; words.union(&others).eq(&["green", "red", "blue"]));
 
     // If an allocation fails, the item comes back and the set is unchanged.
     match words.insert("grey") {
