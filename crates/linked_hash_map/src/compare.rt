@@ -20,11 +20,9 @@ use std::hash::{BuildHasher, Hash, Hasher};
 ///
 /// ```rust
 /// let mut map = LinkedHashMap::new(rt.alloc());
-/// map.insert('x', 1)?;
-/// map.insert('y', 2)?;
+/// map.extend([('x', 1), ('y', 2)])?;
 /// let mut other = LinkedHashMap::new(rt.alloc());
-/// other.insert('y', 2)?;
-/// other.insert('x', 1)?;
+/// other.extend([('y', 2), ('x', 1)])?;
 /// assert!(rt; map != other);
 /// other.insert('y', 2)?; // moves the pair to the back
 /// assert!(rt; map == other);
@@ -67,11 +65,9 @@ impl<K: Eq + Hash, V: Eq, S: BuildHasher> Eq for LinkedHashMap<K, V, S> {
 ///
 /// ```rust
 /// let mut map = LinkedHashMap::new(rt.alloc());
-/// map.insert('x', 1)?;
-/// map.insert('y', 2)?;
+/// map.extend([('x', 1), ('y', 2)])?;
 /// let mut other = LinkedHashMap::new(rt.alloc());
-/// other.insert('y', 2)?;
-/// other.insert('x', 1)?;
+/// other.extend([('y', 2), ('x', 1)])?;
 /// assert!(rt; map < other);
 /// ```
 impl<K: Eq + Hash + PartialOrd, V: PartialOrd, S: BuildHasher> PartialOrd
@@ -112,11 +108,9 @@ impl<K: Eq + Hash + PartialOrd, V: PartialOrd, S: BuildHasher> PartialOrd
 /// use std::cmp::Ordering;
 ///
 /// let mut map = LinkedHashMap::new(rt.alloc());
-/// map.insert('x', 1)?;
-/// map.insert('y', 2)?;
+/// map.extend([('x', 1), ('y', 2)])?;
 /// let mut other = LinkedHashMap::new(rt.alloc());
-/// other.insert('y', 2)?;
-/// other.insert('x', 1)?;
+/// other.extend([('y', 2), ('x', 1)])?;
 /// assert_eq!(rt; map.cmp(&other), Ordering::Less);
 /// ```
 impl<K: Ord + Hash, V: Ord, S: BuildHasher> Ord for LinkedHashMap<K, V, S> {

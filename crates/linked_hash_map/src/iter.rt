@@ -119,8 +119,7 @@ impl<'a, K, V> Clone for Iter<'a, K, V> {
 ///
 /// ```rust
 /// let mut map = LinkedHashMap::new(rt.alloc());
-/// map.insert('x', 1)?;
-/// map.insert('y', 2)?;
+/// map.extend([('x', 1), ('y', 2)])?;
 /// let mut last = None;
 /// for (key, value) in &map {
 ///     last = Some((*key, *value));

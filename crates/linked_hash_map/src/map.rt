@@ -48,8 +48,7 @@ pub type DefaultHashBuilder = BuildHasherDefault<FoldHasher>;
 /// use linked_hash_map::{LinkedHashMap, Mode};
 ///
 /// let mut map = LinkedHashMap::new(rt.alloc());
-/// map.insert('x', 1)?;
-/// map.insert('y', 2)?;
+/// map.extend([('x', 1), ('y', 2)])?;
 /// assert_eq!(rt; map.mode(), Mode::Touch);
 /// map.set_mode(Mode::Keep);
 /// assert_eq!(rt; map.insert('x', 3)?, Some(1));
@@ -277,8 +276,7 @@ impl<K: Eq + Hash, V, S: BuildHasher> LinkedHashMap<K, V, S> {
     /// use linked_hash_map::Mode;
     ///
     /// let mut map = LinkedHashMap::new(rt.alloc());
-    /// map.insert('x', 1)?;
-    /// map.insert('y', 2)?;
+    /// map.extend([('x', 1), ('y', 2)])?;
     /// map.set_mode(Mode::Keep);
     /// map.insert('x', 3)?;
     /// assert_eq!(rt; map.back(), Some((&'y', &2)));

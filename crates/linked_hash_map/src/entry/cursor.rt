@@ -20,8 +20,7 @@ use std::hash::{BuildHasher, Hash};
 ///
 /// ```rust
 /// let mut map = LinkedHashMap::new(rt.alloc());
-/// map.insert('x', 1)?;
-/// map.insert('y', 2)?;
+/// map.extend([('x', 1), ('y', 2)])?;
 /// let mut cursor = map.entries();
 /// if let Some(mut entry) = cursor.next() {
 ///     assert_eq!(rt; entry.insert(3), 1);
@@ -42,8 +41,7 @@ impl<K: Eq + Hash, V, S: BuildHasher> LinkedHashMap<K, V, S> {
     ///
     /// ```rust
     /// let mut map = LinkedHashMap::new(rt.alloc());
-    /// map.insert('x', 1)?;
-    /// map.insert('y', 0)?;
+    /// map.extend([('x', 1), ('y', 0)])?;
     /// let mut cursor = map.entries();
     /// for _ in 0..cursor.remaining() {
     ///     if let Some(entry) = cursor.next() {
@@ -78,8 +76,7 @@ impl<K: Eq + Hash, V, S: BuildHasher> LinkedHashMap<K, V, S> {
     ///
     /// ```rust
     /// let mut map = LinkedHashMap::new(rt.alloc());
-    /// map.insert('x', 1)?;
-    /// map.insert('y', 0)?;
+    /// map.extend([('x', 1), ('y', 0)])?;
     /// let entries = map.visit();
     /// while let Some(entry) = entries.next_entry() {
     ///     if *entry.get() == 0 {
@@ -106,8 +103,7 @@ impl<K: Eq + Hash, V, S: BuildHasher> LinkedHashMap<K, V, S> {
     ///
     /// ```rust
     /// let mut map = LinkedHashMap::new(rt.alloc());
-    /// map.insert('x', 1)?;
-    /// map.insert('y', 2)?;
+    /// map.extend([('x', 1), ('y', 2)])?;
     /// let entries = map.visit();
     /// if let Some(mut entry) = entries.next_entry() {
     ///     assert_eq!(rt; entry.insert(3), 1);
@@ -145,8 +141,7 @@ impl<'a, K: Eq + Hash, V, S: BuildHasher> Entries<'a, K, V, S> {
     ///
     /// ```rust
     /// let mut map = LinkedHashMap::new(rt.alloc());
-    /// map.insert('x', 1)?;
-    /// map.insert('y', 2)?;
+    /// map.extend([('x', 1), ('y', 2)])?;
     /// let mut cursor = map.entries();
     /// if let Some(mut entry) = cursor.next() {
     ///     assert_eq!(rt; entry.insert(3), 1);
@@ -176,8 +171,7 @@ impl<'a, K: Eq + Hash, V, S: BuildHasher> Entries<'a, K, V, S> {
     ///
     /// ```rust
     /// let mut map = LinkedHashMap::new(rt.alloc());
-    /// map.insert('x', 1)?;
-    /// map.insert('y', 2)?;
+    /// map.extend([('x', 1), ('y', 2)])?;
     /// let mut cursor = map.entries();
     /// if let Some(mut entry) = cursor.next() {
     ///     assert_eq!(rt; entry.insert(3), 1);

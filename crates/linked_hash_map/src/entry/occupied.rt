@@ -83,8 +83,7 @@ impl<'a, K: Eq + Hash, V, S: BuildHasher> OccupiedEntry<'a, K, V, S> {
     ///
     /// ```rust
     /// let mut map = LinkedHashMap::new(rt.alloc());
-    /// map.insert('x', 1)?;
-    /// map.insert('y', 2)?;
+    /// map.extend([('x', 1), ('y', 2)])?;
     /// if let Entry::Occupied(mut entry) = map.entry('x') {
     ///     assert_eq!(rt; entry.insert(3), 1);
     /// }
@@ -117,8 +116,7 @@ impl<'a, K: Eq + Hash, V, S: BuildHasher> OccupiedEntry<'a, K, V, S> {
     ///
     /// ```rust
     /// let mut map = LinkedHashMap::new(rt.alloc());
-    /// map.insert('x', 1)?;
-    /// map.insert('y', 2)?;
+    /// map.extend([('x', 1), ('y', 2)])?;
     /// if let Entry::Occupied(mut entry) = map.entry('x') {
     ///     entry.move_to_back();
     /// }
@@ -149,8 +147,7 @@ impl<'a, K: Eq + Hash, V, S: BuildHasher> OccupiedEntry<'a, K, V, S> {
     ///
     /// ```rust
     /// let mut map = LinkedHashMap::new(rt.alloc());
-    /// map.insert('x', 1)?;
-    /// map.insert('y', 2)?;
+    /// map.extend([('x', 1), ('y', 2)])?;
     /// if let Entry::Occupied(mut entry) = map.entry('y') {
     ///     entry.move_to_front();
     /// }

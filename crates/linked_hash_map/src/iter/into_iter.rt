@@ -21,8 +21,7 @@ use std::marker::Model;
 ///
 /// ```rust
 /// let mut map = LinkedHashMap::new(rt.alloc());
-/// map.insert('x', 1)?;
-/// map.insert('y', 2)?;
+/// map.extend([('x', 1), ('y', 2)])?;
 /// let mut pairs = map.into_iter();
 /// assert_eq!(rt; pairs.next_back(), Some(('y', 2)));
 /// let mut rest = pairs.clone()?;
@@ -117,8 +116,7 @@ impl<K: Clone, V: Clone> Clone for IntoIter<K, V> {
 ///
 /// ```rust
 /// let mut map = LinkedHashMap::new(rt.alloc());
-/// map.insert('x', 1)?;
-/// map.insert('y', 2)?;
+/// map.extend([('x', 1), ('y', 2)])?;
 /// let mut last = None;
 /// for pair in map {
 ///     last = Some(pair);

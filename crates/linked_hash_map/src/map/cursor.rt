@@ -191,8 +191,7 @@ impl<K: Eq + Hash, V, S: BuildHasher> LinkedHashMap<K, V, S> {
     ///
     /// ```rust
     /// let mut map = LinkedHashMap::new(rt.alloc());
-    /// map.insert('x', 1)?;
-    /// map.insert('y', 2)?;
+    /// map.extend([('x', 1), ('y', 2)])?;
     /// let entries = map.visit();
     /// if let Some(mut entry) = entries.next_entry() {
     ///     assert_eq!(rt; entry.insert(3), 1);

@@ -115,8 +115,7 @@ impl<K: Eq + Hash, V, S: BuildHasher> LinkedHashMap<K, V, S> {
     ///
     /// ```rust
     /// let mut map = LinkedHashMap::new(rt.alloc());
-    /// map.insert('x', 1)?;
-    /// map.insert('y', 2)?;
+    /// map.extend([('x', 1), ('y', 2)])?;
     /// if let Some(value) = map.get_refresh(&'x') {
     ///     *value = 3;
     /// }
@@ -230,8 +229,7 @@ impl<K: Eq + Hash, V, S: BuildHasher> LinkedHashMap<K, V, S> {
     ///
     /// ```rust
     /// let mut map = LinkedHashMap::new(rt.alloc());
-    /// map.insert('x', 1)?;
-    /// map.insert('y', 2)?;
+    /// map.extend([('x', 1), ('y', 2)])?;
     /// assert_eq!(rt; map.front(), Some((&'x', &1)));
     /// ```
     pub fn front(&self) -> Option<(&K, &V)>
@@ -250,8 +248,7 @@ impl<K: Eq + Hash, V, S: BuildHasher> LinkedHashMap<K, V, S> {
     ///
     /// ```rust
     /// let mut map = LinkedHashMap::new(rt.alloc());
-    /// map.insert('x', 1)?;
-    /// map.insert('y', 2)?;
+    /// map.extend([('x', 1), ('y', 2)])?;
     /// assert_eq!(rt; map.back(), Some((&'y', &2)));
     /// ```
     pub fn back(&self) -> Option<(&K, &V)>
@@ -271,8 +268,7 @@ impl<K: Eq + Hash, V, S: BuildHasher> LinkedHashMap<K, V, S> {
     ///
     /// ```rust
     /// let mut map = LinkedHashMap::new(rt.alloc());
-    /// map.insert('x', 1)?;
-    /// map.insert('y', 2)?;
+    /// map.extend([('x', 1), ('y', 2)])?;
     /// if let Some(value) = map.front_mut() {
     ///     *value = 3;
     /// }
@@ -306,8 +302,7 @@ impl<K: Eq + Hash, V, S: BuildHasher> LinkedHashMap<K, V, S> {
     ///
     /// ```rust
     /// let mut map = LinkedHashMap::new(rt.alloc());
-    /// map.insert('x', 1)?;
-    /// map.insert('y', 2)?;
+    /// map.extend([('x', 1), ('y', 2)])?;
     /// if let Some(value) = map.back_mut() {
     ///     *value = 3;
     /// }

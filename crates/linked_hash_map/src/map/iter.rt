@@ -22,8 +22,7 @@ impl<K: Eq + Hash, V, S: BuildHasher> LinkedHashMap<K, V, S> {
     ///
     /// ```rust
     /// let mut map = LinkedHashMap::new(rt.alloc());
-    /// map.insert('x', 1)?;
-    /// map.insert('y', 2)?;
+    /// map.extend([('x', 1), ('y', 2)])?;
     /// let mut pairs = map.iter();
     /// assert_eq!(rt; pairs.next(), Some((&'x', &1)));
     /// let mut rest = pairs.clone()?;
@@ -75,8 +74,7 @@ impl<K: Eq + Hash, V, S: BuildHasher> LinkedHashMap<K, V, S> {
     ///
     /// ```rust
     /// let mut map = LinkedHashMap::new(rt.alloc());
-    /// map.insert('x', 1)?;
-    /// map.insert('y', 2)?;
+    /// map.extend([('x', 1), ('y', 2)])?;
     /// let mut keys = map.keys();
     /// assert_eq!(rt; keys.next(), Some(&'x'));
     /// assert_eq!(rt; keys.next(), Some(&'y'));
@@ -98,8 +96,7 @@ impl<K: Eq + Hash, V, S: BuildHasher> LinkedHashMap<K, V, S> {
     ///
     /// ```rust
     /// let mut map = LinkedHashMap::new(rt.alloc());
-    /// map.insert('x', 1)?;
-    /// map.insert('y', 2)?;
+    /// map.extend([('x', 1), ('y', 2)])?;
     /// let mut values = map.values();
     /// assert_eq!(rt; values.next_back(), Some(&2));
     /// assert_eq!(rt; values.next_back(), Some(&1));
@@ -121,8 +118,7 @@ impl<K: Eq + Hash, V, S: BuildHasher> LinkedHashMap<K, V, S> {
     ///
     /// ```rust
     /// let mut map = LinkedHashMap::new(rt.alloc());
-    /// map.insert('x', 1)?;
-    /// map.insert('y', 2)?;
+    /// map.extend([('x', 1), ('y', 2)])?;
     /// let mut values = map.values_mut();
     /// if let Some(value) = values.next_back() {
     ///     *value = 3;
@@ -152,8 +148,7 @@ impl<K: Eq + Hash, V, S: BuildHasher> LinkedHashMap<K, V, S> {
     ///
     /// ```rust
     /// let mut map = LinkedHashMap::new(rt.alloc());
-    /// map.insert('x', 1)?;
-    /// map.insert('y', 2)?;
+    /// map.extend([('x', 1), ('y', 2)])?;
     /// let mut keys = map.into_keys();
     /// assert_eq!(rt; keys.next(), Some('x'));
     /// assert_eq!(rt; keys.next(), Some('y'));
@@ -178,8 +173,7 @@ impl<K: Eq + Hash, V, S: BuildHasher> LinkedHashMap<K, V, S> {
     ///
     /// ```rust
     /// let mut map = LinkedHashMap::new(rt.alloc());
-    /// map.insert('x', 1)?;
-    /// map.insert('y', 2)?;
+    /// map.extend([('x', 1), ('y', 2)])?;
     /// let mut values = map.into_values();
     /// assert_eq!(rt; values.next_back(), Some(2));
     /// assert_eq!(rt; values.next_back(), Some(1));

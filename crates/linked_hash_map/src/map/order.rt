@@ -17,8 +17,7 @@ impl<K: Eq + Hash, V, S: BuildHasher> LinkedHashMap<K, V, S> {
     ///
     /// ```rust
     /// let mut map = LinkedHashMap::new(rt.alloc());
-    /// map.insert('x', 1)?;
-    /// map.insert('y', 2)?;
+    /// map.extend([('x', 1), ('y', 2)])?;
     /// assert!(rt; map.move_to_back(&'x'));
     /// assert_eq!(rt; map.back(), Some((&'x', &1)));
     /// assert!(rt; !map.move_to_back(&'z'));
@@ -55,8 +54,7 @@ impl<K: Eq + Hash, V, S: BuildHasher> LinkedHashMap<K, V, S> {
     ///
     /// ```rust
     /// let mut map = LinkedHashMap::new(rt.alloc());
-    /// map.insert('x', 1)?;
-    /// map.insert('y', 2)?;
+    /// map.extend([('x', 1), ('y', 2)])?;
     /// assert!(rt; map.move_to_front(&'y'));
     /// assert_eq!(rt; map.front(), Some((&'y', &2)));
     /// assert!(rt; !map.move_to_front(&'z'));
@@ -93,9 +91,7 @@ impl<K: Eq + Hash, V, S: BuildHasher> LinkedHashMap<K, V, S> {
     ///
     /// ```rust
     /// let mut map = LinkedHashMap::new(rt.alloc());
-    /// map.insert('x', 1)?;
-    /// map.insert('y', 2)?;
-    /// map.insert('z', 3)?;
+    /// map.extend([('x', 1), ('y', 2), ('z', 3)])?;
     /// if map.len() >= 2 {
     ///     map.rotate_left(2);
     /// }

@@ -28,8 +28,7 @@ impl<K: Eq + Hash, V, S: BuildHasher> LinkedHashMap<K, V, S> {
     ///
     /// ```rust
     /// let mut map = LinkedHashMap::new(rt.alloc());
-    /// map.insert('x', 1)?;
-    /// map.insert('y', 2)?;
+    /// map.extend([('x', 1), ('y', 2)])?;
     /// assert_eq!(rt; map.remove(&'x'), Some(1));
     /// assert_eq!(rt; map.remove(&'x'), None);
     /// assert_eq!(rt; (map.len(), map.capacity()), (1, 2));
@@ -61,8 +60,7 @@ impl<K: Eq + Hash, V, S: BuildHasher> LinkedHashMap<K, V, S> {
     ///
     /// ```rust
     /// let mut map = LinkedHashMap::new(rt.alloc());
-    /// map.insert('x', 1)?;
-    /// map.insert('y', 2)?;
+    /// map.extend([('x', 1), ('y', 2)])?;
     /// assert_eq!(rt; map.remove_entry(&'x'), Some(('x', 1)));
     /// assert_eq!(rt; map.remove_entry(&'x'), None);
     /// assert_eq!(rt; (map.len(), map.capacity()), (1, 2));
@@ -93,8 +91,7 @@ impl<K: Eq + Hash, V, S: BuildHasher> LinkedHashMap<K, V, S> {
     ///
     /// ```rust
     /// let mut map = LinkedHashMap::new(rt.alloc());
-    /// map.insert('x', 1)?;
-    /// map.insert('y', 2)?;
+    /// map.extend([('x', 1), ('y', 2)])?;
     /// assert_eq!(rt; map.pop_front(), Some(('x', 1)));
     /// assert_eq!(rt; map.front(), Some((&'y', &2)));
     /// ```
@@ -121,8 +118,7 @@ impl<K: Eq + Hash, V, S: BuildHasher> LinkedHashMap<K, V, S> {
     ///
     /// ```rust
     /// let mut map = LinkedHashMap::new(rt.alloc());
-    /// map.insert('x', 1)?;
-    /// map.insert('y', 2)?;
+    /// map.extend([('x', 1), ('y', 2)])?;
     /// assert_eq!(rt; map.pop_back(), Some(('y', 2)));
     /// assert_eq!(rt; map.back(), Some((&'x', &1)));
     /// ```
@@ -154,9 +150,7 @@ impl<K: Eq + Hash, V, S: BuildHasher> LinkedHashMap<K, V, S> {
     ///
     /// ```rust
     /// let mut map = LinkedHashMap::new(rt.alloc());
-    /// map.insert('x', 1)?;
-    /// map.insert('y', 2)?;
-    /// map.insert('z', 3)?;
+    /// map.extend([('x', 1), ('y', 2), ('z', 3)])?;
     /// map.retain(|key, value| {
     ///     *value = 7;
     ///     *key != 'y'
@@ -215,8 +209,7 @@ impl<K: Eq + Hash, V, S: BuildHasher> LinkedHashMap<K, V, S> {
     ///
     /// ```rust
     /// let mut map = LinkedHashMap::new(rt.alloc());
-    /// map.insert('x', 1)?;
-    /// map.insert('y', 2)?;
+    /// map.extend([('x', 1), ('y', 2)])?;
     /// let mut pairs = map.drain();
     /// assert_eq!(rt; pairs.next(), Some(('x', 1)));
     /// assert_eq!(rt; pairs.len(), 1);

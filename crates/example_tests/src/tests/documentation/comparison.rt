@@ -8,11 +8,9 @@ use std::test::Fail;
 #[test]
 fn eq(rt: HostRuntime) -> Result<(), Fail> {
     let mut map = LinkedHashMap::new(rt.alloc());
-    map.insert('x', 1)?;
-    map.insert('y', 2)?;
+    map.extend([('x', 1), ('y', 2)])?;
     let mut other = LinkedHashMap::new(rt.alloc());
-    other.insert('y', 2)?;
-    other.insert('x', 1)?;
+    other.extend([('y', 2), ('x', 1)])?;
     assert!(rt; map != other);
     other.insert('y', 2)?; // moves the pair to the back
     assert!(rt; map == other);
@@ -23,11 +21,9 @@ fn eq(rt: HostRuntime) -> Result<(), Fail> {
 #[test]
 fn partial_cmp(rt: HostRuntime) -> Result<(), Fail> {
     let mut map = LinkedHashMap::new(rt.alloc());
-    map.insert('x', 1)?;
-    map.insert('y', 2)?;
+    map.extend([('x', 1), ('y', 2)])?;
     let mut other = LinkedHashMap::new(rt.alloc());
-    other.insert('y', 2)?;
-    other.insert('x', 1)?;
+    other.extend([('y', 2), ('x', 1)])?;
     assert!(rt; map < other);
     Ok(())
 }
@@ -36,11 +32,9 @@ fn partial_cmp(rt: HostRuntime) -> Result<(), Fail> {
 #[test]
 fn cmp(rt: HostRuntime) -> Result<(), Fail> {
     let mut map = LinkedHashMap::new(rt.alloc());
-    map.insert('x', 1)?;
-    map.insert('y', 2)?;
+    map.extend([('x', 1), ('y', 2)])?;
     let mut other = LinkedHashMap::new(rt.alloc());
-    other.insert('y', 2)?;
-    other.insert('x', 1)?;
+    other.extend([('y', 2), ('x', 1)])?;
     assert_eq!(rt; map.cmp(&other), Ordering::Less);
     Ok(())
 }

@@ -6,8 +6,7 @@ use std::test::Fail;
 #[test]
 fn entries(rt: HostRuntime) -> Result<(), Fail> {
     let mut map = LinkedHashMap::new(rt.alloc());
-    map.insert('x', 1)?;
-    map.insert('y', 0)?;
+    map.extend([('x', 1), ('y', 0)])?;
     let mut cursor = map.entries();
     for _ in 0..cursor.remaining() {
         if let Some(entry) = cursor.next() {
@@ -24,8 +23,7 @@ fn entries(rt: HostRuntime) -> Result<(), Fail> {
 #[test]
 fn next(rt: HostRuntime) -> Result<(), Fail> {
     let mut map = LinkedHashMap::new(rt.alloc());
-    map.insert('x', 1)?;
-    map.insert('y', 2)?;
+    map.extend([('x', 1), ('y', 2)])?;
     let mut cursor = map.entries();
     if let Some(mut entry) = cursor.next() {
         assert_eq!(rt; entry.insert(3), 1);
@@ -39,8 +37,7 @@ fn next(rt: HostRuntime) -> Result<(), Fail> {
 #[test]
 fn visit(rt: HostRuntime) -> Result<(), Fail> {
     let mut map = LinkedHashMap::new(rt.alloc());
-    map.insert('x', 1)?;
-    map.insert('y', 0)?;
+    map.extend([('x', 1), ('y', 0)])?;
     let entries = map.visit();
     while let Some(entry) = entries.next_entry() {
         if *entry.get() == 0 {
@@ -55,8 +52,7 @@ fn visit(rt: HostRuntime) -> Result<(), Fail> {
 #[test]
 fn next_entry(rt: HostRuntime) -> Result<(), Fail> {
     let mut map = LinkedHashMap::new(rt.alloc());
-    map.insert('x', 1)?;
-    map.insert('y', 2)?;
+    map.extend([('x', 1), ('y', 2)])?;
     let entries = map.visit();
     if let Some(mut entry) = entries.next_entry() {
         assert_eq!(rt; entry.insert(3), 1);
@@ -70,8 +66,7 @@ fn next_entry(rt: HostRuntime) -> Result<(), Fail> {
 #[test]
 fn unvisited(rt: HostRuntime) -> Result<(), Fail> {
     let mut map = LinkedHashMap::new(rt.alloc());
-    map.insert('x', 1)?;
-    map.insert('y', 2)?;
+    map.extend([('x', 1), ('y', 2)])?;
     let entries = map.visit();
     if let Some(mut entry) = entries.next_entry() {
         assert_eq!(rt; entry.insert(3), 1);

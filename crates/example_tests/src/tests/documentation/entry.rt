@@ -111,8 +111,7 @@ fn into_mut(rt: HostRuntime) -> Result<(), Fail> {
 #[test]
 fn insert(rt: HostRuntime) -> Result<(), Fail> {
     let mut map = LinkedHashMap::new(rt.alloc());
-    map.insert('x', 1)?;
-    map.insert('y', 2)?;
+    map.extend([('x', 1), ('y', 2)])?;
     if let Entry::Occupied(mut entry) = map.entry('x') {
         assert_eq!(rt; entry.insert(3), 1);
     }
@@ -124,8 +123,7 @@ fn insert(rt: HostRuntime) -> Result<(), Fail> {
 #[test]
 fn move_to_back(rt: HostRuntime) -> Result<(), Fail> {
     let mut map = LinkedHashMap::new(rt.alloc());
-    map.insert('x', 1)?;
-    map.insert('y', 2)?;
+    map.extend([('x', 1), ('y', 2)])?;
     if let Entry::Occupied(mut entry) = map.entry('x') {
         entry.move_to_back();
     }
@@ -137,8 +135,7 @@ fn move_to_back(rt: HostRuntime) -> Result<(), Fail> {
 #[test]
 fn move_to_front(rt: HostRuntime) -> Result<(), Fail> {
     let mut map = LinkedHashMap::new(rt.alloc());
-    map.insert('x', 1)?;
-    map.insert('y', 2)?;
+    map.extend([('x', 1), ('y', 2)])?;
     if let Entry::Occupied(mut entry) = map.entry('y') {
         entry.move_to_front();
     }

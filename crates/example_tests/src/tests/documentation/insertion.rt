@@ -60,8 +60,7 @@ fn extend_refs(rt: HostRuntime) -> Result<(), Fail> {
 #[test]
 fn modes(rt: HostRuntime) -> Result<(), Fail> {
     let mut map = LinkedHashMap::new(rt.alloc());
-    map.insert('x', 1)?;
-    map.insert('y', 2)?;
+    map.extend([('x', 1), ('y', 2)])?;
     assert_eq!(rt; map.mode(), Mode::Touch);
     map.set_mode(Mode::Keep);
     assert_eq!(rt; map.insert('x', 3)?, Some(1));
@@ -73,8 +72,7 @@ fn modes(rt: HostRuntime) -> Result<(), Fail> {
 #[test]
 fn set_mode(rt: HostRuntime) -> Result<(), Fail> {
     let mut map = LinkedHashMap::new(rt.alloc());
-    map.insert('x', 1)?;
-    map.insert('y', 2)?;
+    map.extend([('x', 1), ('y', 2)])?;
     map.set_mode(Mode::Keep);
     map.insert('x', 3)?;
     assert_eq!(rt; map.back(), Some((&'y', &2)));

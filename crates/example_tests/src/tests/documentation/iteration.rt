@@ -6,8 +6,7 @@ use std::test::Fail;
 #[test]
 fn iter(rt: HostRuntime) -> Result<(), Fail> {
     let mut map = LinkedHashMap::new(rt.alloc());
-    map.insert('x', 1)?;
-    map.insert('y', 2)?;
+    map.extend([('x', 1), ('y', 2)])?;
     let mut pairs = map.iter();
     assert_eq!(rt; pairs.next(), Some((&'x', &1)));
     let mut rest = pairs.clone()?;
@@ -20,8 +19,7 @@ fn iter(rt: HostRuntime) -> Result<(), Fail> {
 #[test]
 fn loop_over_a_borrowed_map(rt: HostRuntime) -> Result<(), Fail> {
     let mut map = LinkedHashMap::new(rt.alloc());
-    map.insert('x', 1)?;
-    map.insert('y', 2)?;
+    map.extend([('x', 1), ('y', 2)])?;
     let mut last = None;
     for (key, value) in &map {
         last = Some((*key, *value));
@@ -34,8 +32,7 @@ fn loop_over_a_borrowed_map(rt: HostRuntime) -> Result<(), Fail> {
 #[test]
 fn keys(rt: HostRuntime) -> Result<(), Fail> {
     let mut map = LinkedHashMap::new(rt.alloc());
-    map.insert('x', 1)?;
-    map.insert('y', 2)?;
+    map.extend([('x', 1), ('y', 2)])?;
     let mut keys = map.keys();
     assert_eq!(rt; keys.next(), Some(&'x'));
     assert_eq!(rt; keys.next(), Some(&'y'));
@@ -47,8 +44,7 @@ fn keys(rt: HostRuntime) -> Result<(), Fail> {
 #[test]
 fn values(rt: HostRuntime) -> Result<(), Fail> {
     let mut map = LinkedHashMap::new(rt.alloc());
-    map.insert('x', 1)?;
-    map.insert('y', 2)?;
+    map.extend([('x', 1), ('y', 2)])?;
     let mut values = map.values();
     assert_eq!(rt; values.next_back(), Some(&2));
     assert_eq!(rt; values.next_back(), Some(&1));
@@ -85,8 +81,7 @@ fn loop_over_a_mutable_map(rt: HostRuntime) -> Result<(), Fail> {
 #[test]
 fn into_iter(rt: HostRuntime) -> Result<(), Fail> {
     let mut map = LinkedHashMap::new(rt.alloc());
-    map.insert('x', 1)?;
-    map.insert('y', 2)?;
+    map.extend([('x', 1), ('y', 2)])?;
     let mut pairs = map.into_iter();
     assert_eq!(rt; pairs.next_back(), Some(('y', 2)));
     let mut rest = pairs.clone()?;
@@ -99,8 +94,7 @@ fn into_iter(rt: HostRuntime) -> Result<(), Fail> {
 #[test]
 fn into_keys(rt: HostRuntime) -> Result<(), Fail> {
     let mut map = LinkedHashMap::new(rt.alloc());
-    map.insert('x', 1)?;
-    map.insert('y', 2)?;
+    map.extend([('x', 1), ('y', 2)])?;
     let mut keys = map.into_keys();
     assert_eq!(rt; keys.next(), Some('x'));
     assert_eq!(rt; keys.next(), Some('y'));
@@ -112,8 +106,7 @@ fn into_keys(rt: HostRuntime) -> Result<(), Fail> {
 #[test]
 fn into_values(rt: HostRuntime) -> Result<(), Fail> {
     let mut map = LinkedHashMap::new(rt.alloc());
-    map.insert('x', 1)?;
-    map.insert('y', 2)?;
+    map.extend([('x', 1), ('y', 2)])?;
     let mut values = map.into_values();
     assert_eq!(rt; values.next_back(), Some(2));
     assert_eq!(rt; values.next_back(), Some(1));
@@ -125,8 +118,7 @@ fn into_values(rt: HostRuntime) -> Result<(), Fail> {
 #[test]
 fn values_mut(rt: HostRuntime) -> Result<(), Fail> {
     let mut map = LinkedHashMap::new(rt.alloc());
-    map.insert('x', 1)?;
-    map.insert('y', 2)?;
+    map.extend([('x', 1), ('y', 2)])?;
     let mut values = map.values_mut();
     if let Some(value) = values.next_back() {
         *value = 3;
@@ -140,8 +132,7 @@ fn values_mut(rt: HostRuntime) -> Result<(), Fail> {
 #[test]
 fn loop_over_a_map(rt: HostRuntime) -> Result<(), Fail> {
     let mut map = LinkedHashMap::new(rt.alloc());
-    map.insert('x', 1)?;
-    map.insert('y', 2)?;
+    map.extend([('x', 1), ('y', 2)])?;
     let mut last = None;
     for pair in map {
         last = Some(pair);

@@ -80,8 +80,7 @@ fn index_mut(rt: HostRuntime) -> Result<(), Fail> {
 #[test]
 fn get_refresh(rt: HostRuntime) -> Result<(), Fail> {
     let mut map = LinkedHashMap::new(rt.alloc());
-    map.insert('x', 1)?;
-    map.insert('y', 2)?;
+    map.extend([('x', 1), ('y', 2)])?;
     if let Some(value) = map.get_refresh(&'x') {
         *value = 3;
     }
@@ -93,8 +92,7 @@ fn get_refresh(rt: HostRuntime) -> Result<(), Fail> {
 #[test]
 fn front_mut(rt: HostRuntime) -> Result<(), Fail> {
     let mut map = LinkedHashMap::new(rt.alloc());
-    map.insert('x', 1)?;
-    map.insert('y', 2)?;
+    map.extend([('x', 1), ('y', 2)])?;
     if let Some(value) = map.front_mut() {
         *value = 3;
     }
@@ -106,8 +104,7 @@ fn front_mut(rt: HostRuntime) -> Result<(), Fail> {
 #[test]
 fn back_mut(rt: HostRuntime) -> Result<(), Fail> {
     let mut map = LinkedHashMap::new(rt.alloc());
-    map.insert('x', 1)?;
-    map.insert('y', 2)?;
+    map.extend([('x', 1), ('y', 2)])?;
     if let Some(value) = map.back_mut() {
         *value = 3;
     }
@@ -119,8 +116,7 @@ fn back_mut(rt: HostRuntime) -> Result<(), Fail> {
 #[test]
 fn front(rt: HostRuntime) -> Result<(), Fail> {
     let mut map = LinkedHashMap::new(rt.alloc());
-    map.insert('x', 1)?;
-    map.insert('y', 2)?;
+    map.extend([('x', 1), ('y', 2)])?;
     assert_eq!(rt; map.front(), Some((&'x', &1)));
     Ok(())
 }
@@ -129,8 +125,7 @@ fn front(rt: HostRuntime) -> Result<(), Fail> {
 #[test]
 fn back(rt: HostRuntime) -> Result<(), Fail> {
     let mut map = LinkedHashMap::new(rt.alloc());
-    map.insert('x', 1)?;
-    map.insert('y', 2)?;
+    map.extend([('x', 1), ('y', 2)])?;
     assert_eq!(rt; map.back(), Some((&'y', &2)));
     Ok(())
 }

@@ -6,8 +6,7 @@ use std::test::Fail;
 #[test]
 fn remove(rt: HostRuntime) -> Result<(), Fail> {
     let mut map = LinkedHashMap::new(rt.alloc());
-    map.insert('x', 1)?;
-    map.insert('y', 2)?;
+    map.extend([('x', 1), ('y', 2)])?;
     assert_eq!(rt; map.remove(&'x'), Some(1));
     assert_eq!(rt; map.remove(&'x'), None);
     assert_eq!(rt; (map.len(), map.capacity()), (1, 2));
@@ -18,8 +17,7 @@ fn remove(rt: HostRuntime) -> Result<(), Fail> {
 #[test]
 fn remove_entry(rt: HostRuntime) -> Result<(), Fail> {
     let mut map = LinkedHashMap::new(rt.alloc());
-    map.insert('x', 1)?;
-    map.insert('y', 2)?;
+    map.extend([('x', 1), ('y', 2)])?;
     assert_eq!(rt; map.remove_entry(&'x'), Some(('x', 1)));
     assert_eq!(rt; map.remove_entry(&'x'), None);
     assert_eq!(rt; (map.len(), map.capacity()), (1, 2));
@@ -30,8 +28,7 @@ fn remove_entry(rt: HostRuntime) -> Result<(), Fail> {
 #[test]
 fn pop_front(rt: HostRuntime) -> Result<(), Fail> {
     let mut map = LinkedHashMap::new(rt.alloc());
-    map.insert('x', 1)?;
-    map.insert('y', 2)?;
+    map.extend([('x', 1), ('y', 2)])?;
     assert_eq!(rt; map.pop_front(), Some(('x', 1)));
     assert_eq!(rt; map.front(), Some((&'y', &2)));
     Ok(())
@@ -41,8 +38,7 @@ fn pop_front(rt: HostRuntime) -> Result<(), Fail> {
 #[test]
 fn pop_back(rt: HostRuntime) -> Result<(), Fail> {
     let mut map = LinkedHashMap::new(rt.alloc());
-    map.insert('x', 1)?;
-    map.insert('y', 2)?;
+    map.extend([('x', 1), ('y', 2)])?;
     assert_eq!(rt; map.pop_back(), Some(('y', 2)));
     assert_eq!(rt; map.back(), Some((&'x', &1)));
     Ok(())
@@ -62,8 +58,7 @@ fn clear(rt: HostRuntime) -> Result<(), Fail> {
 #[test]
 fn drain(rt: HostRuntime) -> Result<(), Fail> {
     let mut map = LinkedHashMap::new(rt.alloc());
-    map.insert('x', 1)?;
-    map.insert('y', 2)?;
+    map.extend([('x', 1), ('y', 2)])?;
     let mut pairs = map.drain();
     assert_eq!(rt; pairs.next(), Some(('x', 1)));
     assert_eq!(rt; pairs.len(), 1);
@@ -76,9 +71,7 @@ fn drain(rt: HostRuntime) -> Result<(), Fail> {
 #[test]
 fn retain(rt: HostRuntime) -> Result<(), Fail> {
     let mut map = LinkedHashMap::new(rt.alloc());
-    map.insert('x', 1)?;
-    map.insert('y', 2)?;
-    map.insert('z', 3)?;
+    map.extend([('x', 1), ('y', 2), ('z', 3)])?;
     map.retain(|key, value| {
         *value = 7;
         *key != 'y'
