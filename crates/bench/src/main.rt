@@ -11,8 +11,6 @@ ghost use Rattle.std.specs.Prelude.{◌≡◌, ◌<◌, ◌*◌, ◌/◌, ◌^�
 mod arguments;
 mod order;
 mod products;
-#[cfg(test)]
-mod tests;
 mod workloads;
 
 use arguments::{numbers, workload_named};

@@ -1,6 +1,7 @@
 //! The examples in the documentation of the library's public items, run.
 //!
 //! Each example stands here word for word, in a test that is named for an item that shows it.
+//! Here `assert!` and `assert_eq!` are `check!` and `check_eq!`, which have no branch to prove.
 
 mod capacity;
 mod comparison;

@@ -1,4 +1,5 @@
 //! Capacities.
+use crate::tests::support::checks::check_eq as assert_eq;
 use linked_hash_map::{LIMIT, LinkedHashMap, NoRoom, ReserveError};
 use std::test::Fail;
 

@@ -1,4 +1,5 @@
 //! Comparing, hashing and writing maps.
+use crate::tests::support::checks::{check as assert, check_eq as assert_eq};
 use linked_hash_map::{DefaultHashBuilder, LinkedHashMap};
 use std::cmp::Ordering;
 use std::hash::BuildHasher;

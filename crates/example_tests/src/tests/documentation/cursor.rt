@@ -1,4 +1,5 @@
 //! The entries of all pairs, by a cursor and by a visit.
+use crate::tests::support::checks::{check as assert, check_eq as assert_eq};
 use linked_hash_map::LinkedHashMap;
 use std::test::Fail;
 

@@ -1,4 +1,5 @@
 //! The entry of a key.
+use crate::tests::support::checks::{check as assert, check_eq as assert_eq};
 use linked_hash_map::{Entry, LinkedHashMap};
 use std::test::Fail;
 

@@ -1,4 +1,5 @@
 //! Inserting pairs.
+use crate::tests::support::checks::{check as assert, check_eq as assert_eq};
 use linked_hash_map::{LinkedHashMap, Mode};
 use std::collections::HashMap;
 use std::mem::try_take;

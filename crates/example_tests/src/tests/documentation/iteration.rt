@@ -1,4 +1,5 @@
 //! Iterators over maps.
+use crate::tests::support::checks::check_eq as assert_eq;
 use linked_hash_map::LinkedHashMap;
 use std::test::Fail;
 

@@ -1,4 +1,5 @@
 //! Looking pairs up.
+use crate::tests::support::checks::{check as assert, check_eq as assert_eq};
 use linked_hash_map::LinkedHashMap;
 use std::test::Fail;
 

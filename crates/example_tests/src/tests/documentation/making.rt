@@ -1,4 +1,5 @@
 //! Making maps.
+use crate::tests::support::checks::{check as assert, check_eq as assert_eq};
 use linked_hash_map::{DefaultHashBuilder, LinkedHashMap};
 use std::hash::{BuildHasher, RandomState};
 use std::test::Fail;

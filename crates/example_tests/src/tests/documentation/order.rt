@@ -1,4 +1,5 @@
 //! Changing the order of the pairs.
+use crate::tests::support::checks::{check as assert, check_eq as assert_eq};
 use linked_hash_map::LinkedHashMap;
 use std::test::Fail;
 

@@ -1,4 +1,5 @@
 //! Taking pairs out.
+use crate::tests::support::checks::check_eq as assert_eq;
 use linked_hash_map::LinkedHashMap;
 use std::test::Fail;
 

@@ -1,4 +1,5 @@
 //! Running commands.
+use crate::tests::support::checks::{check as assert, check_eq as assert_eq};
 use linked_hash_map::LinkedHashMap;
 use linked_hash_map::replay::{Answer, Command, PairList, replay};
 use std::test::Fail;

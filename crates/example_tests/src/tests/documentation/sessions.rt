@@ -1,4 +1,5 @@
 //! Tables of sessions.
+use crate::tests::support::checks::{check as assert, check_eq as assert_eq};
 use linked_hash_map::sessions::{PutReason, PutRefused, Sessions};
 use std::test::Fail;
 

@@ -1,4 +1,5 @@
 //! Changes of the capacity.
+use crate::tests::support::checks::check_eq as assert_eq;
 use linked_hash_set::LinkedHashSet;
 use std::test::Fail;
 

@@ -1,4 +1,5 @@
 //! Equality, hash and text.
+use crate::tests::support::checks::{check as assert, check_eq as assert_eq};
 use linked_hash_set::{DefaultHashBuilder, LinkedHashSet};
 use std::hash::BuildHasher;
 use std::test::Fail;

@@ -1,4 +1,5 @@
 //! Sets made.
+use crate::tests::support::checks::{check as assert, check_eq as assert_eq};
 use linked_hash_set::{DefaultHashBuilder, LinkedHashSet};
 use std::collections::HashMap;
 use std::hash::RandomState;

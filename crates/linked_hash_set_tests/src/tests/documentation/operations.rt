@@ -1,4 +1,5 @@
 //! Operations on two sets.
+use crate::tests::support::checks::check as assert;
 use linked_hash_set::LinkedHashSet;
 use std::test::Fail;
 

@@ -1,4 +1,5 @@
 //! Items moved.
+use crate::tests::support::checks::{check as assert, check_eq as assert_eq};
 use linked_hash_set::LinkedHashSet;
 use std::test::Fail;
 

@@ -1,4 +1,5 @@
 //! The set and its sizes.
+use crate::tests::support::checks::{check as assert, check_eq as assert_eq};
 use linked_hash_set::LinkedHashSet;
 use std::hash::{BuildHasher, RandomState};
 use std::test::Fail;

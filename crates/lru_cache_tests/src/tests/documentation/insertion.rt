@@ -1,4 +1,5 @@
 //! Inserting pairs.
+use crate::tests::support::checks::check_eq as assert_eq;
 use lru_cache::LruCache;
 use std::test::Fail;
 

@@ -1,4 +1,5 @@
 //! Iterating over pairs.
+use crate::tests::support::checks::check_eq as assert_eq;
 use lru_cache::LruCache;
 use std::test::Fail;
 

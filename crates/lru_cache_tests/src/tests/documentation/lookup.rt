@@ -1,4 +1,5 @@
 //! Looking up keys.
+use crate::tests::support::checks::{check as assert, check_eq as assert_eq};
 use lru_cache::LruCache;
 use std::test::Fail;
 

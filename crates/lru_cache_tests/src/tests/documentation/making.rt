@@ -1,4 +1,5 @@
 //! Making a cache, and its numbers.
+use crate::tests::support::checks::{check as assert, check_eq as assert_eq};
 use lru_cache::LruCache;
 use std::hash::RandomState;
 use std::test::Fail;

@@ -1,4 +1,5 @@
 //! Removing pairs, and the limit.
+use crate::tests::support::checks::{check as assert, check_eq as assert_eq};
 use lru_cache::LruCache;
 use std::test::Fail;
 

@@ -1,4 +1,5 @@
 //! Runs of commands.
+use crate::tests::support::checks::check_eq as assert_eq;
 use lru_cache::LruCache;
 use lru_cache::replay::{Answer, Command, replay};
 use std::test::Fail;

@@ -1,3 +1,0 @@
-//! What the tests use.
-
-pub mod checks;
