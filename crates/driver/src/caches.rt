@@ -4,13 +4,12 @@ use super::hasher::{BuildKeyHasher, Choice};
 use super::iterators::{iterate, iterate_and_clone, iterate_and_write};
 use super::key::Key;
 use super::line::Line;
-use super::list::push_pairs;
+use super::list::list_pairs;
 use super::lookups::write_lent;
 use super::making::pairs;
-use super::show::{show, show_pair};
-use super::stop::Stop;
+use super::output::Output;
 use lru_cache::LruCache;
-use std::alloc::{AllocError, Global};
+use std::alloc::Global;
 
 /// The caches that the lines speak of.
 pub type Cache = LruCache<Key, u64, BuildKeyHasher>;
@@ -22,88 +21,56 @@ fn new(alloc: Global, line: &mut Line<'_>) -> Cache {
 }
 
 /// Makes a cache of one pair with the default hasher, inserts two pairs, and appends its text.
-fn show_new(alloc: Global, number: u64, text: &mut String) -> Result<(), AllocError> {
+fn show_new(alloc: Global, number: u64, output: &mut Output) {
     let mut cache = LruCache::new(alloc, 1);
-    cache.insert(0, 0)?;
-    cache.insert(number, 1)?;
-    show(&cache, text)
+    output.note(cache.insert(0, 0));
+    output.note(cache.insert(number, 1));
+    output.show(&cache);
 }
 
-fn insert(cache: &mut Cache, key: Key, value: u64, text: &mut String) -> Result<(), AllocError> {
-    let old = cache.insert(key, value)?;
-    show(&old, text)
-}
-
-fn get_mut(cache: &mut Cache, key: &Key, value: u64, text: &mut String) -> Result<(), AllocError> {
-    write_lent(cache.get_mut(key), value, text)
-}
-
-fn peek_mut(cache: &mut Cache, key: &Key, value: u64, text: &mut String) -> Result<(), AllocError> {
-    write_lent(cache.peek_mut(key), value, text)
-}
-
-/// Runs the call of this name by a key, and tells whether there is one.
-fn run_by_key(
-    name: &str,
-    line: &mut Line<'_>,
-    cache: &mut Cache,
-    text: &mut String,
-) -> Result<bool, AllocError> {
+/// Runs the call of this name by a key, and returns whether there is one.
+fn run_by_key(name: &str, line: &mut Line<'_>, cache: &mut Cache, output: &mut Output) -> bool {
     match name {
-        "insert" => insert(cache, line.key(), line.number(), text)?,
-        "get_mut" => get_mut(cache, &line.key(), line.number(), text)?,
-        "peek_mut" => peek_mut(cache, &line.key(), line.number(), text)?,
-        "get" => show(&cache.get(&line.key()), text)?,
-        "peek" => show(&cache.peek(&line.key()), text)?,
-        "contains_key" => show(&cache.contains_key(&line.key()), text)?,
-        "remove" => show(&cache.remove(&line.key()), text)?,
-        _ => return Ok(false),
+        "insert" => output.show_result(cache.insert(line.key(), line.number())),
+        "get_mut" => write_lent(cache.get_mut(&line.key()), line.number(), output),
+        "peek_mut" => write_lent(cache.peek_mut(&line.key()), line.number(), output),
+        "get" => output.show(&cache.get(&line.key())),
+        "peek" => output.show(&cache.peek(&line.key())),
+        "contains_key" => output.show(&cache.contains_key(&line.key())),
+        "remove" => output.show(&cache.remove(&line.key())),
+        _ => return false,
     }
-    Ok(true)
+    true
 }
 
-fn len(cache: &Cache, text: &mut String) -> Result<(), AllocError> {
-    write!(text, "{} {} ", cache.len(), cache.is_empty())
+fn extend(alloc: Global, line: &mut Line<'_>, cache: &mut Cache, output: &mut Output) {
+    let pairs = pairs(alloc, line, output);
+    output.note(cache.extend(pairs));
 }
 
-fn clear(cache: &mut Cache) {
-    cache.clear();
-}
-
-/// Puts a cache in the place of another, which is dropped.
-fn set(cache: &mut Cache, new: Cache) {
-    *cache = new;
-}
-
-fn extend(alloc: Global, line: &mut Line<'_>, cache: &mut Cache) -> Result<(), AllocError> {
-    let pairs = pairs(alloc, line)?;
-    cache.extend(pairs)?;
-    Ok(())
-}
-
-/// Runs the call of this name that makes a cache or changes what it has, and tells whether there is
-/// one.
+/// Runs the call of this name that makes a cache or changes what it has, and returns whether there
+/// is one.
 fn run_on_all(
     alloc: Global,
     name: &str,
     line: &mut Line<'_>,
     cache: &mut Cache,
     other: &Cache,
-    text: &mut String,
-) -> Result<bool, AllocError> {
+    output: &mut Output,
+) -> bool {
     match name {
-        "with_hasher" => set(cache, new(alloc, line)),
-        "clone" => set(cache, other.clone()?),
-        "extend" => extend(alloc, line, cache)?,
+        "with_hasher" => *cache = new(alloc, line),
+        "clone" => output.store(cache, other.clone()),
+        "extend" => extend(alloc, line, cache, output),
         "set_capacity" => cache.set_capacity(line.small_number()),
-        "remove_lru" => show(&cache.remove_lru(), text)?,
-        "clear" => clear(cache),
-        "len" => len(cache, text)?,
-        "debug" => show(cache, text)?,
-        "new" => show_new(alloc, line.number(), text)?,
-        _ => return Ok(false),
+        "remove_lru" => output.show(&cache.remove_lru()),
+        "clear" => cache.clear(),
+        "len" => output.show_two(&cache.len(), &cache.is_empty()),
+        "debug" => output.show(cache),
+        "new" => show_new(alloc, line.number(), output),
+        _ => return false,
     }
-    Ok(true)
+    true
 }
 
 /// Adds a number to every value, in a loop over the cache.
@@ -114,42 +81,35 @@ fn add(cache: &mut Cache, number: u64) {
 }
 
 /// Appends every pair, in a loop over the cache.
-fn show_all(cache: &Cache, text: &mut String) -> Result<(), AllocError> {
+fn show_all(cache: &Cache, output: &mut Output) {
     for (key, value) in cache {
-        show_pair(key, *value, text)?;
+        output.show_pair(key, *value);
     }
-    Ok(())
-}
-
-fn drain(cache: &mut Cache, steps: &str, text: &mut String) -> Result<(), AllocError> {
-    iterate(&mut cache.drain(), steps, text)
 }
 
 /// Iterates over a clone that is taken.
-fn into_iter(cache: &Cache, steps: &str, text: &mut String) -> Result<(), AllocError> {
-    iterate(&mut cache.clone()?.into_iter(), steps, text)
-}
-
-/// Runs the call of this name that iterates, and tells whether there is one.
-fn run_iterator(
-    name: &str,
-    line: &mut Line<'_>,
-    cache: &mut Cache,
-    text: &mut String,
-) -> Result<bool, AllocError> {
-    match name {
-        "iter" => iterate_and_clone(cache.iter(), line, text)?,
-        "iter_mut" => iterate_and_write(cache.iter_mut(), line.word(), line.number(), text)?,
-        "into_iter" => into_iter(cache, line.word(), text)?,
-        "drain" => drain(cache, line.word(), text)?,
-        "loop" => show_all(cache, text)?,
-        "loop_mut" => add(cache, line.number()),
-        _ => return Ok(false),
+fn into_iter(cache: &Cache, steps: &str, output: &mut Output) {
+    match cache.clone() {
+        Ok(copy) => iterate(&mut copy.into_iter(), steps, output),
+        Err(_) => output.refuse(),
     }
-    Ok(true)
 }
 
-/// Runs the call of this name, appends what it returns, the limit and the list, and tells whether
+/// Runs the call of this name that iterates, and returns whether there is one.
+fn run_iterator(name: &str, line: &mut Line<'_>, cache: &mut Cache, output: &mut Output) -> bool {
+    match name {
+        "iter" => iterate_and_clone(cache.iter(), line, output),
+        "iter_mut" => iterate_and_write(cache.iter_mut(), line.word(), line.number(), output),
+        "into_iter" => into_iter(cache, line.word(), output),
+        "drain" => iterate(&mut cache.drain(), line.word(), output),
+        "loop" => show_all(cache, output),
+        "loop_mut" => add(cache, line.number()),
+        _ => return false,
+    }
+    true
+}
+
+/// Runs the call of this name, appends what it returns, the limit and the list, and returns whether
 /// there is such a call.
 pub fn run(
     alloc: Global,
@@ -157,14 +117,15 @@ pub fn run(
     line: &mut Line<'_>,
     cache: &mut Cache,
     other: &Cache,
-    text: &mut String,
-) -> Result<bool, Stop> {
-    let is_known = run_by_key(name, line, cache, text)?
-        || run_on_all(alloc, name, line, cache, other, text)?
-        || run_iterator(name, line, cache, text)?;
+    output: &mut Output,
+) -> bool {
+    let is_known = run_by_key(name, line, cache, output)
+        || run_on_all(alloc, name, line, cache, other, output)
+        || run_iterator(name, line, cache, output);
     if is_known {
-        write!(text, "| {} ", cache.capacity())?;
-        push_pairs(cache.iter(), text)?;
+        output.push_str("| ");
+        output.show(&cache.capacity());
+        list_pairs(cache.iter(), output);
     }
-    Ok(is_known)
+    is_known
 }

@@ -3,53 +3,49 @@
 use super::Map;
 use super::hasher::{BuildKeyHasher, Choice};
 use super::line::Line;
-use super::show::show;
-use super::stop::Stop;
+use super::output::Output;
 use linked_hash_map::LinkedHashMap;
-use std::alloc::{AllocError, Global};
+use std::alloc::Global;
 use std::hash::BuildHasher;
 
 /// A map whose keys are compared as they are.
 type Plain = LinkedHashMap<u64, u64>;
 
 /// Makes a map of the same pairs whose keys are compared as they are.
-fn plain(alloc: Global, map: &Map) -> Result<Plain, Stop> {
-    let mut plain = Plain::with_capacity(alloc, map.len())?;
+fn plain(alloc: Global, map: &Map, output: &mut Output) -> Plain {
+    let mut plain = Plain::new(alloc);
+    output.store(&mut plain, Plain::with_capacity(alloc, map.len()));
     for (key, value) in map.iter() {
-        plain.insert(key.number(), *value)?;
+        output.note(plain.insert(key.number(), *value));
     }
-    Ok(plain)
+    plain
 }
 
-/// Makes a map with the default hasher and the pair of a number.
-fn new(alloc: Global, number: u64) -> Result<Plain, Stop> {
+/// Appends the debug text of a map with the default hasher and the pair of a number.
+fn show_new(alloc: Global, number: u64, output: &mut Output) {
     let mut map = Plain::new(alloc);
-    map.insert(number, number)?;
-    Ok(map)
+    output.note(map.insert(number, number));
+    output.show(&map);
 }
 
 /// Appends the debug text of a map over several lines, as that of a string.
-fn show_pretty(alloc: Global, map: &Map, text: &mut String) -> Result<(), AllocError> {
-    let pretty = format!(in alloc; "{map:#?}")?;
-    write!(text, "{pretty:?} ")
-}
-
-/// Appends whether two maps are equal.
-fn equal(map: &Map, other: &Map, text: &mut String) -> Result<(), AllocError> {
-    write!(text, "{} {} ", *map == *other, *map != *other)
-}
-
-/// Appends which of two maps is less.
-fn compare(map: &Plain, other: &Plain, text: &mut String) -> Result<(), AllocError> {
-    write!(text, "{:?} ", map.cmp(other))?;
-    partial_compare(map, other, text)
+fn show_pretty(alloc: Global, map: &Map, output: &mut Output) {
+    output.show_result(format!(in alloc; "{map:#?}"));
 }
 
 /// Appends which of two maps is less, if they have an order.
-fn partial_compare<M: PartialOrd>(map: &M, other: &M, text: &mut String) -> Result<(), AllocError> {
-    write!(text, "{:?} ", map.partial_cmp(other))?;
-    write!(text, "{} {} ", *map < *other, *map <= *other)?;
-    write!(text, "{} {} ", *map > *other, *map >= *other)
+fn partial_compare<M: PartialOrd>(map: &M, other: &M, output: &mut Output) {
+    output.show(&map.partial_cmp(other));
+    output.show_two(&(*map < *other), &(*map <= *other));
+    output.show_two(&(*map > *other), &(*map >= *other));
+}
+
+/// Appends which of two maps of the same pairs is less.
+fn compare(alloc: Global, map: &Map, other: &Map, output: &mut Output) {
+    let map = plain(alloc, map, output);
+    let other = plain(alloc, other, output);
+    output.show(&map.cmp(&other));
+    partial_compare(&map, &other, output);
 }
 
 /// Returns the hash that a hasher gives a map.
@@ -58,37 +54,24 @@ fn hash_of(map: &Map) -> u64 {
     BuildKeyHasher { choice }.hash_one(map)
 }
 
-/// Appends which of two maps of the same pairs is less.
-fn compare_plain(alloc: Global, map: &Map, other: &Map, text: &mut String) -> Result<(), Stop> {
-    let map = plain(alloc, map)?;
-    let other = plain(alloc, other)?;
-    Ok(compare(&map, &other, text)?)
-}
-
-/// Appends the debug text of a new map.
-fn show_new(alloc: Global, number: u64, text: &mut String) -> Result<(), Stop> {
-    let map = new(alloc, number)?;
-    Ok(show(&map, text)?)
-}
-
-/// Runs the call of this name, and tells whether there is one.
+/// Runs the call of this name, and returns whether there is one.
 pub fn run(
     alloc: Global,
     name: &str,
     line: &mut Line<'_>,
     map: &Map,
     other: &Map,
-    text: &mut String,
-) -> Result<bool, Stop> {
+    output: &mut Output,
+) -> bool {
     match name {
-        "eq" => equal(map, other, text)?,
-        "cmp" => compare_plain(alloc, map, other, text)?,
-        "partial_cmp" => partial_compare(map, other, text)?,
-        "new" => show_new(alloc, line.number(), text)?,
-        "hash" => show(&hash_of(map), text)?,
-        "debug" => show(map, text)?,
-        "debug_pretty" => show_pretty(alloc, map, text)?,
-        _ => return Ok(false),
+        "eq" => output.show_two(&(*map == *other), &(*map != *other)),
+        "cmp" => compare(alloc, map, other, output),
+        "partial_cmp" => partial_compare(map, other, output),
+        "new" => show_new(alloc, line.number(), output),
+        "hash" => output.show(&hash_of(map)),
+        "debug" => output.show(map),
+        "debug_pretty" => show_pretty(alloc, map, output),
+        _ => return false,
     }
-    Ok(true)
+    true
 }

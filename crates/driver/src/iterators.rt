@@ -4,10 +4,9 @@ use super::Map;
 use super::hasher::BuildKeyHasher;
 use super::key::Key;
 use super::line::Line;
-use super::show::{show, show_pair};
-use super::stop::Stop;
+use super::output::Output;
 use linked_hash_map::IterMut;
-use std::alloc::{AllocError, Global};
+use std::alloc::Global;
 use std::fmt::Debug;
 use std::mem;
 
@@ -22,52 +21,42 @@ fn step<T, I: DoubleEndedIterator<Item = T>>(items: &mut I, letter: u8) -> Optio
     }
 }
 
-/// Appends how many items are left, as an iterator tells it.
-fn show_left(
-    hint: (usize, Option<usize>),
-    len: usize,
-    text: &mut String,
-) -> Result<(), AllocError> {
-    write!(text, "{hint:?} {len} ")
-}
-
 /// Makes a step for each letter, and appends what each gives and how much is left.
 pub fn iterate<T: Debug + Drop, I: DoubleEndedIterator<Item = T> + ExactSizeIterator>(
     items: &mut I,
     steps: &str,
-    text: &mut String,
-) -> Result<(), AllocError>
+    output: &mut Output,
+)
     requires { (items : I) → I.can_next items × I.can_next_back items }
 {
     for letter in steps.bytes() {
-        let item = step(items, letter);
-        show(&item, text)?;
-        show_left(items.size_hint(), items.len(), text)?;
+        output.show(&step(items, letter));
+        output.show_two(&items.size_hint(), &items.len());
     }
-    Ok(())
 }
 
 /// Iterates, clones the iterator, and iterates by the clone and then by the iterator itself.
 pub fn iterate_and_clone<
     T: Debug + Drop,
     I: DoubleEndedIterator<Item = T> + ExactSizeIterator + Clone + Drop,
->(items: I, line: &mut Line<'_>, text: &mut String) -> Result<(), AllocError>
+>(items: I, line: &mut Line<'_>, output: &mut Output)
     requires { (items : I) → I.can_next items × I.can_next_back items }
 {
     let mut items = items;
-    iterate(&mut items, line.word(), text)?;
-    let mut copy = items.clone()?;
+    iterate(&mut items, line.word(), output);
     let steps = line.word();
-    iterate(&mut copy, steps, text)?;
-    write!(text, "/ ")?;
-    iterate(&mut items, steps, text)
+    match items.clone() {
+        Ok(mut copy) => iterate(&mut copy, steps, output),
+        Err(_) => output.refuse(),
+    }
+    output.push_str("/ ");
+    iterate(&mut items, steps, output);
 }
 
 /// Appends a pair, and writes its value.
-fn write_pair(key: &Key, lent: &mut u64, value: u64, text: &mut String) -> Result<(), AllocError> {
-    show_pair(key, *lent, text)?;
+fn write_pair(key: &Key, lent: &mut u64, value: u64, output: &mut Output) {
+    output.show_pair(key, *lent);
     *lent = value;
-    Ok(())
 }
 
 /// Iterates by what `iter_mut` returns, and writes each value that is lent.
@@ -75,22 +64,16 @@ pub fn iterate_and_write(
     pairs: IterMut<'_, Key, u64>,
     steps: &str,
     value: u64,
-    text: &mut String,
-) -> Result<(), AllocError> {
+    output: &mut Output,
+) {
     let mut pairs = pairs;
     for letter in steps.bytes() {
-        let pair = if letter == b'b' {
-            pairs.next_back()
-        } else {
-            pairs.next()
-        };
-        match pair {
-            Some((key, lent)) => write_pair(key, lent, value, text)?,
-            None => write!(text, "end ")?,
+        match step(&mut pairs, letter) {
+            Some((key, lent)) => write_pair(key, lent, value, output),
+            None => output.push_str("end "),
         }
-        show_left(pairs.size_hint(), pairs.len(), text)?;
+        output.show_two(&pairs.size_hint(), &pairs.len());
     }
-    Ok(())
 }
 
 /// Adds a number to every value, in a loop over the map.
@@ -101,11 +84,10 @@ fn add(map: &mut Map, number: u64) {
 }
 
 /// Appends every pair, in a loop over the map.
-fn show_all(map: &Map, text: &mut String) -> Result<(), AllocError> {
+fn show_all(map: &Map, output: &mut Output) {
     for (key, value) in map {
-        show_pair(key, *value, text)?;
+        output.show_pair(key, *value);
     }
-    Ok(())
 }
 
 /// Takes the map, and leaves an empty one with the default hasher in its place.
@@ -114,58 +96,40 @@ fn take(alloc: Global, map: &mut Map) -> Map {
 }
 
 /// Iterates by `drain`, and drops or forgets the iterator.
-fn drain(map: &mut Map, line: &mut Line<'_>, text: &mut String) -> Result<(), AllocError> {
+fn drain(map: &mut Map, line: &mut Line<'_>, output: &mut Output) {
     let mut pairs = map.drain();
-    iterate(&mut pairs, line.word(), text)?;
+    iterate(&mut pairs, line.word(), output);
     if line.word() == "forget" {
         mem::forget(pairs);
     }
-    Ok(())
 }
 
 /// Iterates over a map that is taken, and forgets what is left.
-fn iterate_and_forget(map: Map, steps: &str, text: &mut String) -> Result<(), AllocError> {
+fn iterate_and_forget(map: Map, steps: &str, output: &mut Output) {
     let mut pairs = map.into_iter();
-    iterate(&mut pairs, steps, text)?;
+    iterate(&mut pairs, steps, output);
     mem::forget(pairs);
-    Ok(())
 }
 
-fn iter(map: &Map, line: &mut Line<'_>, text: &mut String) -> Result<(), AllocError> {
-    iterate_and_clone(map.iter(), line, text)
-}
-
-fn keys(map: &Map, line: &mut Line<'_>, text: &mut String) -> Result<(), AllocError> {
-    iterate_and_clone(map.keys(), line, text)
-}
-
-fn values(map: &Map, line: &mut Line<'_>, text: &mut String) -> Result<(), AllocError> {
-    iterate_and_clone(map.values(), line, text)
-}
-
-fn into_iter(map: Map, line: &mut Line<'_>, text: &mut String) -> Result<(), AllocError> {
-    iterate_and_clone(map.into_iter(), line, text)
-}
-
-/// Runs the call of this name, and tells whether there is one.
+/// Runs the call of this name, and returns whether there is one.
 pub fn run(
     alloc: Global,
     name: &str,
     line: &mut Line<'_>,
     map: &mut Map,
-    text: &mut String,
-) -> Result<bool, Stop> {
+    output: &mut Output,
+) -> bool {
     match name {
-        "iter" => iter(map, line, text)?,
-        "keys" => keys(map, line, text)?,
-        "values" => values(map, line, text)?,
-        "iter_mut" => iterate_and_write(map.iter_mut(), line.word(), line.number(), text)?,
-        "into_iter" => into_iter(take(alloc, map), line, text)?,
-        "into_iter_forget" => iterate_and_forget(take(alloc, map), line.word(), text)?,
-        "drain" => drain(map, line, text)?,
-        "loop" => show_all(map, text)?,
+        "iter" => iterate_and_clone(map.iter(), line, output),
+        "keys" => iterate_and_clone(map.keys(), line, output),
+        "values" => iterate_and_clone(map.values(), line, output),
+        "iter_mut" => iterate_and_write(map.iter_mut(), line.word(), line.number(), output),
+        "into_iter" => iterate_and_clone(take(alloc, map).into_iter(), line, output),
+        "into_iter_forget" => iterate_and_forget(take(alloc, map), line.word(), output),
+        "drain" => drain(map, line, output),
+        "loop" => show_all(map, output),
         "loop_mut" => add(map, line.number()),
-        _ => return Ok(false),
+        _ => return false,
     }
-    Ok(true)
+    true
 }

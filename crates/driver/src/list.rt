@@ -1,8 +1,8 @@
 //! The list of a map, a cache or a set, at the end of each line of the output.
 
 use super::key::Key;
+use super::output::Output;
 use linked_hash_map::Iter;
-use std::alloc::AllocError;
 
 /// The longest list that is shown whole.
 const SHOWN: usize = 8;
@@ -30,53 +30,42 @@ fn digest_of_items(items: linked_hash_set::Iter<'_, Key>) -> u64 {
     digest
 }
 
-/// Appends a pair.
-fn push_pair(key: &Key, value: u64, text: &mut String) -> Result<(), AllocError> {
-    write!(text, " {key:?}:{value}")
-}
-
 /// Appends the pairs in order.
-fn push_all_pairs(pairs: Iter<'_, Key, u64>, text: &mut String) -> Result<(), AllocError> {
+fn list_all_pairs(pairs: Iter<'_, Key, u64>, output: &mut Output) {
     for (key, value) in pairs {
-        push_pair(key, *value, text)?;
+        output.list_pair(key, *value);
     }
-    Ok(())
 }
 
 /// Appends the items in order.
-fn push_all_items(
-    items: linked_hash_set::Iter<'_, Key>,
-    text: &mut String,
-) -> Result<(), AllocError> {
+fn list_all_items(items: linked_hash_set::Iter<'_, Key>, output: &mut Output) {
     for item in items {
-        write!(text, " {item:?}")?;
+        output.list(item);
     }
-    Ok(())
 }
 
 /// Appends the pairs in order, or a digest of them if they are many, and ends the line.
-pub fn push_pairs(pairs: Iter<'_, Key, u64>, text: &mut String) -> Result<(), AllocError> {
+pub fn list_pairs(pairs: Iter<'_, Key, u64>, output: &mut Output) {
     let len = pairs.len();
-    write!(text, "| {len}")?;
+    output.push_str("|");
+    output.list(&len);
     if len <= SHOWN {
-        push_all_pairs(pairs, text)?;
+        list_all_pairs(pairs, output);
     } else {
-        write!(text, " {}", digest(pairs))?;
+        output.list(&digest(pairs));
     }
-    writeln!(text)
+    output.push_str("\n");
 }
 
 /// Appends the items in order, or a digest of them if they are many, and ends the line.
-pub fn push_items(
-    items: linked_hash_set::Iter<'_, Key>,
-    text: &mut String,
-) -> Result<(), AllocError> {
+pub fn list_items(items: linked_hash_set::Iter<'_, Key>, output: &mut Output) {
     let len = items.len();
-    write!(text, "| {len}")?;
+    output.push_str("|");
+    output.list(&len);
     if len <= SHOWN {
-        push_all_items(items, text)?;
+        list_all_items(items, output);
     } else {
-        write!(text, " {}", digest_of_items(items))?;
+        output.list(&digest_of_items(items));
     }
-    writeln!(text)
+    output.push_str("\n");
 }

@@ -2,8 +2,8 @@
 //! output, one a line.
 //!
 //! `compare/run` compares the output with that of the Rust crates linked-hash-map 0.5.6, lru-cache
-//! 0.1.2 and hashlink 0.8.0, and `compare/run --help` says what the lines are. What is proved of this
-//! program is that it is safe and ends.
+//! 0.1.2 and hashlink 0.8.0, and `compare/run --help` says what the lines are. What is proved of
+//! this program is that it is safe and ends.
 //!
 //! The exit status is 0; 3 if an allocation fails; 4 if the input is no text, or reading or writing
 //! fails.
@@ -20,8 +20,8 @@ mod line;
 mod list;
 mod lookups;
 mod making;
+mod output;
 mod sets;
-mod show;
 mod stop;
 
 use caches::Cache;
@@ -29,6 +29,7 @@ use hasher::BuildKeyHasher;
 use key::Key;
 use line::Line;
 use linked_hash_map::LinkedHashMap;
+use output::Output;
 use sets::Set;
 use std::alloc::Global;
 use std::io;
@@ -66,74 +67,69 @@ impl All {
 }
 
 /// Runs the call of this name on `map` and, if it takes two, on `other` too, appends what it
-/// returns and the list of `map`, and tells whether there is such a call.
+/// returns and the list of `map`, and returns whether there is such a call.
 fn run_on_map(
     alloc: Global,
     name: &str,
     line: &mut Line<'_>,
     map: &mut Map,
     other: &mut Map,
-    text: &mut String,
-) -> Result<bool, Stop> {
-    let is_known = lookups::run(name, line, map, text)?
-        || changes::run(name, line, map, text)?
-        || making::run(alloc, name, line, map, other, text)?
-        || entries::run(name, line, map, text)?
-        || iterators::run(alloc, name, line, map, text)?
-        || comparisons::run(alloc, name, line, map, other, text)?;
+    output: &mut Output,
+) -> bool {
+    let is_known = lookups::run(name, line, map, output)
+        || changes::run(name, line, map, output)
+        || making::run(alloc, name, line, map, other, output)
+        || entries::run(name, line, map, output)
+        || iterators::run(alloc, name, line, map, output)
+        || comparisons::run(alloc, name, line, map, other, output);
     if is_known {
-        list::push_pairs(map.iter(), text)?;
+        list::list_pairs(map.iter(), output);
     }
-    Ok(is_known)
+    is_known
 }
 
-/// Runs the call of a line on what it names, and tells whether there is such a call.
-fn run_call(
-    alloc: Global,
-    line: &mut Line<'_>,
-    all: &mut All,
-    text: &mut String,
-) -> Result<bool, Stop> {
+/// Runs the call of a line on what it names, and returns whether there is such a call.
+fn run_call(alloc: Global, line: &mut Line<'_>, all: &mut All, output: &mut Output) -> bool {
     let name = line.word();
     let is_b = line.word() == "b";
     if let Some(name) = name.strip_prefix("cache_") {
         if is_b {
-            caches::run(alloc, name, line, &mut all.cache_b, &all.cache_a, text)
+            caches::run(alloc, name, line, &mut all.cache_b, &all.cache_a, output)
         } else {
-            caches::run(alloc, name, line, &mut all.cache_a, &all.cache_b, text)
+            caches::run(alloc, name, line, &mut all.cache_a, &all.cache_b, output)
         }
     } else if let Some(name) = name.strip_prefix("set_") {
         if is_b {
-            sets::run(alloc, name, line, &mut all.set_b, &all.set_a, text)
+            sets::run(alloc, name, line, &mut all.set_b, &all.set_a, output)
         } else {
-            sets::run(alloc, name, line, &mut all.set_a, &all.set_b, text)
+            sets::run(alloc, name, line, &mut all.set_a, &all.set_b, output)
         }
     } else if is_b {
-        run_on_map(alloc, name, line, &mut all.map_b, &mut all.map_a, text)
+        run_on_map(alloc, name, line, &mut all.map_b, &mut all.map_a, output)
     } else {
-        run_on_map(alloc, name, line, &mut all.map_a, &mut all.map_b, text)
+        run_on_map(alloc, name, line, &mut all.map_a, &mut all.map_b, output)
     }
 }
 
 /// Runs the lines on new maps, caches and sets, and returns the whole text of the output. For a
 /// line that is no call that is `unknown`.
 fn respond(alloc: Global, lines: &str) -> Result<String, Stop> {
-    let mut text = String::new(alloc);
+    let mut output = Output::new(alloc);
     let mut all = All::new(alloc);
     for line in lines.lines() {
-        if !run_call(alloc, &mut Line::new(line), &mut all, &mut text)? {
-            writeln!(text, "unknown")?;
+        if !run_call(alloc, &mut Line::new(line), &mut all, &mut output) {
+            output.push_str("unknown\n");
         }
     }
-    Ok(text)
+    output.finish()
 }
 
 /// Reads all lines, runs them and writes the output.
-fn run<R: Read + Drop, W: Write>(alloc: Global, input: R, output: &mut W) -> Result<(), Stop> {
+fn run<R: Read + Drop, W: Write>(alloc: Global, input: R, writer: &mut W) -> Result<(), Stop> {
     let lines = io::read_to_string(alloc, input)?;
     let text = respond(alloc, lines.as_str())?;
-    output.write_all(text.as_bytes())?;
-    output.flush()?;
+    writer.write_all(text.as_bytes())?;
+    writer.flush()?;
     Ok(())
 }
 

@@ -4,9 +4,8 @@ use super::Map;
 use super::hasher::{BuildKeyHasher, Choice};
 use super::key::Key;
 use super::line::Line;
-use super::show::show;
-use super::stop::Stop;
-use std::alloc::{AllocError, Global};
+use super::output::Output;
+use std::alloc::Global;
 use std::mem;
 
 /// Makes an empty map, with the hasher that the next word names.
@@ -16,74 +15,57 @@ fn new(alloc: Global, line: &mut Line<'_>) -> Map {
 }
 
 /// Makes an empty map, with that hasher and the capacity after it.
-fn with_capacity(alloc: Global, line: &mut Line<'_>) -> Result<Map, Stop> {
+fn with_capacity(alloc: Global, line: &mut Line<'_>, map: &mut Map, output: &mut Output) {
     let choice = Choice::named(line.word());
     let capacity = line.small_number();
     let hasher = BuildKeyHasher { choice };
-    Ok(Map::with_capacity_and_hasher(alloc, capacity, hasher)?)
+    output.store(map, Map::with_capacity_and_hasher(alloc, capacity, hasher));
 }
 
 /// Reads the pairs that are left of a line.
-pub fn pairs(alloc: Global, line: &mut Line<'_>) -> Result<Vec<(Key, u64)>, AllocError> {
+pub fn pairs(alloc: Global, line: &mut Line<'_>, output: &mut Output) -> Vec<(Key, u64)> {
     let mut pairs = Vec::new(alloc);
     for _ in 0..u64::MAX {
         let Some(text) = line.next_word() else {
             break;
         };
-        pairs.push((Key::new(text), line.number()))?;
+        output.note(pairs.push((Key::new(text), line.number())));
     }
-    Ok(pairs)
+    pairs
 }
 
 /// Collects the pairs that are left of a line.
-fn collect(alloc: Global, line: &mut Line<'_>) -> Result<Map, Stop> {
-    let pairs = pairs(alloc, line)?;
-    Ok(Map::from_iter(alloc, pairs)?)
+fn collect(alloc: Global, line: &mut Line<'_>, map: &mut Map, output: &mut Output) {
+    let pairs = pairs(alloc, line, output);
+    output.store(map, Map::from_iter(alloc, pairs));
 }
 
-fn extend(alloc: Global, line: &mut Line<'_>, map: &mut Map) -> Result<(), Stop> {
-    let pairs = pairs(alloc, line)?;
-    Ok(map.extend(pairs)?)
+fn extend(alloc: Global, line: &mut Line<'_>, map: &mut Map, output: &mut Output) {
+    let pairs = pairs(alloc, line, output);
+    output.note(map.extend(pairs));
 }
 
-fn extend_refs(map: &mut Map, other: &Map) -> Result<(), Stop> {
-    Ok(map.extend_refs(other.iter())?)
-}
-
-fn extend_drain(map: &mut Map, other: &mut Map) -> Result<(), Stop> {
-    Ok(map.extend(other.drain())?)
-}
-
-fn clone_of(other: &Map) -> Result<Map, Stop> {
-    Ok(other.clone()?)
-}
-
-/// Puts a map in the place of another, which is dropped.
-fn set(map: &mut Map, new: Map) {
-    *map = new;
-}
-
-/// Runs the call of this name, and tells whether there is one.
+/// Runs the call of this name, and returns whether there is one.
 pub fn run(
     alloc: Global,
     name: &str,
     line: &mut Line<'_>,
     map: &mut Map,
     other: &mut Map,
-    text: &mut String,
-) -> Result<bool, Stop> {
+    output: &mut Output,
+) -> bool {
     match name {
-        "with_hasher" => set(map, new(alloc, line)),
-        "with_capacity" => set(map, with_capacity(alloc, line)?),
-        "default" => set(map, Map::with_hasher(alloc, BuildKeyHasher::default())),
-        "from_iter" => set(map, collect(alloc, line)?),
-        "extend" => extend(alloc, line, map)?,
-        "extend_refs" => extend_refs(map, other)?,
-        "extend_drain" => extend_drain(map, other)?,
-        "clone" => set(map, clone_of(other)?),
+        "with_hasher" => *map = new(alloc, line),
+        "with_capacity" => with_capacity(alloc, line, map, output),
+        "default" => *map = Map::with_hasher(alloc, BuildKeyHasher::default()),
+        "from_iter" => collect(alloc, line, map, output),
+        "extend" => extend(alloc, line, map, output),
+        "extend_refs" => output.note(map.extend_refs(other.iter())),
+        "extend_drain" => output.note(map.extend(other.drain())),
+        "clone" => output.store(map, other.clone()),
         "swap" => mem::swap(map, other),
-        _ => return Ok(false),
+        _ => return false,
     }
-    show(map.hasher(), text)?;
-    Ok(true)
+    output.show(map.hasher());
+    true
 }

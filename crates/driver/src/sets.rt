@@ -4,11 +4,10 @@ use super::hasher::{BuildKeyHasher, Choice};
 use super::iterators::{iterate, iterate_and_clone};
 use super::key::Key;
 use super::line::Line;
-use super::list::push_items;
-use super::show::show;
-use super::stop::Stop;
+use super::list::list_items;
+use super::output::Output;
 use linked_hash_set::LinkedHashSet;
-use std::alloc::{AllocError, Global};
+use std::alloc::Global;
 use std::hash::BuildHasher;
 
 /// The sets that the lines speak of.
@@ -21,114 +20,94 @@ fn new(alloc: Global, line: &mut Line<'_>) -> Set {
 }
 
 /// Makes an empty set, with that hasher and the capacity after it.
-fn with_capacity(alloc: Global, line: &mut Line<'_>) -> Result<Set, AllocError> {
+fn with_capacity(alloc: Global, line: &mut Line<'_>, set: &mut Set, output: &mut Output) {
     let choice = Choice::named(line.word());
     let capacity = line.small_number();
     let hasher = BuildKeyHasher { choice };
-    Ok(Set::with_capacity_and_hasher(alloc, capacity, hasher)?)
+    output.store(set, Set::with_capacity_and_hasher(alloc, capacity, hasher));
 }
 
 /// Reads the items that are left of a line.
-fn items(alloc: Global, line: &mut Line<'_>) -> Result<Vec<Key>, AllocError> {
+fn items(alloc: Global, line: &mut Line<'_>, output: &mut Output) -> Vec<Key> {
     let mut items = Vec::new(alloc);
     for _ in 0..u64::MAX {
         let Some(text) = line.next_word() else {
             break;
         };
-        items.push(Key::new(text))?;
+        output.note(items.push(Key::new(text)));
     }
-    Ok(items)
+    items
 }
 
-fn collect(alloc: Global, line: &mut Line<'_>) -> Result<Set, AllocError> {
-    let items = items(alloc, line)?;
-    Ok(Set::from_iter(alloc, items)?)
+/// Collects the items that are left of a line.
+fn collect(alloc: Global, line: &mut Line<'_>, set: &mut Set, output: &mut Output) {
+    let items = items(alloc, line, output);
+    output.store(set, Set::from_iter(alloc, items));
 }
 
-fn extend(alloc: Global, line: &mut Line<'_>, set: &mut Set) -> Result<(), AllocError> {
-    let items = items(alloc, line)?;
-    set.extend(items)?;
-    Ok(())
+fn extend(alloc: Global, line: &mut Line<'_>, set: &mut Set, output: &mut Output) {
+    let items = items(alloc, line, output);
+    output.note(set.extend(items));
 }
 
 /// Inserts the items of another set.
-fn extend_refs(set: &mut Set, other: &Set) -> Result<(), AllocError> {
+fn extend_refs(set: &mut Set, other: &Set, output: &mut Output) {
     for item in other {
-        set.insert(*item)?;
+        output.note(set.insert(*item));
     }
-    Ok(())
-}
-
-/// Puts a set in the place of another, which is dropped.
-fn replace_set(set: &mut Set, new: Set) {
-    *set = new;
 }
 
 /// Makes a set with the default hasher, inserts a number twice, and appends its text.
-fn show_new(alloc: Global, number: u64, text: &mut String) -> Result<(), AllocError> {
+fn show_new(alloc: Global, number: u64, output: &mut Output) {
     let mut set = LinkedHashSet::new(alloc);
-    show(&set.insert(number)?, text)?;
-    show(&set.insert(number)?, text)?;
-    show(&set, text)
+    output.show_result(set.insert(number));
+    output.show_result(set.insert(number));
+    output.show(&set);
 }
 
-/// Runs the call of this name that makes a set or takes items in, and tells whether there is one.
+/// Runs the call of this name that makes a set or takes items in, and returns whether there is one.
 fn make(
     alloc: Global,
     name: &str,
     line: &mut Line<'_>,
     set: &mut Set,
     other: &Set,
-    text: &mut String,
-) -> Result<bool, AllocError> {
+    output: &mut Output,
+) -> bool {
     match name {
-        "new" => show_new(alloc, line.number(), text)?,
-        "with_hasher" => replace_set(set, new(alloc, line)),
-        "with_capacity" => replace_set(set, with_capacity(alloc, line)?),
-        "from_iter" => replace_set(set, collect(alloc, line)?),
-        "extend" => extend(alloc, line, set)?,
-        "extend_refs" => extend_refs(set, other)?,
-        "clone" => replace_set(set, other.clone()?),
-        _ => return Ok(false),
+        "new" => show_new(alloc, line.number(), output),
+        "with_hasher" => *set = new(alloc, line),
+        "with_capacity" => with_capacity(alloc, line, set, output),
+        "from_iter" => collect(alloc, line, set, output),
+        "extend" => extend(alloc, line, set, output),
+        "extend_refs" => extend_refs(set, other, output),
+        "clone" => output.store(set, other.clone()),
+        _ => return false,
     }
-    show(set.hasher(), text)?;
-    Ok(true)
+    output.show(set.hasher());
+    true
 }
 
-fn get_or_insert_with(set: &mut Set, item: Key, text: &mut String) -> Result<(), AllocError> {
-    let lent = set.get_or_insert_with(&item, |item| *item)?;
-    show(lent, text)
+fn get_or_insert_with(set: &mut Set, item: Key, output: &mut Output) {
+    output.show_result(set.get_or_insert_with(&item, |item| *item));
 }
 
-/// Runs the call of this name by one item, and tells whether there is one.
-fn run_by_item(
-    name: &str,
-    line: &mut Line<'_>,
-    set: &mut Set,
-    text: &mut String,
-) -> Result<bool, AllocError> {
+/// Runs the call of this name by one item, and returns whether there is one.
+fn run_by_item(name: &str, line: &mut Line<'_>, set: &mut Set, output: &mut Output) -> bool {
     match name {
-        "insert" => show(&set.insert(line.key())?, text)?,
-        "replace" => show(&set.replace(line.key())?, text)?,
-        "get_or_insert" => show(set.get_or_insert(line.key())?, text)?,
-        "get_or_insert_with" => get_or_insert_with(set, line.key(), text)?,
-        "contains" => show(&set.contains(&line.key()), text)?,
-        "get" => show(&set.get(&line.key()), text)?,
-        "take" => show(&set.take(&line.key()), text)?,
-        "remove" => show(&set.remove(&line.key()), text)?,
-        "to_front" => show(&set.to_front(&line.key()), text)?,
-        "to_back" => show(&set.to_back(&line.key()), text)?,
-        _ => return Ok(false),
+        "insert" => output.show_result(set.insert(line.key())),
+        "replace" => output.show_result(set.replace(line.key())),
+        "get_or_insert" => output.show_result(set.get_or_insert(line.key())),
+        "get_or_insert_with" => get_or_insert_with(set, line.key(), output),
+        "contains" => output.show(&set.contains(&line.key())),
+        "get" => output.show(&set.get(&line.key())),
+        "take" => output.show(&set.take(&line.key())),
+        "remove" => output.show(&set.remove(&line.key())),
+        "to_front" => output.show(&set.to_front(&line.key())),
+        "to_back" => output.show(&set.to_back(&line.key())),
+        _ => return false,
     }
-    Ok(true)
-}
-
-fn len(set: &Set, text: &mut String) -> Result<(), AllocError> {
-    write!(text, "{} {} ", set.len(), set.is_empty())
-}
-
-fn clear(set: &mut Set) {
-    set.clear();
+    true
 }
 
 /// Keeps the items whose texts, as numbers, are not the given number modulo 7.
@@ -136,80 +115,40 @@ fn retain(set: &mut Set, number: u64) {
     set.retain(|item| item.number() % 7 != number % 7);
 }
 
-fn show_all(set: &Set, text: &mut String) -> Result<(), AllocError> {
+fn show_all(set: &Set, output: &mut Output) {
     for item in set {
-        show(item, text)?;
+        output.show(item);
     }
-    Ok(())
-}
-
-fn drain(set: &mut Set, steps: &str, text: &mut String) -> Result<(), AllocError> {
-    iterate(&mut set.drain(), steps, text)
 }
 
 /// Iterates over a clone that is taken.
-fn into_iter(set: &Set, steps: &str, text: &mut String) -> Result<(), AllocError> {
-    iterate(&mut set.clone()?.into_iter(), steps, text)
+fn into_iter(set: &Set, steps: &str, output: &mut Output) {
+    match set.clone() {
+        Ok(copy) => iterate(&mut copy.into_iter(), steps, output),
+        Err(_) => output.refuse(),
+    }
 }
 
-/// Runs the call of this name on a whole set, and tells whether there is one.
-fn run_on_all(
-    name: &str,
-    line: &mut Line<'_>,
-    set: &mut Set,
-    text: &mut String,
-) -> Result<bool, AllocError> {
+/// Runs the call of this name on a whole set, and returns whether there is one.
+fn run_on_all(name: &str, line: &mut Line<'_>, set: &mut Set, output: &mut Output) -> bool {
     match name {
-        "front" => show(&set.front(), text)?,
-        "back" => show(&set.back(), text)?,
-        "pop_front" => show(&set.pop_front(), text)?,
-        "pop_back" => show(&set.pop_back(), text)?,
-        "len" => len(set, text)?,
-        "clear" => clear(set),
-        "reserve" => set.reserve(line.small_number())?,
-        "shrink_to_fit" => set.shrink_to_fit()?,
+        "front" => output.show(&set.front()),
+        "back" => output.show(&set.back()),
+        "pop_front" => output.show(&set.pop_front()),
+        "pop_back" => output.show(&set.pop_back()),
+        "len" => output.show_two(&set.len(), &set.is_empty()),
+        "clear" => set.clear(),
+        "reserve" => output.note(set.reserve(line.small_number())),
+        "shrink_to_fit" => output.note(set.shrink_to_fit()),
         "retain" => retain(set, line.number()),
-        "iter" => iterate_and_clone(set.iter(), line, text)?,
-        "drain" => drain(set, line.word(), text)?,
-        "into_iter" => into_iter(set, line.word(), text)?,
-        "loop" => show_all(set, text)?,
-        "debug" => show(set, text)?,
-        _ => return Ok(false),
+        "iter" => iterate_and_clone(set.iter(), line, output),
+        "drain" => iterate(&mut set.drain(), line.word(), output),
+        "into_iter" => into_iter(set, line.word(), output),
+        "loop" => show_all(set, output),
+        "debug" => output.show(set),
+        _ => return false,
     }
-    Ok(true)
-}
-
-fn difference(set: &Set, other: &Set, text: &mut String) -> Result<(), AllocError> {
-    for item in set.difference(other) {
-        show(item, text)?;
-    }
-    Ok(())
-}
-
-fn symmetric_difference(set: &Set, other: &Set, text: &mut String) -> Result<(), AllocError> {
-    for item in set.symmetric_difference(other) {
-        show(item, text)?;
-    }
-    Ok(())
-}
-
-fn intersection(set: &Set, other: &Set, text: &mut String) -> Result<(), AllocError> {
-    for item in set.intersection(other) {
-        show(item, text)?;
-    }
-    Ok(())
-}
-
-fn union(set: &Set, other: &Set, text: &mut String) -> Result<(), AllocError> {
-    for item in set.union(other) {
-        show(item, text)?;
-    }
-    Ok(())
-}
-
-/// Appends whether two sets are equal.
-fn equal(set: &Set, other: &Set, text: &mut String) -> Result<(), AllocError> {
-    write!(text, "{} {} ", *set == *other, *set != *other)
+    true
 }
 
 /// Returns the hash that a hasher gives a set.
@@ -218,24 +157,24 @@ fn hash_of(set: &Set) -> u64 {
     BuildKeyHasher { choice }.hash_one(set)
 }
 
-/// Runs the call of this name on two sets, and tells whether there is one.
-fn run_on_both(name: &str, set: &Set, other: &Set, text: &mut String) -> Result<bool, AllocError> {
+/// Runs the call of this name on two sets, and returns whether there is one.
+fn run_on_both(name: &str, set: &Set, other: &Set, output: &mut Output) -> bool {
     match name {
-        "difference" => difference(set, other, text)?,
-        "symmetric_difference" => symmetric_difference(set, other, text)?,
-        "intersection" => intersection(set, other, text)?,
-        "union" => union(set, other, text)?,
-        "is_subset" => show(&set.is_subset(other), text)?,
-        "is_superset" => show(&set.is_superset(other), text)?,
-        "is_disjoint" => show(&set.is_disjoint(other), text)?,
-        "eq" => equal(set, other, text)?,
-        "hash" => show(&hash_of(set), text)?,
-        _ => return Ok(false),
+        "difference" => output.show_all(set.difference(other)),
+        "symmetric_difference" => output.show_all(set.symmetric_difference(other)),
+        "intersection" => output.show_all(set.intersection(other)),
+        "union" => output.show_all(set.union(other)),
+        "is_subset" => output.show(&set.is_subset(other)),
+        "is_superset" => output.show(&set.is_superset(other)),
+        "is_disjoint" => output.show(&set.is_disjoint(other)),
+        "eq" => output.show_two(&(*set == *other), &(*set != *other)),
+        "hash" => output.show(&hash_of(set)),
+        _ => return false,
     }
-    Ok(true)
+    true
 }
 
-/// Runs the call of this name, appends what it returns and the list, and tells whether there is
+/// Runs the call of this name, appends what it returns and the list, and returns whether there is
 /// such a call.
 pub fn run(
     alloc: Global,
@@ -243,14 +182,14 @@ pub fn run(
     line: &mut Line<'_>,
     set: &mut Set,
     other: &Set,
-    text: &mut String,
-) -> Result<bool, Stop> {
-    let is_known = make(alloc, name, line, set, other, text)?
-        || run_by_item(name, line, set, text)?
-        || run_on_all(name, line, set, text)?
-        || run_on_both(name, set, other, text)?;
+    output: &mut Output,
+) -> bool {
+    let is_known = make(alloc, name, line, set, other, output)
+        || run_by_item(name, line, set, output)
+        || run_on_all(name, line, set, output)
+        || run_on_both(name, set, other, output);
     if is_known {
-        push_items(set.iter(), text)?;
+        list_items(set.iter(), output);
     }
-    Ok(is_known)
+    is_known
 }

@@ -1,7 +1,5 @@
 //! Why the program stops before all of its output is written.
 
-use linked_hash_map::{NoRoom, Refused, ReserveError};
-use std::alloc::{AllocError, AllocFailed};
 use std::io;
 use std::io::ErrorKind;
 
@@ -31,35 +29,5 @@ impl From<io::Error> for Stop {
         } else {
             Stop::InputOrOutputFailed
         }
-    }
-}
-
-impl From<AllocError> for Stop {
-    fn from(_error: AllocError) -> Stop {
-        Stop::OutOfMemory
-    }
-}
-
-impl<T: Drop> From<AllocFailed<T>> for Stop {
-    fn from(_error: AllocFailed<T>) -> Stop {
-        Stop::OutOfMemory
-    }
-}
-
-impl<K: Drop, V: Drop> From<Refused<K, V>> for Stop {
-    fn from(_error: Refused<K, V>) -> Stop {
-        Stop::OutOfMemory
-    }
-}
-
-impl From<ReserveError> for Stop {
-    fn from(_error: ReserveError) -> Stop {
-        Stop::OutOfMemory
-    }
-}
-
-impl From<NoRoom> for Stop {
-    fn from(_error: NoRoom) -> Stop {
-        Stop::OutOfMemory
     }
 }

@@ -9,14 +9,23 @@ use std::cmp::Ordering;
 use std::hash::Hash;
 use std::process::Abort;
 
-/// Checks each comparison of two maps of which the first is less.
-fn assert_less(
+/// Checks each operator on two maps of which the first is less.
+fn assert_operators(
     rt: &impl Abort,
     lesser: &LinkedHashMap<u64, u64>,
     greater: &LinkedHashMap<u64, u64>,
 ) {
     check_eq!(rt; (lesser != greater, lesser == lesser), (true, true));
     check_eq!(rt; (lesser < greater, lesser <= lesser), (true, true));
+}
+
+/// Checks each comparison of two maps of which the first is less.
+fn assert_less(
+    rt: &impl Abort,
+    lesser: &LinkedHashMap<u64, u64>,
+    greater: &LinkedHashMap<u64, u64>,
+) {
+    assert_operators(rt, lesser, greater);
     check_eq!(rt; lesser.partial_cmp(greater), Some(Ordering::Less));
     check_eq!(rt; lesser.cmp(greater), Ordering::Less);
     check_eq!(rt; greater.cmp(lesser), Ordering::Greater);

@@ -99,24 +99,40 @@ fn remove_without_keys(rt: &impl Abort, map: &mut CallMap, counts: &Rc<Counts>) 
     check_calls!(rt; counts, map.drain().next(), NONE);
 }
 
-/// Takes maps apart, and drops one.
-fn consume(rt: &impl Abort, alloc: Global, kind: &Kind, counts: &Rc<Counts>) {
-    let map = map_of_kind(rt, alloc, kind, counts);
-    check_calls!(rt; counts, map.into_iter().next(), NONE);
-    let map = map_of_kind(rt, alloc, kind, counts);
-    check_calls!(rt; counts, map.into_iter().next_back(), NONE);
-    let map = map_of_kind(rt, alloc, kind, counts);
+/// Takes the keys of a map.
+fn take_keys(rt: &impl Abort, map: CallMap, counts: &Rc<Counts>) {
     let mut keys = map.into_keys();
     check_calls!(rt; counts, sizes(&keys), NONE);
     check_calls!(rt; counts, (keys.next(), keys.next_back()), NONE);
-    let map = map_of_kind(rt, alloc, kind, counts);
+}
+
+/// Takes the values of a map.
+fn take_values(rt: &impl Abort, map: CallMap, counts: &Rc<Counts>) {
     let mut values = map.into_values();
     check_calls!(rt; counts, sizes(&values), NONE);
     check_calls!(rt; counts, (values.next(), values.next_back()), NONE);
-    let mut map = map_of_kind(rt, alloc, kind, counts);
-    check_calls!(rt; counts, map.drain().next_back(), NONE);
-    let mut map = map_of_kind(rt, alloc, kind, counts);
-    check_calls!(rt; counts, sizes(&map.drain()), NONE);
+}
+
+/// Takes two maps apart, one from each end.
+fn take_pairs(rt: &impl Abort, first: CallMap, second: CallMap, counts: &Rc<Counts>) {
+    check_calls!(rt; counts, first.into_iter().next(), NONE);
+    check_calls!(rt; counts, second.into_iter().next_back(), NONE);
+}
+
+/// Drains two maps.
+fn drain(rt: &impl Abort, mut first: CallMap, mut second: CallMap, counts: &Rc<Counts>) {
+    check_calls!(rt; counts, first.drain().next_back(), NONE);
+    check_calls!(rt; counts, sizes(&second.drain()), NONE);
+}
+
+/// Takes maps apart, and drops one.
+fn consume(rt: &impl Abort, alloc: Global, kind: &Kind, counts: &Rc<Counts>) {
+    let map = map_of_kind(rt, alloc, kind, counts);
+    take_pairs(rt, map, map_of_kind(rt, alloc, kind, counts), counts);
+    let map = map_of_kind(rt, alloc, kind, counts);
+    drain(rt, map, map_of_kind(rt, alloc, kind, counts), counts);
+    take_keys(rt, map_of_kind(rt, alloc, kind, counts), counts);
+    take_values(rt, map_of_kind(rt, alloc, kind, counts), counts);
     let map = map_of_kind(rt, alloc, kind, counts);
     check_calls!(rt; counts, map, NONE);
 }

@@ -29,6 +29,11 @@ fn insert_by_entries<'a>(rt: &impl Abort, tally: &'a Tally, mut map: CountedMap<
     refused == 64 | 512
 }
 
+/// Returns the bits, with those of a pair if it was refused.
+fn with_refused(dropped: u64, pair: u64, is_refused: bool) -> u64 {
+    if is_refused { dropped | pair } else { dropped }
+}
+
 /// Drops what an entry returns, and returns the bits of all that was dropped: those of the pair
 /// with the result, if it was refused.
 fn drop_put<'a>(
@@ -39,11 +44,7 @@ fn drop_put<'a>(
     pair: u64,
 ) -> u64 {
     assert_dropped(rt, tally, dropped);
-    let dropped = if put.is_err() {
-        dropped | pair
-    } else {
-        dropped
-    };
+    let dropped = with_refused(dropped, pair, put.is_err());
     drop(put);
     assert_dropped(rt, tally, dropped);
     dropped
