@@ -1,7 +1,8 @@
 //! The examples in the documentation of the library's public items, run.
 //!
-//! Each example stands here word for word, in a test that is named for an item that shows it.
-//! Here `assert!` and `assert_eq!` are `check!` and `check_eq!`, which have no branch to prove.
+//! Each example stands here word for word, in a test that is named for an item that shows it,
+//! except that `check!` and `check_eq!`, which have no branch to prove, stand for `assert!` and
+//! `assert_eq!`.
 
 mod capacity;
 mod comparison;

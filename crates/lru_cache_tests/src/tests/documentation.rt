@@ -1,6 +1,6 @@
 //! The examples in the documentation of `lru_cache`, run. Each stands here word for word, in a test
-//! that is named for its item. Here `assert!` and `assert_eq!` are `check!` and `check_eq!`, which
-//! have no branch to prove.
+//! that is named for its item, except that `check!` and `check_eq!`, which have no branch to prove,
+//! stand for `assert!` and `assert_eq!`.
 
 mod insertion;
 mod iteration;

@@ -1,5 +1,5 @@
 //! Capacities.
-use crate::tests::support::checks::check_eq as assert_eq;
+use crate::tests::support::checks::check_eq;
 use linked_hash_map::{LIMIT, LinkedHashMap, NoRoom, ReserveError};
 use std::test::Fail;
 
@@ -7,9 +7,9 @@ use std::test::Fail;
 #[test]
 fn reserve_error(rt: HostRuntime) -> Result<(), Fail> {
     let mut map: LinkedHashMap<char, u64> = LinkedHashMap::new(rt.alloc());
-    assert_eq!(rt; map.reserve(LIMIT + 1), Err(ReserveError::TooLarge));
-    assert_eq!(rt; map.reserve(LIMIT), Err(ReserveError::NoRoom));
-    assert_eq!(rt; map.capacity(), 0);
+    check_eq!(rt; map.reserve(LIMIT + 1), Err(ReserveError::TooLarge));
+    check_eq!(rt; map.reserve(LIMIT), Err(ReserveError::NoRoom));
+    check_eq!(rt; map.capacity(), 0);
     Ok(())
 }
 
@@ -18,9 +18,9 @@ fn reserve_error(rt: HostRuntime) -> Result<(), Fail> {
 fn capacity(rt: HostRuntime) -> Result<(), Fail> {
     let mut map = LinkedHashMap::new(rt.alloc());
     map.insert('x', 1)?;
-    assert_eq!(rt; map.capacity(), 1);
+    check_eq!(rt; map.capacity(), 1);
     map.reserve(4)?;
-    assert_eq!(rt; map.capacity(), 5);
+    check_eq!(rt; map.capacity(), 5);
     Ok(())
 }
 
@@ -30,7 +30,7 @@ fn reserve(rt: HostRuntime) -> Result<(), Fail> {
     let mut map = LinkedHashMap::new(rt.alloc());
     map.insert('x', 1)?;
     map.reserve(4)?;
-    assert_eq!(rt; map.capacity(), 5);
+    check_eq!(rt; map.capacity(), 5);
     Ok(())
 }
 
@@ -41,7 +41,7 @@ fn shrink_to_fit(rt: HostRuntime) -> Result<(), Fail> {
     map.insert('x', 1)?;
     map.reserve(4)?;
     let shrunk: Result<(), NoRoom> = map.shrink_to_fit();
-    assert_eq!(rt; shrunk, Ok(()));
-    assert_eq!(rt; map.capacity(), 1);
+    check_eq!(rt; shrunk, Ok(()));
+    check_eq!(rt; map.capacity(), 1);
     Ok(())
 }

@@ -1,5 +1,5 @@
 //! Comparing, hashing and writing maps.
-use crate::tests::support::checks::{check as assert, check_eq as assert_eq};
+use crate::tests::support::checks::{check, check_eq};
 use linked_hash_map::{DefaultHashBuilder, LinkedHashMap};
 use std::cmp::Ordering;
 use std::hash::BuildHasher;
@@ -12,9 +12,9 @@ fn eq(rt: HostRuntime) -> Result<(), Fail> {
     map.extend([('x', 1), ('y', 2)])?;
     let mut other = LinkedHashMap::new(rt.alloc());
     other.extend([('y', 2), ('x', 1)])?;
-    assert!(rt; map != other);
+    check!(rt; map != other);
     other.insert('y', 2)?; // moves the pair to the back
-    assert!(rt; map == other);
+    check!(rt; map == other);
     Ok(())
 }
 
@@ -25,7 +25,7 @@ fn partial_cmp(rt: HostRuntime) -> Result<(), Fail> {
     map.extend([('x', 1), ('y', 2)])?;
     let mut other = LinkedHashMap::new(rt.alloc());
     other.extend([('y', 2), ('x', 1)])?;
-    assert!(rt; map < other);
+    check!(rt; map < other);
     Ok(())
 }
 
@@ -36,7 +36,7 @@ fn cmp(rt: HostRuntime) -> Result<(), Fail> {
     map.extend([('x', 1), ('y', 2)])?;
     let mut other = LinkedHashMap::new(rt.alloc());
     other.extend([('y', 2), ('x', 1)])?;
-    assert_eq!(rt; map.cmp(&other), Ordering::Less);
+    check_eq!(rt; map.cmp(&other), Ordering::Less);
     Ok(())
 }
 
@@ -47,7 +47,7 @@ fn hash(rt: HostRuntime) -> Result<(), Fail> {
     map.insert('x', 1)?;
     let clone = map.clone()?;
     let builder = DefaultHashBuilder::new();
-    assert_eq!(rt; builder.hash_one(clone), builder.hash_one(map));
+    check_eq!(rt; builder.hash_one(clone), builder.hash_one(map));
     Ok(())
 }
 
@@ -57,6 +57,6 @@ fn debug(rt: HostRuntime) -> Result<(), Fail> {
     let mut map = LinkedHashMap::with_capacity(rt.alloc(), 5)?;
     map.insert('x', 1)?;
     let text = format!(in rt.alloc(); "{map:?}")?;
-    assert_eq!(rt; text.as_str(), "{'x': 1}");
+    check_eq!(rt; text.as_str(), "{'x': 1}");
     Ok(())
 }

@@ -1,5 +1,5 @@
 //! The entries of all pairs, by a cursor and by a visit.
-use crate::tests::support::checks::{check as assert, check_eq as assert_eq};
+use crate::tests::support::checks::{check, check_eq};
 use linked_hash_map::LinkedHashMap;
 use std::test::Fail;
 
@@ -16,7 +16,7 @@ fn entries(rt: HostRuntime) -> Result<(), Fail> {
             }
         }
     }
-    assert_eq!(rt; (map.len(), map.get(&'x')), (1, Some(&1)));
+    check_eq!(rt; (map.len(), map.get(&'x')), (1, Some(&1)));
     Ok(())
 }
 
@@ -27,10 +27,10 @@ fn next(rt: HostRuntime) -> Result<(), Fail> {
     map.extend([('x', 1), ('y', 2)])?;
     let mut cursor = map.entries();
     if let Some(mut entry) = cursor.next() {
-        assert_eq!(rt; entry.insert(3), 1);
+        check_eq!(rt; entry.insert(3), 1);
     }
-    assert_eq!(rt; cursor.remaining(), 1);
-    assert_eq!(rt; map.back(), Some((&'x', &3)));
+    check_eq!(rt; cursor.remaining(), 1);
+    check_eq!(rt; map.back(), Some((&'x', &3)));
     Ok(())
 }
 
@@ -45,7 +45,7 @@ fn visit(rt: HostRuntime) -> Result<(), Fail> {
             entry.remove();
         }
     }
-    assert_eq!(rt; (map.len(), map.get(&'x')), (1, Some(&1)));
+    check_eq!(rt; (map.len(), map.get(&'x')), (1, Some(&1)));
     Ok(())
 }
 
@@ -56,10 +56,10 @@ fn next_entry(rt: HostRuntime) -> Result<(), Fail> {
     map.extend([('x', 1), ('y', 2)])?;
     let entries = map.visit();
     if let Some(mut entry) = entries.next_entry() {
-        assert_eq!(rt; entry.insert(3), 1);
+        check_eq!(rt; entry.insert(3), 1);
     }
-    assert_eq!(rt; entries.remove(&'x'), Some(3));
-    assert!(rt; entries.next_entry().is_none());
+    check_eq!(rt; entries.remove(&'x'), Some(3));
+    check!(rt; entries.next_entry().is_none());
     Ok(())
 }
 
@@ -70,8 +70,8 @@ fn unvisited(rt: HostRuntime) -> Result<(), Fail> {
     map.extend([('x', 1), ('y', 2)])?;
     let entries = map.visit();
     if let Some(mut entry) = entries.next_entry() {
-        assert_eq!(rt; entry.insert(3), 1);
+        check_eq!(rt; entry.insert(3), 1);
     }
-    assert_eq!(rt; entries.unvisited(), 1);
+    check_eq!(rt; entries.unvisited(), 1);
     Ok(())
 }

@@ -1,5 +1,5 @@
 //! The entry of a key.
-use crate::tests::support::checks::{check as assert, check_eq as assert_eq};
+use crate::tests::support::checks::{check, check_eq};
 use linked_hash_map::{Entry, LinkedHashMap};
 use std::test::Fail;
 
@@ -9,10 +9,10 @@ fn entries_by_case(rt: HostRuntime) -> Result<(), Fail> {
     let mut map = LinkedHashMap::new(rt.alloc());
     map.insert('x', 1)?;
     match map.entry('x') {
-        Entry::Occupied(mut entry) => assert_eq!(rt; entry.insert(2), 1),
-        Entry::Vacant(entry) => assert_eq!(rt; *entry.insert(3)?, 3),
+        Entry::Occupied(mut entry) => check_eq!(rt; entry.insert(2), 1),
+        Entry::Vacant(entry) => check_eq!(rt; *entry.insert(3)?, 3),
     }
-    assert_eq!(rt; map.get(&'x'), Some(&2));
+    check_eq!(rt; map.get(&'x'), Some(&2));
     Ok(())
 }
 
@@ -21,8 +21,8 @@ fn entries_by_case(rt: HostRuntime) -> Result<(), Fail> {
 fn entry(rt: HostRuntime) -> Result<(), Fail> {
     let mut map = LinkedHashMap::new(rt.alloc());
     map.insert('x', 1)?;
-    assert!(rt; matches!(&map.entry('x'), Entry::Occupied(_)));
-    assert!(rt; matches!(&map.entry('y'), Entry::Vacant(_)));
+    check!(rt; matches!(&map.entry('x'), Entry::Occupied(_)));
+    check!(rt; matches!(&map.entry('y'), Entry::Vacant(_)));
     Ok(())
 }
 
@@ -31,7 +31,7 @@ fn entry(rt: HostRuntime) -> Result<(), Fail> {
 fn key(rt: HostRuntime) -> Result<(), Fail> {
     let mut map = LinkedHashMap::new(rt.alloc());
     map.insert('x', 1)?;
-    assert_eq!(rt; *map.entry('x').key(), 'x');
+    check_eq!(rt; *map.entry('x').key(), 'x');
     Ok(())
 }
 
@@ -41,7 +41,7 @@ fn and_modify(rt: HostRuntime) -> Result<(), Fail> {
     let mut map = LinkedHashMap::new(rt.alloc());
     map.insert('x', 1)?;
     let lent = map.entry('x').and_modify(|value| *value = 2).or_insert(3)?;
-    assert_eq!(rt; *lent, 2);
+    check_eq!(rt; *lent, 2);
     Ok(())
 }
 
@@ -51,7 +51,7 @@ fn or_insert(rt: HostRuntime) -> Result<(), Fail> {
     let mut map = LinkedHashMap::new(rt.alloc());
     let lent = map.entry('x').or_insert(1)?;
     *lent = 2;
-    assert_eq!(rt; map.get(&'x'), Some(&2));
+    check_eq!(rt; map.get(&'x'), Some(&2));
     Ok(())
 }
 
@@ -60,7 +60,7 @@ fn or_insert(rt: HostRuntime) -> Result<(), Fail> {
 fn or_insert_with(rt: HostRuntime) -> Result<(), Fail> {
     let mut map = LinkedHashMap::new(rt.alloc());
     let lent = map.entry('x').or_insert_with(|| 1)?;
-    assert_eq!(rt; *lent, 1);
+    check_eq!(rt; *lent, 1);
     Ok(())
 }
 
@@ -69,7 +69,7 @@ fn or_insert_with(rt: HostRuntime) -> Result<(), Fail> {
 fn or_insert_with_key(rt: HostRuntime) -> Result<(), Fail> {
     let mut map = LinkedHashMap::new(rt.alloc());
     let lent = map.entry(7_u64).or_insert_with_key(|key| *key / 2)?;
-    assert_eq!(rt; *lent, 3);
+    check_eq!(rt; *lent, 3);
     Ok(())
 }
 
@@ -78,7 +78,7 @@ fn or_insert_with_key(rt: HostRuntime) -> Result<(), Fail> {
 fn or_default(rt: HostRuntime) -> Result<(), Fail> {
     let mut map: LinkedHashMap<char, u64> = LinkedHashMap::new(rt.alloc());
     let lent = map.entry('x').or_default()?;
-    assert_eq!(rt; *lent, 0);
+    check_eq!(rt; *lent, 0);
     Ok(())
 }
 
@@ -88,11 +88,11 @@ fn occupied_entry(rt: HostRuntime) -> Result<(), Fail> {
     let mut map = LinkedHashMap::new(rt.alloc());
     map.insert('x', 1)?;
     if let Entry::Occupied(mut entry) = map.entry('x') {
-        assert_eq!(rt; (*entry.key(), *entry.get()), ('x', 1));
+        check_eq!(rt; (*entry.key(), *entry.get()), ('x', 1));
         *entry.get_mut() = 2;
-        assert_eq!(rt; entry.remove(), 2);
+        check_eq!(rt; entry.remove(), 2);
     }
-    assert!(rt; map.is_empty());
+    check!(rt; map.is_empty());
     Ok(())
 }
 
@@ -104,7 +104,7 @@ fn into_mut(rt: HostRuntime) -> Result<(), Fail> {
     if let Entry::Occupied(entry) = map.entry('x') {
         *entry.into_mut() = 2;
     }
-    assert_eq!(rt; map.get(&'x'), Some(&2));
+    check_eq!(rt; map.get(&'x'), Some(&2));
     Ok(())
 }
 
@@ -114,9 +114,9 @@ fn insert(rt: HostRuntime) -> Result<(), Fail> {
     let mut map = LinkedHashMap::new(rt.alloc());
     map.extend([('x', 1), ('y', 2)])?;
     if let Entry::Occupied(mut entry) = map.entry('x') {
-        assert_eq!(rt; entry.insert(3), 1);
+        check_eq!(rt; entry.insert(3), 1);
     }
-    assert_eq!(rt; map.back(), Some((&'x', &3)));
+    check_eq!(rt; map.back(), Some((&'x', &3)));
     Ok(())
 }
 
@@ -128,7 +128,7 @@ fn move_to_back(rt: HostRuntime) -> Result<(), Fail> {
     if let Entry::Occupied(mut entry) = map.entry('x') {
         entry.move_to_back();
     }
-    assert_eq!(rt; map.back(), Some((&'x', &1)));
+    check_eq!(rt; map.back(), Some((&'x', &1)));
     Ok(())
 }
 
@@ -140,7 +140,7 @@ fn move_to_front(rt: HostRuntime) -> Result<(), Fail> {
     if let Entry::Occupied(mut entry) = map.entry('y') {
         entry.move_to_front();
     }
-    assert_eq!(rt; map.front(), Some((&'y', &2)));
+    check_eq!(rt; map.front(), Some((&'y', &2)));
     Ok(())
 }
 
@@ -150,10 +150,10 @@ fn replace_key(rt: HostRuntime) -> Result<(), Fail> {
     let mut map = LinkedHashMap::new(rt.alloc());
     map.insert('x', 1)?;
     if let Entry::Occupied(mut entry) = map.entry('x') {
-        assert_eq!(rt; entry.replace_key('x'), Ok('x'));
-        assert_eq!(rt; entry.replace_key('y'), Err('y'));
+        check_eq!(rt; entry.replace_key('x'), Ok('x'));
+        check_eq!(rt; entry.replace_key('y'), Err('y'));
     }
-    assert_eq!(rt; map.get(&'x'), Some(&1));
+    check_eq!(rt; map.get(&'x'), Some(&1));
     Ok(())
 }
 
@@ -163,9 +163,9 @@ fn remove_entry(rt: HostRuntime) -> Result<(), Fail> {
     let mut map = LinkedHashMap::new(rt.alloc());
     map.insert('x', 1)?;
     if let Entry::Occupied(entry) = map.entry('x') {
-        assert_eq!(rt; entry.remove_entry(), ('x', 1));
+        check_eq!(rt; entry.remove_entry(), ('x', 1));
     }
-    assert!(rt; map.is_empty());
+    check!(rt; map.is_empty());
     Ok(())
 }
 
@@ -174,9 +174,9 @@ fn remove_entry(rt: HostRuntime) -> Result<(), Fail> {
 fn into_key(rt: HostRuntime) -> Result<(), Fail> {
     let mut map: LinkedHashMap<char, u64> = LinkedHashMap::new(rt.alloc());
     if let Entry::Vacant(entry) = map.entry('x') {
-        assert_eq!(rt; entry.into_key(), 'x');
+        check_eq!(rt; entry.into_key(), 'x');
     }
-    assert!(rt; map.is_empty());
+    check!(rt; map.is_empty());
     Ok(())
 }
 
@@ -185,10 +185,10 @@ fn into_key(rt: HostRuntime) -> Result<(), Fail> {
 fn vacant_entry(rt: HostRuntime) -> Result<(), Fail> {
     let mut map = LinkedHashMap::new(rt.alloc());
     if let Entry::Vacant(entry) = map.entry('x') {
-        assert_eq!(rt; *entry.key(), 'x');
+        check_eq!(rt; *entry.key(), 'x');
         let lent = entry.insert(1)?;
         *lent = 2;
     }
-    assert_eq!(rt; map.get(&'x'), Some(&2));
+    check_eq!(rt; map.get(&'x'), Some(&2));
     Ok(())
 }

@@ -1,5 +1,5 @@
 //! Inserting pairs.
-use crate::tests::support::checks::{check as assert, check_eq as assert_eq};
+use crate::tests::support::checks::{check, check_eq};
 use linked_hash_map::{LinkedHashMap, Mode};
 use std::collections::HashMap;
 use std::mem::try_take;
@@ -9,10 +9,10 @@ use std::test::Fail;
 #[test]
 fn insert(rt: HostRuntime) -> Result<(), Fail> {
     let mut map = LinkedHashMap::new(rt.alloc());
-    assert_eq!(rt; map.insert('x', 1)?, None);
-    assert_eq!(rt; map.insert('y', 2)?, None);
-    assert_eq!(rt; map.insert('x', 3)?, Some(1));
-    assert_eq!(rt; map.back(), Some((&'x', &3)));
+    check_eq!(rt; map.insert('x', 1)?, None);
+    check_eq!(rt; map.insert('y', 2)?, None);
+    check_eq!(rt; map.insert('x', 3)?, Some(1));
+    check_eq!(rt; map.back(), Some((&'x', &3)));
     Ok(())
 }
 
@@ -21,9 +21,9 @@ fn insert(rt: HostRuntime) -> Result<(), Fail> {
 fn insert_within_capacity(rt: HostRuntime) -> Result<(), Fail> {
     let mut map = LinkedHashMap::with_capacity(rt.alloc(), 1)?;
     if map.len() < map.capacity() {
-        assert_eq!(rt; map.insert_within_capacity('x', 1), None);
+        check_eq!(rt; map.insert_within_capacity('x', 1), None);
     }
-    assert_eq!(rt; map.get(&'x'), Some(&1));
+    check_eq!(rt; map.get(&'x'), Some(&1));
     Ok(())
 }
 
@@ -32,8 +32,8 @@ fn insert_within_capacity(rt: HostRuntime) -> Result<(), Fail> {
 fn refused(rt: HostRuntime) -> Result<(), Fail> {
     let mut map = LinkedHashMap::new(rt.alloc());
     if let Err(refused) = map.insert('x', 1) {
-        assert_eq!(rt; (refused.key, refused.value), ('x', 1));
-        assert!(rt; map.is_empty());
+        check_eq!(rt; (refused.key, refused.value), ('x', 1));
+        check!(rt; map.is_empty());
     }
     Ok(())
 }
@@ -43,8 +43,8 @@ fn refused(rt: HostRuntime) -> Result<(), Fail> {
 fn extend(rt: HostRuntime) -> Result<(), Fail> {
     let mut map = LinkedHashMap::new(rt.alloc());
     map.extend([('x', 1), ('y', 2), ('x', 3)])?;
-    assert_eq!(rt; map.front(), Some((&'y', &2)));
-    assert_eq!(rt; map.back(), Some((&'x', &3)));
+    check_eq!(rt; map.front(), Some((&'y', &2)));
+    check_eq!(rt; map.back(), Some((&'x', &3)));
     Ok(())
 }
 
@@ -53,7 +53,7 @@ fn extend(rt: HostRuntime) -> Result<(), Fail> {
 fn extend_refs(rt: HostRuntime) -> Result<(), Fail> {
     let mut map = LinkedHashMap::new(rt.alloc());
     map.extend_refs([(&'x', &1), (&'y', &2)])?;
-    assert_eq!(rt; map.back(), Some((&'y', &2)));
+    check_eq!(rt; map.back(), Some((&'y', &2)));
     Ok(())
 }
 
@@ -62,10 +62,10 @@ fn extend_refs(rt: HostRuntime) -> Result<(), Fail> {
 fn modes(rt: HostRuntime) -> Result<(), Fail> {
     let mut map = LinkedHashMap::new(rt.alloc());
     map.extend([('x', 1), ('y', 2)])?;
-    assert_eq!(rt; map.mode(), Mode::Touch);
+    check_eq!(rt; map.mode(), Mode::Touch);
     map.set_mode(Mode::Keep);
-    assert_eq!(rt; map.insert('x', 3)?, Some(1));
-    assert_eq!(rt; map.front(), Some((&'x', &3)));
+    check_eq!(rt; map.insert('x', 3)?, Some(1));
+    check_eq!(rt; map.front(), Some((&'x', &3)));
     Ok(())
 }
 
@@ -76,10 +76,10 @@ fn set_mode(rt: HostRuntime) -> Result<(), Fail> {
     map.extend([('x', 1), ('y', 2)])?;
     map.set_mode(Mode::Keep);
     map.insert('x', 3)?;
-    assert_eq!(rt; map.back(), Some((&'y', &2)));
+    check_eq!(rt; map.back(), Some((&'y', &2)));
     map.set_mode(Mode::Touch);
     map.insert('x', 4)?;
-    assert_eq!(rt; map.back(), Some((&'x', &4)));
+    check_eq!(rt; map.back(), Some((&'x', &4)));
     Ok(())
 }
 
@@ -88,7 +88,7 @@ fn set_mode(rt: HostRuntime) -> Result<(), Fail> {
 fn mode(rt: HostRuntime) -> Result<(), Fail> {
     let mut map: LinkedHashMap<char, u64> = LinkedHashMap::new(rt.alloc());
     map.set_mode(Mode::Keep);
-    assert_eq!(rt; map.mode(), Mode::Keep);
+    check_eq!(rt; map.mode(), Mode::Keep);
     Ok(())
 }
 
@@ -97,7 +97,7 @@ fn mode(rt: HostRuntime) -> Result<(), Fail> {
 fn extend_by_the_trait(rt: HostRuntime) -> Result<(), Fail> {
     let mut map = LinkedHashMap::new(rt.alloc());
     Extend::extend(&mut map, [('x', 1), ('y', 2), ('x', 3)])?;
-    assert_eq!(rt; map.back(), Some((&'x', &3)));
+    check_eq!(rt; map.back(), Some((&'x', &3)));
     Ok(())
 }
 
@@ -106,7 +106,7 @@ fn extend_by_the_trait(rt: HostRuntime) -> Result<(), Fail> {
 fn extend_refs_by_the_trait(rt: HostRuntime) -> Result<(), Fail> {
     let mut map = LinkedHashMap::new(rt.alloc());
     Extend::extend(&mut map, [(&'x', &1), (&'y', &2)])?;
-    assert_eq!(rt; map.back(), Some((&'y', &2)));
+    check_eq!(rt; map.back(), Some((&'y', &2)));
     Ok(())
 }
 
@@ -115,7 +115,7 @@ fn extend_refs_by_the_trait(rt: HostRuntime) -> Result<(), Fail> {
 fn collect(rt: HostRuntime) -> Result<(), Fail> {
     let pairs = [('x', 1), ('y', 2), ('x', 3)];
     let map: LinkedHashMap<char, u64> = pairs.into_iter().collect(rt.alloc())?;
-    assert_eq!(rt; (map.len(), map.back()), (2, Some((&'x', &3))));
+    check_eq!(rt; (map.len(), map.back()), (2, Some((&'x', &3))));
     Ok(())
 }
 
@@ -125,7 +125,7 @@ fn take(rt: HostRuntime) -> Result<(), Fail> {
     let mut map = LinkedHashMap::new(rt.alloc());
     map.insert('x', 1)?;
     let taken = try_take(&mut map)?;
-    assert_eq!(rt; (taken.len(), map.len()), (1, 0));
+    check_eq!(rt; (taken.len(), map.len()), (1, 0));
     Ok(())
 }
 
@@ -134,7 +134,7 @@ fn take(rt: HostRuntime) -> Result<(), Fail> {
 fn made_with(rt: HostRuntime) -> Result<(), Fail> {
     let mut maps: HashMap<char, LinkedHashMap<char, u64>> = HashMap::new(rt.alloc());
     maps.entry('a')?.or_default().insert('x', 1)?;
-    assert_eq!(rt; maps.len(), 1);
+    check_eq!(rt; maps.len(), 1);
     Ok(())
 }
 
@@ -143,8 +143,8 @@ fn made_with(rt: HostRuntime) -> Result<(), Fail> {
 fn replace_key(rt: HostRuntime) -> Result<(), Fail> {
     let mut map = LinkedHashMap::new(rt.alloc());
     map.insert('x', 1)?;
-    assert_eq!(rt; map.replace_key('x'), Ok('x'));
-    assert_eq!(rt; map.replace_key('y'), Err('y'));
-    assert_eq!(rt; map.len(), 1);
+    check_eq!(rt; map.replace_key('x'), Ok('x'));
+    check_eq!(rt; map.replace_key('y'), Err('y'));
+    check_eq!(rt; map.len(), 1);
     Ok(())
 }

@@ -1,5 +1,5 @@
 //! Iterators over maps.
-use crate::tests::support::checks::check_eq as assert_eq;
+use crate::tests::support::checks::check_eq;
 use linked_hash_map::LinkedHashMap;
 use std::test::Fail;
 
@@ -9,10 +9,10 @@ fn iter(rt: HostRuntime) -> Result<(), Fail> {
     let mut map = LinkedHashMap::new(rt.alloc());
     map.extend([('x', 1), ('y', 2)])?;
     let mut pairs = map.iter();
-    assert_eq!(rt; pairs.next(), Some((&'x', &1)));
+    check_eq!(rt; pairs.next(), Some((&'x', &1)));
     let mut rest = pairs.clone()?;
-    assert_eq!(rt; rest.next_back(), Some((&'y', &2)));
-    assert_eq!(rt; (pairs.len(), rest.len()), (1, 0));
+    check_eq!(rt; rest.next_back(), Some((&'y', &2)));
+    check_eq!(rt; (pairs.len(), rest.len()), (1, 0));
     Ok(())
 }
 
@@ -25,7 +25,7 @@ fn loop_over_a_borrowed_map(rt: HostRuntime) -> Result<(), Fail> {
     for (key, value) in &map {
         last = Some((*key, *value));
     }
-    assert_eq!(rt; last, Some(('y', 2)));
+    check_eq!(rt; last, Some(('y', 2)));
     Ok(())
 }
 
@@ -35,9 +35,9 @@ fn keys(rt: HostRuntime) -> Result<(), Fail> {
     let mut map = LinkedHashMap::new(rt.alloc());
     map.extend([('x', 1), ('y', 2)])?;
     let mut keys = map.keys();
-    assert_eq!(rt; keys.next(), Some(&'x'));
-    assert_eq!(rt; keys.next(), Some(&'y'));
-    assert_eq!(rt; keys.next(), None);
+    check_eq!(rt; keys.next(), Some(&'x'));
+    check_eq!(rt; keys.next(), Some(&'y'));
+    check_eq!(rt; keys.next(), None);
     Ok(())
 }
 
@@ -47,9 +47,9 @@ fn values(rt: HostRuntime) -> Result<(), Fail> {
     let mut map = LinkedHashMap::new(rt.alloc());
     map.extend([('x', 1), ('y', 2)])?;
     let mut values = map.values();
-    assert_eq!(rt; values.next_back(), Some(&2));
-    assert_eq!(rt; values.next_back(), Some(&1));
-    assert_eq!(rt; values.next_back(), None);
+    check_eq!(rt; values.next_back(), Some(&2));
+    check_eq!(rt; values.next_back(), Some(&1));
+    check_eq!(rt; values.next_back(), None);
     Ok(())
 }
 
@@ -62,7 +62,7 @@ fn iter_mut(rt: HostRuntime) -> Result<(), Fail> {
     if let Some((_key, value)) = pairs.next() {
         *value = 3;
     }
-    assert_eq!(rt; map.get(&'x'), Some(&3));
+    check_eq!(rt; map.get(&'x'), Some(&3));
     Ok(())
 }
 
@@ -74,7 +74,7 @@ fn loop_over_a_mutable_map(rt: HostRuntime) -> Result<(), Fail> {
     for (_key, value) in &mut map {
         *value = 3;
     }
-    assert_eq!(rt; map.get(&'x'), Some(&3));
+    check_eq!(rt; map.get(&'x'), Some(&3));
     Ok(())
 }
 
@@ -84,10 +84,10 @@ fn into_iter(rt: HostRuntime) -> Result<(), Fail> {
     let mut map = LinkedHashMap::new(rt.alloc());
     map.extend([('x', 1), ('y', 2)])?;
     let mut pairs = map.into_iter();
-    assert_eq!(rt; pairs.next_back(), Some(('y', 2)));
+    check_eq!(rt; pairs.next_back(), Some(('y', 2)));
     let mut rest = pairs.clone()?;
-    assert_eq!(rt; rest.next(), Some(('x', 1)));
-    assert_eq!(rt; (pairs.len(), rest.len()), (1, 0));
+    check_eq!(rt; rest.next(), Some(('x', 1)));
+    check_eq!(rt; (pairs.len(), rest.len()), (1, 0));
     Ok(())
 }
 
@@ -97,9 +97,9 @@ fn into_keys(rt: HostRuntime) -> Result<(), Fail> {
     let mut map = LinkedHashMap::new(rt.alloc());
     map.extend([('x', 1), ('y', 2)])?;
     let mut keys = map.into_keys();
-    assert_eq!(rt; keys.next(), Some('x'));
-    assert_eq!(rt; keys.next(), Some('y'));
-    assert_eq!(rt; keys.next(), None);
+    check_eq!(rt; keys.next(), Some('x'));
+    check_eq!(rt; keys.next(), Some('y'));
+    check_eq!(rt; keys.next(), None);
     Ok(())
 }
 
@@ -109,9 +109,9 @@ fn into_values(rt: HostRuntime) -> Result<(), Fail> {
     let mut map = LinkedHashMap::new(rt.alloc());
     map.extend([('x', 1), ('y', 2)])?;
     let mut values = map.into_values();
-    assert_eq!(rt; values.next_back(), Some(2));
-    assert_eq!(rt; values.next_back(), Some(1));
-    assert_eq!(rt; values.next_back(), None);
+    check_eq!(rt; values.next_back(), Some(2));
+    check_eq!(rt; values.next_back(), Some(1));
+    check_eq!(rt; values.next_back(), None);
     Ok(())
 }
 
@@ -124,8 +124,8 @@ fn values_mut(rt: HostRuntime) -> Result<(), Fail> {
     if let Some(value) = values.next_back() {
         *value = 3;
     }
-    assert_eq!(rt; values.len(), 1);
-    assert_eq!(rt; map.get(&'y'), Some(&3));
+    check_eq!(rt; values.len(), 1);
+    check_eq!(rt; map.get(&'y'), Some(&3));
     Ok(())
 }
 
@@ -138,6 +138,6 @@ fn loop_over_a_map(rt: HostRuntime) -> Result<(), Fail> {
     for pair in map {
         last = Some(pair);
     }
-    assert_eq!(rt; last, Some(('y', 2)));
+    check_eq!(rt; last, Some(('y', 2)));
     Ok(())
 }

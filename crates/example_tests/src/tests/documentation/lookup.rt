@@ -1,5 +1,5 @@
 //! Looking pairs up.
-use crate::tests::support::checks::{check as assert, check_eq as assert_eq};
+use crate::tests::support::checks::{check, check_eq};
 use linked_hash_map::LinkedHashMap;
 use std::test::Fail;
 
@@ -8,8 +8,8 @@ use std::test::Fail;
 fn contains_key(rt: HostRuntime) -> Result<(), Fail> {
     let mut map = LinkedHashMap::new(rt.alloc());
     map.insert('x', 1)?;
-    assert!(rt; map.contains_key(&'x'));
-    assert!(rt; !map.contains_key(&'y'));
+    check!(rt; map.contains_key(&'x'));
+    check!(rt; !map.contains_key(&'y'));
     Ok(())
 }
 
@@ -18,8 +18,8 @@ fn contains_key(rt: HostRuntime) -> Result<(), Fail> {
 fn get(rt: HostRuntime) -> Result<(), Fail> {
     let mut map = LinkedHashMap::new(rt.alloc());
     map.insert('x', 1)?;
-    assert_eq!(rt; map.get(&'x'), Some(&1));
-    assert_eq!(rt; map.get(&'y'), None);
+    check_eq!(rt; map.get(&'x'), Some(&1));
+    check_eq!(rt; map.get(&'y'), None);
     Ok(())
 }
 
@@ -28,8 +28,8 @@ fn get(rt: HostRuntime) -> Result<(), Fail> {
 fn get_key_value(rt: HostRuntime) -> Result<(), Fail> {
     let mut map = LinkedHashMap::new(rt.alloc());
     map.insert('x', 1)?;
-    assert_eq!(rt; map.get_key_value(&'x'), Some((&'x', &1)));
-    assert_eq!(rt; map.get_key_value(&'y'), None);
+    check_eq!(rt; map.get_key_value(&'x'), Some((&'x', &1)));
+    check_eq!(rt; map.get_key_value(&'y'), None);
     Ok(())
 }
 
@@ -38,7 +38,7 @@ fn get_key_value(rt: HostRuntime) -> Result<(), Fail> {
 fn equivalent(rt: HostRuntime) -> Result<(), Fail> {
     let mut ages = LinkedHashMap::new(rt.alloc());
     ages.insert(String::from_str(rt.alloc(), "Zoe")?, 31)?;
-    assert_eq!(rt; ages.get("Zoe"), Some(&31));
+    check_eq!(rt; ages.get("Zoe"), Some(&31));
     Ok(())
 }
 
@@ -48,7 +48,7 @@ fn index(rt: HostRuntime) -> Result<(), Fail> {
     let mut map = LinkedHashMap::new(rt.alloc());
     map.insert('x', 1)?;
     if map.contains_key(&'x') {
-        assert_eq!(rt; map[&'x'], 1);
+        check_eq!(rt; map[&'x'], 1);
     }
     Ok(())
 }
@@ -61,7 +61,7 @@ fn get_mut(rt: HostRuntime) -> Result<(), Fail> {
     if let Some(value) = map.get_mut(&'x') {
         *value = 3;
     }
-    assert_eq!(rt; map.get(&'x'), Some(&3));
+    check_eq!(rt; map.get(&'x'), Some(&3));
     Ok(())
 }
 
@@ -72,7 +72,7 @@ fn index_mut(rt: HostRuntime) -> Result<(), Fail> {
     map.insert('x', 1)?;
     if map.contains_key(&'x') {
         map[&'x'] = 3;
-        assert_eq!(rt; map.get(&'x'), Some(&3));
+        check_eq!(rt; map.get(&'x'), Some(&3));
     }
     Ok(())
 }
@@ -85,7 +85,7 @@ fn get_refresh(rt: HostRuntime) -> Result<(), Fail> {
     if let Some(value) = map.get_refresh(&'x') {
         *value = 3;
     }
-    assert_eq!(rt; map.back(), Some((&'x', &3)));
+    check_eq!(rt; map.back(), Some((&'x', &3)));
     Ok(())
 }
 
@@ -97,7 +97,7 @@ fn front_mut(rt: HostRuntime) -> Result<(), Fail> {
     if let Some(value) = map.front_mut() {
         *value = 3;
     }
-    assert_eq!(rt; map.front(), Some((&'x', &3)));
+    check_eq!(rt; map.front(), Some((&'x', &3)));
     Ok(())
 }
 
@@ -109,7 +109,7 @@ fn back_mut(rt: HostRuntime) -> Result<(), Fail> {
     if let Some(value) = map.back_mut() {
         *value = 3;
     }
-    assert_eq!(rt; map.back(), Some((&'y', &3)));
+    check_eq!(rt; map.back(), Some((&'y', &3)));
     Ok(())
 }
 
@@ -118,7 +118,7 @@ fn back_mut(rt: HostRuntime) -> Result<(), Fail> {
 fn front(rt: HostRuntime) -> Result<(), Fail> {
     let mut map = LinkedHashMap::new(rt.alloc());
     map.extend([('x', 1), ('y', 2)])?;
-    assert_eq!(rt; map.front(), Some((&'x', &1)));
+    check_eq!(rt; map.front(), Some((&'x', &1)));
     Ok(())
 }
 
@@ -127,7 +127,7 @@ fn front(rt: HostRuntime) -> Result<(), Fail> {
 fn back(rt: HostRuntime) -> Result<(), Fail> {
     let mut map = LinkedHashMap::new(rt.alloc());
     map.extend([('x', 1), ('y', 2)])?;
-    assert_eq!(rt; map.back(), Some((&'y', &2)));
+    check_eq!(rt; map.back(), Some((&'y', &2)));
     Ok(())
 }
 
@@ -136,7 +136,7 @@ fn back(rt: HostRuntime) -> Result<(), Fail> {
 fn len(rt: HostRuntime) -> Result<(), Fail> {
     let mut map = LinkedHashMap::new(rt.alloc());
     map.insert('x', 1)?;
-    assert_eq!(rt; map.len(), 1);
+    check_eq!(rt; map.len(), 1);
     Ok(())
 }
 
@@ -144,9 +144,9 @@ fn len(rt: HostRuntime) -> Result<(), Fail> {
 #[test]
 fn is_empty(rt: HostRuntime) -> Result<(), Fail> {
     let mut map = LinkedHashMap::new(rt.alloc());
-    assert!(rt; map.is_empty());
+    check!(rt; map.is_empty());
     map.insert('x', 1)?;
-    assert!(rt; !map.is_empty());
+    check!(rt; !map.is_empty());
     Ok(())
 }
 
@@ -156,7 +156,7 @@ fn get_counted(rt: HostRuntime) -> Result<(), Fail> {
     let mut map = LinkedHashMap::new(rt.alloc());
     map.insert('x', 1)?;
     let (value, probe) = map.get_counted(&'x');
-    assert_eq!(rt; (value, probe.visited, probe.compared), (Some(&1), 1, 1));
+    check_eq!(rt; (value, probe.visited, probe.compared), (Some(&1), 1, 1));
     Ok(())
 }
 
@@ -167,6 +167,6 @@ fn rechained(rt: HostRuntime) -> Result<(), Fail> {
     for key in [1, 2, 3, 4, 5] {
         map.insert(key, 0)?;
     }
-    assert_eq!(rt; map.rechained(), 7);
+    check_eq!(rt; map.rechained(), 7);
     Ok(())
 }

@@ -1,5 +1,5 @@
 //! Making maps.
-use crate::tests::support::checks::{check as assert, check_eq as assert_eq};
+use crate::tests::support::checks::{check, check_eq};
 use linked_hash_map::{DefaultHashBuilder, LinkedHashMap};
 use std::hash::{BuildHasher, RandomState};
 use std::test::Fail;
@@ -13,18 +13,18 @@ fn the_crate(rt: HostRuntime) -> Result<(), Fail> {
 
     // A present key gets the new value, and its pair moves to the back.
     colours.insert(7, "blue")?;
-    assert_eq!(rt; colours.front(), Some((&5, &"green")));
+    check_eq!(rt; colours.front(), Some((&5, &"green")));
 
     // A lookup leaves the order. A refresh moves the pair to the back.
-    assert_eq!(rt; colours.get(&5), Some(&"green"));
-    assert_eq!(rt; colours.back(), Some((&7, &"blue")));
-    assert_eq!(rt; colours.get_refresh(&5).copied(), Some("green"));
-    assert_eq!(rt; colours.back(), Some((&5, &"green")));
+    check_eq!(rt; colours.get(&5), Some(&"green"));
+    check_eq!(rt; colours.back(), Some((&7, &"blue")));
+    check_eq!(rt; colours.get_refresh(&5).copied(), Some("green"));
+    check_eq!(rt; colours.back(), Some((&5, &"green")));
 
     // If an allocation fails, the pair comes back and the map is unchanged.
     match colours.insert(8, "grey") {
-        Ok(old) => assert_eq!(rt; old, None),
-        Err(refused) => assert_eq!(rt; (refused.key, refused.value), (8, "grey")),
+        Ok(old) => check_eq!(rt; old, None),
+        Err(refused) => check_eq!(rt; (refused.key, refused.value), (8, "grey")),
     }
     Ok(())
 }
@@ -33,11 +33,11 @@ fn the_crate(rt: HostRuntime) -> Result<(), Fail> {
 #[test]
 fn linked_hash_map(rt: HostRuntime) -> Result<(), Fail> {
     let mut map = LinkedHashMap::new(rt.alloc());
-    assert_eq!(rt; map.insert('x', 1)?, None);
-    assert_eq!(rt; map.insert('y', 2)?, None);
-    assert_eq!(rt; map.insert('x', 3)?, Some(1));
-    assert_eq!(rt; map.front(), Some((&'y', &2)));
-    assert_eq!(rt; map.back(), Some((&'x', &3)));
+    check_eq!(rt; map.insert('x', 1)?, None);
+    check_eq!(rt; map.insert('y', 2)?, None);
+    check_eq!(rt; map.insert('x', 3)?, Some(1));
+    check_eq!(rt; map.front(), Some((&'y', &2)));
+    check_eq!(rt; map.back(), Some((&'x', &3)));
     Ok(())
 }
 
@@ -45,7 +45,7 @@ fn linked_hash_map(rt: HostRuntime) -> Result<(), Fail> {
 #[test]
 fn new(rt: HostRuntime) -> Result<(), Fail> {
     let map: LinkedHashMap<char, u64> = LinkedHashMap::new(rt.alloc());
-    assert_eq!(rt; (map.len(), map.capacity()), (0, 0));
+    check_eq!(rt; (map.len(), map.capacity()), (0, 0));
     Ok(())
 }
 
@@ -53,7 +53,7 @@ fn new(rt: HostRuntime) -> Result<(), Fail> {
 #[test]
 fn with_capacity(rt: HostRuntime) -> Result<(), Fail> {
     let map: LinkedHashMap<char, u64> = LinkedHashMap::with_capacity(rt.alloc(), 5)?;
-    assert_eq!(rt; (map.len(), map.capacity()), (0, 5));
+    check_eq!(rt; (map.len(), map.capacity()), (0, 5));
     Ok(())
 }
 
@@ -63,7 +63,7 @@ fn with_hasher(rt: HostRuntime) -> Result<(), Fail> {
     let builder = RandomState::new(&rt)?;
     let mut map = LinkedHashMap::with_hasher(rt.alloc(), builder);
     map.insert('x', 1)?;
-    assert_eq!(rt; map.get(&'x'), Some(&1));
+    check_eq!(rt; map.get(&'x'), Some(&1));
     Ok(())
 }
 
@@ -73,7 +73,7 @@ fn hasher(rt: HostRuntime) -> Result<(), Fail> {
     let builder = RandomState::new(&rt)?;
     let mut map = LinkedHashMap::with_hasher(rt.alloc(), builder);
     map.insert('x', 1)?;
-    assert_eq!(rt; map.hasher().hash_one('x'), builder.hash_one('x'));
+    check_eq!(rt; map.hasher().hash_one('x'), builder.hash_one('x'));
     Ok(())
 }
 
@@ -83,7 +83,7 @@ fn with_capacity_and_hasher(rt: HostRuntime) -> Result<(), Fail> {
     let builder = DefaultHashBuilder::new();
     let mut map = LinkedHashMap::with_capacity_and_hasher(rt.alloc(), 2, builder)?;
     map.insert('x', 1)?;
-    assert_eq!(rt; (map.len(), map.capacity()), (1, 2));
+    check_eq!(rt; (map.len(), map.capacity()), (1, 2));
     Ok(())
 }
 
@@ -92,7 +92,7 @@ fn with_capacity_and_hasher(rt: HostRuntime) -> Result<(), Fail> {
 fn from_iter(rt: HostRuntime) -> Result<(), Fail> {
     let pairs = [('x', 1), ('y', 2)];
     let map: LinkedHashMap<char, u64> = LinkedHashMap::from_iter(rt.alloc(), pairs)?;
-    assert_eq!(rt; (map.len(), map.capacity()), (2, 2));
+    check_eq!(rt; (map.len(), map.capacity()), (2, 2));
     Ok(())
 }
 
@@ -102,7 +102,7 @@ fn clone(rt: HostRuntime) -> Result<(), Fail> {
     let mut map = LinkedHashMap::with_capacity(rt.alloc(), 5)?;
     map.insert('x', 1)?;
     let clone = map.clone()?;
-    assert!(rt; clone == map);
-    assert_eq!(rt; clone.capacity(), 1);
+    check!(rt; clone == map);
+    check_eq!(rt; clone.capacity(), 1);
     Ok(())
 }

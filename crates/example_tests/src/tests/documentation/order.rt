@@ -1,5 +1,5 @@
 //! Changing the order of the pairs.
-use crate::tests::support::checks::{check as assert, check_eq as assert_eq};
+use crate::tests::support::checks::{check, check_eq};
 use linked_hash_map::LinkedHashMap;
 use std::test::Fail;
 
@@ -8,9 +8,9 @@ use std::test::Fail;
 fn move_to_back(rt: HostRuntime) -> Result<(), Fail> {
     let mut map = LinkedHashMap::new(rt.alloc());
     map.extend([('x', 1), ('y', 2)])?;
-    assert!(rt; map.move_to_back(&'x'));
-    assert_eq!(rt; map.back(), Some((&'x', &1)));
-    assert!(rt; !map.move_to_back(&'z'));
+    check!(rt; map.move_to_back(&'x'));
+    check_eq!(rt; map.back(), Some((&'x', &1)));
+    check!(rt; !map.move_to_back(&'z'));
     Ok(())
 }
 
@@ -19,9 +19,9 @@ fn move_to_back(rt: HostRuntime) -> Result<(), Fail> {
 fn move_to_front(rt: HostRuntime) -> Result<(), Fail> {
     let mut map = LinkedHashMap::new(rt.alloc());
     map.extend([('x', 1), ('y', 2)])?;
-    assert!(rt; map.move_to_front(&'y'));
-    assert_eq!(rt; map.front(), Some((&'y', &2)));
-    assert!(rt; !map.move_to_front(&'z'));
+    check!(rt; map.move_to_front(&'y'));
+    check_eq!(rt; map.front(), Some((&'y', &2)));
+    check!(rt; !map.move_to_front(&'z'));
     Ok(())
 }
 
@@ -33,7 +33,7 @@ fn rotate_left(rt: HostRuntime) -> Result<(), Fail> {
     if map.len() >= 2 {
         map.rotate_left(2);
     }
-    assert_eq!(rt; map.front(), Some((&'z', &3)));
-    assert_eq!(rt; map.back(), Some((&'y', &2)));
+    check_eq!(rt; map.front(), Some((&'z', &3)));
+    check_eq!(rt; map.back(), Some((&'y', &2)));
     Ok(())
 }

@@ -1,5 +1,5 @@
 //! Taking pairs out.
-use crate::tests::support::checks::check_eq as assert_eq;
+use crate::tests::support::checks::check_eq;
 use linked_hash_map::LinkedHashMap;
 use std::test::Fail;
 
@@ -8,9 +8,9 @@ use std::test::Fail;
 fn remove(rt: HostRuntime) -> Result<(), Fail> {
     let mut map = LinkedHashMap::new(rt.alloc());
     map.extend([('x', 1), ('y', 2)])?;
-    assert_eq!(rt; map.remove(&'x'), Some(1));
-    assert_eq!(rt; map.remove(&'x'), None);
-    assert_eq!(rt; (map.len(), map.capacity()), (1, 2));
+    check_eq!(rt; map.remove(&'x'), Some(1));
+    check_eq!(rt; map.remove(&'x'), None);
+    check_eq!(rt; (map.len(), map.capacity()), (1, 2));
     Ok(())
 }
 
@@ -19,9 +19,9 @@ fn remove(rt: HostRuntime) -> Result<(), Fail> {
 fn remove_entry(rt: HostRuntime) -> Result<(), Fail> {
     let mut map = LinkedHashMap::new(rt.alloc());
     map.extend([('x', 1), ('y', 2)])?;
-    assert_eq!(rt; map.remove_entry(&'x'), Some(('x', 1)));
-    assert_eq!(rt; map.remove_entry(&'x'), None);
-    assert_eq!(rt; (map.len(), map.capacity()), (1, 2));
+    check_eq!(rt; map.remove_entry(&'x'), Some(('x', 1)));
+    check_eq!(rt; map.remove_entry(&'x'), None);
+    check_eq!(rt; (map.len(), map.capacity()), (1, 2));
     Ok(())
 }
 
@@ -30,8 +30,8 @@ fn remove_entry(rt: HostRuntime) -> Result<(), Fail> {
 fn pop_front(rt: HostRuntime) -> Result<(), Fail> {
     let mut map = LinkedHashMap::new(rt.alloc());
     map.extend([('x', 1), ('y', 2)])?;
-    assert_eq!(rt; map.pop_front(), Some(('x', 1)));
-    assert_eq!(rt; map.front(), Some((&'y', &2)));
+    check_eq!(rt; map.pop_front(), Some(('x', 1)));
+    check_eq!(rt; map.front(), Some((&'y', &2)));
     Ok(())
 }
 
@@ -40,8 +40,8 @@ fn pop_front(rt: HostRuntime) -> Result<(), Fail> {
 fn pop_back(rt: HostRuntime) -> Result<(), Fail> {
     let mut map = LinkedHashMap::new(rt.alloc());
     map.extend([('x', 1), ('y', 2)])?;
-    assert_eq!(rt; map.pop_back(), Some(('y', 2)));
-    assert_eq!(rt; map.back(), Some((&'x', &1)));
+    check_eq!(rt; map.pop_back(), Some(('y', 2)));
+    check_eq!(rt; map.back(), Some((&'x', &1)));
     Ok(())
 }
 
@@ -51,7 +51,7 @@ fn clear(rt: HostRuntime) -> Result<(), Fail> {
     let mut map = LinkedHashMap::new(rt.alloc());
     map.insert('x', 1)?;
     map.clear();
-    assert_eq!(rt; (map.len(), map.capacity()), (0, 1));
+    check_eq!(rt; (map.len(), map.capacity()), (0, 1));
     Ok(())
 }
 
@@ -61,10 +61,10 @@ fn drain(rt: HostRuntime) -> Result<(), Fail> {
     let mut map = LinkedHashMap::new(rt.alloc());
     map.extend([('x', 1), ('y', 2)])?;
     let mut pairs = map.drain();
-    assert_eq!(rt; pairs.next(), Some(('x', 1)));
-    assert_eq!(rt; pairs.len(), 1);
+    check_eq!(rt; pairs.next(), Some(('x', 1)));
+    check_eq!(rt; pairs.len(), 1);
     drop(pairs);
-    assert_eq!(rt; (map.len(), map.capacity()), (0, 2));
+    check_eq!(rt; (map.len(), map.capacity()), (0, 2));
     Ok(())
 }
 
@@ -77,8 +77,8 @@ fn retain(rt: HostRuntime) -> Result<(), Fail> {
         *value = 7;
         *key != 'y'
     });
-    assert_eq!(rt; (map.len(), map.get(&'y')), (2, None));
-    assert_eq!(rt; map.front(), Some((&'x', &7)));
-    assert_eq!(rt; map.back(), Some((&'z', &7)));
+    check_eq!(rt; (map.len(), map.get(&'y')), (2, None));
+    check_eq!(rt; map.front(), Some((&'x', &7)));
+    check_eq!(rt; map.back(), Some((&'z', &7)));
     Ok(())
 }

@@ -1,5 +1,5 @@
 //! Running commands.
-use crate::tests::support::checks::{check as assert, check_eq as assert_eq};
+use crate::tests::support::checks::{check, check_eq};
 use linked_hash_map::LinkedHashMap;
 use linked_hash_map::replay::{Answer, Command, PairList, replay};
 use std::test::Fail;
@@ -10,12 +10,12 @@ fn commands(rt: HostRuntime) -> Result<(), Fail> {
     let mut map = LinkedHashMap::new(rt.alloc());
     let commands = Vec::from_array(rt.alloc(), [Command::Insert('x', 1), Command::PopFront])?;
     let mut replies = replay(&mut map, commands)?.into_iter();
-    assert_eq!(rt; replies.next().map(|reply| reply.answer), Some(Answer::New));
-    assert_eq!(rt;
+    check_eq!(rt; replies.next().map(|reply| reply.answer), Some(Answer::New));
+    check_eq!(rt;
         replies.next().map(|reply| reply.answer),
         Some(Answer::Pair('x', 1))
     );
-    assert_eq!(rt; (map.len(), map.capacity()), (0, 1));
+    check_eq!(rt; (map.len(), map.capacity()), (0, 1));
     Ok(())
 }
 
@@ -25,8 +25,8 @@ fn reply(rt: HostRuntime) -> Result<(), Fail> {
     let mut map: LinkedHashMap<char, u64> = LinkedHashMap::new(rt.alloc());
     let commands = Vec::from_array(rt.alloc(), [Command::Reserve(4)])?;
     for reply in replay(&mut map, commands)? {
-        assert_eq!(rt; reply.answer, Answer::Done);
-        assert_eq!(rt; (reply.len, reply.capacity), (0, 4));
+        check_eq!(rt; reply.answer, Answer::Done);
+        check_eq!(rt; (reply.len, reply.capacity), (0, 4));
     }
     Ok(())
 }
@@ -35,8 +35,8 @@ fn reply(rt: HostRuntime) -> Result<(), Fail> {
 #[test]
 fn pair_list(rt: HostRuntime) -> Result<(), Fail> {
     let list = PairList::from_vec(Vec::from_array(rt.alloc(), [('x', 1), ('y', 2)])?);
-    assert_eq!(rt; (list.len(), list.is_empty()), (2, false));
-    assert_eq!(rt; list.as_slice(), [('x', 1), ('y', 2)].as_slice());
+    check_eq!(rt; (list.len(), list.is_empty()), (2, false));
+    check_eq!(rt; list.as_slice(), [('x', 1), ('y', 2)].as_slice());
     Ok(())
 }
 
@@ -44,7 +44,7 @@ fn pair_list(rt: HostRuntime) -> Result<(), Fail> {
 #[test]
 fn into_vec(rt: HostRuntime) -> Result<(), Fail> {
     let list = PairList::from_vec(Vec::from_array(rt.alloc(), [('x', 1), ('y', 2)])?);
-    assert_eq!(rt; list.into_vec().as_slice(), [('x', 1), ('y', 2)].as_slice());
+    check_eq!(rt; list.into_vec().as_slice(), [('x', 1), ('y', 2)].as_slice());
     Ok(())
 }
 
@@ -52,7 +52,7 @@ fn into_vec(rt: HostRuntime) -> Result<(), Fail> {
 #[test]
 fn as_slice(rt: HostRuntime) -> Result<(), Fail> {
     let list = PairList::from_vec(Vec::from_array(rt.alloc(), [('x', 1), ('y', 2)])?);
-    assert_eq!(rt; list.as_slice(), [('x', 1), ('y', 2)].as_slice());
+    check_eq!(rt; list.as_slice(), [('x', 1), ('y', 2)].as_slice());
     Ok(())
 }
 
@@ -60,7 +60,7 @@ fn as_slice(rt: HostRuntime) -> Result<(), Fail> {
 #[test]
 fn vector_from(rt: HostRuntime) -> Result<(), Fail> {
     let list = PairList::from_vec(Vec::from_array(rt.alloc(), [('x', 1), ('y', 2)])?);
-    assert_eq!(rt; Vec::from(list).as_slice(), [('x', 1), ('y', 2)].as_slice());
+    check_eq!(rt; Vec::from(list).as_slice(), [('x', 1), ('y', 2)].as_slice());
     Ok(())
 }
 
@@ -68,6 +68,6 @@ fn vector_from(rt: HostRuntime) -> Result<(), Fail> {
 #[test]
 fn from(rt: HostRuntime) -> Result<(), Fail> {
     let list = PairList::from_vec(Vec::from_array(rt.alloc(), [('x', 1), ('y', 2)])?);
-    assert!(rt; list == PairList::from(Vec::from_array(rt.alloc(), [('x', 1), ('y', 2)])?));
+    check!(rt; list == PairList::from(Vec::from_array(rt.alloc(), [('x', 1), ('y', 2)])?));
     Ok(())
 }

@@ -1,5 +1,5 @@
 //! Tables of sessions.
-use crate::tests::support::checks::{check as assert, check_eq as assert_eq};
+use crate::tests::support::checks::{check, check_eq};
 use linked_hash_map::sessions::{PutReason, PutRefused, Sessions};
 use std::test::Fail;
 
@@ -9,23 +9,23 @@ fn pages(rt: HostRuntime) -> Result<(), Fail> {
     let mut pages = Sessions::new(rt.alloc(), 30);
     for (id, text) in [(1, "a page of 18 bytes"), (2, "nine more")] {
         let put = pages.put(id, text.len() as u64, text)?;
-        assert!(rt; put.gone.is_empty());
+        check!(rt; put.gone.is_empty());
     }
-    assert_eq!(rt; (pages.len(), pages.total()), (2, 27));
+    check_eq!(rt; (pages.len(), pages.total()), (2, 27));
 
     // Page 1 is asked for, so page 2 is now the oldest, and goes when the next one does not fit.
-    assert_eq!(rt; pages.touch(1).copied(), Some("a page of 18 bytes"));
+    check_eq!(rt; pages.touch(1).copied(), Some("a page of 18 bytes"));
     let put = pages.put(3, 7, "a third")?;
-    assert_eq!(rt; put.gone.as_slice(), [(2, 9, "nine more")].as_slice());
-    assert_eq!(rt; pages.total(), 25);
+    check_eq!(rt; put.gone.as_slice(), [(2, 9, "nine more")].as_slice());
+    check_eq!(rt; pages.total(), 25);
 
     // A new text for page 1 takes the place of the old one, which is handed back.
     let put = pages.put(1, 8, "page one")?;
-    assert_eq!(rt; put.old, Some("a page of 18 bytes"));
+    check_eq!(rt; put.old, Some("a page of 18 bytes"));
     let mut kept = pages.iter();
-    assert_eq!(rt; kept.next(), Some((3, 7, &"a third")));
-    assert_eq!(rt; kept.next(), Some((1, 8, &"page one")));
-    assert_eq!(rt; kept.next(), None);
+    check_eq!(rt; kept.next(), Some((3, 7, &"a third")));
+    check_eq!(rt; kept.next(), Some((1, 8, &"page one")));
+    check_eq!(rt; kept.next(), None);
     Ok(())
 }
 
@@ -36,8 +36,8 @@ fn sessions_that_leave(rt: HostRuntime) -> Result<(), Fail> {
     table.put(1, 4, "a")?;
     table.put(2, 4, "b")?;
     let put = table.put(3, 4, "c")?;
-    assert_eq!(rt; put.gone.as_slice(), [(1, 4, "a")].as_slice());
-    assert_eq!(rt; (table.len(), table.total()), (2, 8));
+    check_eq!(rt; put.gone.as_slice(), [(1, 4, "a")].as_slice());
+    check_eq!(rt; (table.len(), table.total()), (2, 8));
     Ok(())
 }
 
@@ -45,7 +45,7 @@ fn sessions_that_leave(rt: HostRuntime) -> Result<(), Fail> {
 #[test]
 fn new(rt: HostRuntime) -> Result<(), Fail> {
     let table: Sessions<char> = Sessions::new(rt.alloc(), 10);
-    assert_eq!(rt; (table.len(), table.total()), (0, 0));
+    check_eq!(rt; (table.len(), table.total()), (0, 0));
     Ok(())
 }
 
@@ -53,7 +53,7 @@ fn new(rt: HostRuntime) -> Result<(), Fail> {
 #[test]
 fn table_with_capacity(rt: HostRuntime) -> Result<(), Fail> {
     let table: Sessions<char> = Sessions::with_capacity(rt.alloc(), 10, 5)?;
-    assert_eq!(rt; (table.len(), table.capacity()), (0, 5));
+    check_eq!(rt; (table.len(), table.capacity()), (0, 5));
     Ok(())
 }
 
@@ -63,7 +63,7 @@ fn reserve_sessions(rt: HostRuntime) -> Result<(), Fail> {
     let mut table = Sessions::new(rt.alloc(), 10);
     table.put(1, 4, "a")?;
     table.reserve(4)?;
-    assert_eq!(rt; table.capacity(), 5);
+    check_eq!(rt; table.capacity(), 5);
     Ok(())
 }
 
@@ -72,9 +72,9 @@ fn reserve_sessions(rt: HostRuntime) -> Result<(), Fail> {
 fn capacity_of_sessions(rt: HostRuntime) -> Result<(), Fail> {
     let mut table = Sessions::with_capacity(rt.alloc(), 10, 1)?;
     table.put(1, 4, "a")?;
-    assert_eq!(rt; table.capacity(), 1);
+    check_eq!(rt; table.capacity(), 1);
     table.put(2, 4, "b")?;
-    assert_eq!(rt; table.capacity(), 2);
+    check_eq!(rt; table.capacity(), 2);
     Ok(())
 }
 
@@ -88,8 +88,8 @@ fn put_with(rt: HostRuntime) -> Result<(), Fail> {
     let old = table.put_with(3, 4, "c", |_id, weight, _payload| {
         freed = weight;
     })?;
-    assert_eq!(rt; (old, freed), (None, 4));
-    assert_eq!(rt; table.iter().next(), Some((2, 4, &"b")));
+    check_eq!(rt; (old, freed), (None, 4));
+    check_eq!(rt; table.iter().next(), Some((2, 4, &"b")));
     Ok(())
 }
 
@@ -100,16 +100,16 @@ fn put(rt: HostRuntime) -> Result<(), Fail> {
     table.put(1, 4, "a")?;
     table.put(2, 4, "b")?;
     let put = table.put(1, 6, "c")?;
-    assert_eq!(rt; (put.old, put.gone.len()), (Some("a"), 0));
+    check_eq!(rt; (put.old, put.gone.len()), (Some("a"), 0));
     let refused = table.put(3, 11, "d");
-    assert_eq!(rt;
+    check_eq!(rt;
         refused,
         Err(PutRefused {
             reason: PutReason::TooHeavy,
             payload: "d"
         })
     );
-    assert_eq!(rt; table.total(), 10);
+    check_eq!(rt; table.total(), 10);
     Ok(())
 }
 
@@ -119,7 +119,7 @@ fn put_over_a_session(rt: HostRuntime) -> Result<(), Fail> {
     let mut table = Sessions::new(rt.alloc(), 10);
     table.put(1, 4, "a")?;
     let put = table.put(1, 6, "b")?;
-    assert_eq!(rt; (put.old, put.gone.len()), (Some("a"), 0));
+    check_eq!(rt; (put.old, put.gone.len()), (Some("a"), 0));
     Ok(())
 }
 
@@ -128,7 +128,7 @@ fn put_over_a_session(rt: HostRuntime) -> Result<(), Fail> {
 fn put_refused(rt: HostRuntime) -> Result<(), Fail> {
     let mut table = Sessions::new(rt.alloc(), 10);
     let refused = table.put(3, 11, "d");
-    assert_eq!(rt;
+    check_eq!(rt;
         refused,
         Err(PutRefused {
             reason: PutReason::TooHeavy,
@@ -147,8 +147,8 @@ fn touch(rt: HostRuntime) -> Result<(), Fail> {
     if let Some(payload) = table.touch(1) {
         *payload = "c";
     }
-    assert_eq!(rt; table.iter().next(), Some((2, 4, &"b")));
-    assert_eq!(rt; table.remove(1), Some("c"));
+    check_eq!(rt; table.iter().next(), Some((2, 4, &"b")));
+    check_eq!(rt; table.remove(1), Some("c"));
     Ok(())
 }
 
@@ -157,8 +157,8 @@ fn touch(rt: HostRuntime) -> Result<(), Fail> {
 fn remove(rt: HostRuntime) -> Result<(), Fail> {
     let mut table = Sessions::new(rt.alloc(), 10);
     table.put(1, 4, "a")?;
-    assert_eq!(rt; (table.remove(1), table.remove(1)), (Some("a"), None));
-    assert_eq!(rt; (table.len(), table.total()), (0, 0));
+    check_eq!(rt; (table.remove(1), table.remove(1)), (Some("a"), None));
+    check_eq!(rt; (table.len(), table.total()), (0, 0));
     Ok(())
 }
 
@@ -167,7 +167,7 @@ fn remove(rt: HostRuntime) -> Result<(), Fail> {
 fn total(rt: HostRuntime) -> Result<(), Fail> {
     let mut table = Sessions::new(rt.alloc(), 10);
     table.put(1, 4, "a")?;
-    assert_eq!(rt; (table.len(), table.total()), (1, 4));
+    check_eq!(rt; (table.len(), table.total()), (1, 4));
     Ok(())
 }
 
@@ -178,8 +178,8 @@ fn iter(rt: HostRuntime) -> Result<(), Fail> {
     table.put(1, 4, "a")?;
     table.put(2, 4, "b")?;
     let mut sessions = table.iter();
-    assert_eq!(rt; sessions.next(), Some((1, 4, &"a")));
-    assert_eq!(rt; sessions.len(), 1);
+    check_eq!(rt; sessions.next(), Some((1, 4, &"a")));
+    check_eq!(rt; sessions.len(), 1);
     Ok(())
 }
 
@@ -193,7 +193,7 @@ fn retain_sessions(rt: HostRuntime) -> Result<(), Fail> {
         *payload = "c";
         weight < 4
     });
-    assert_eq!(rt; (table.len(), table.total()), (1, 3));
-    assert_eq!(rt; table.iter().next(), Some((2, 3, &"c")));
+    check_eq!(rt; (table.len(), table.total()), (1, 3));
+    check_eq!(rt; table.iter().next(), Some((2, 3, &"c")));
     Ok(())
 }

@@ -1,5 +1,5 @@
 //! Changes of the capacity.
-use crate::tests::support::checks::check_eq as assert_eq;
+use crate::tests::support::checks::check_eq;
 use linked_hash_set::LinkedHashSet;
 use std::test::Fail;
 
@@ -9,7 +9,7 @@ fn reserve(rt: HostRuntime) -> Result<(), Fail> {
     let mut set = LinkedHashSet::new(rt.alloc());
     set.insert('x')?;
     set.reserve(4)?;
-    assert_eq!(rt; set.capacity(), 5);
+    check_eq!(rt; set.capacity(), 5);
     Ok(())
 }
 
@@ -20,6 +20,6 @@ fn shrink_to_fit(rt: HostRuntime) -> Result<(), Fail> {
     set.insert('x')?;
     set.reserve(4)?;
     set.shrink_to_fit()?;
-    assert_eq!(rt; set.capacity(), 1);
+    check_eq!(rt; set.capacity(), 1);
     Ok(())
 }

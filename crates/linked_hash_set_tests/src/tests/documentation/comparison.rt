@@ -1,5 +1,5 @@
 //! Equality, hash and text.
-use crate::tests::support::checks::{check as assert, check_eq as assert_eq};
+use crate::tests::support::checks::{check, check_eq};
 use linked_hash_set::{DefaultHashBuilder, LinkedHashSet};
 use std::hash::BuildHasher;
 use std::test::Fail;
@@ -12,9 +12,9 @@ fn equality(rt: HostRuntime) -> Result<(), Fail> {
     let mut other = LinkedHashSet::new(rt.alloc());
     other.insert('y')?;
     other.insert('x')?;
-    assert!(rt; set != other);
+    check!(rt; set != other);
     other.insert('y')?; // moves the item to the back
-    assert!(rt; set == other);
+    check!(rt; set == other);
     Ok(())
 }
 
@@ -25,7 +25,7 @@ fn hash(rt: HostRuntime) -> Result<(), Fail> {
     set.insert('x')?;
     let clone = set.clone()?;
     let builder = DefaultHashBuilder::new();
-    assert_eq!(rt; builder.hash_one(clone), builder.hash_one(set));
+    check_eq!(rt; builder.hash_one(clone), builder.hash_one(set));
     Ok(())
 }
 
@@ -35,6 +35,6 @@ fn debug(rt: HostRuntime) -> Result<(), Fail> {
     let mut set = LinkedHashSet::new(rt.alloc());
     set.extend(['x', 'y'])?;
     let text = format!(in rt.alloc(); "{set:?}")?;
-    assert_eq!(rt; text.as_str(), "{'x', 'y'}");
+    check_eq!(rt; text.as_str(), "{'x', 'y'}");
     Ok(())
 }

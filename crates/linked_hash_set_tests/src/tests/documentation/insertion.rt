@@ -1,5 +1,5 @@
 //! Items put in.
-use crate::tests::support::checks::{check as assert, check_eq as assert_eq};
+use crate::tests::support::checks::{check, check_eq};
 use linked_hash_set::LinkedHashSet;
 use std::test::Fail;
 
@@ -7,10 +7,10 @@ use std::test::Fail;
 #[test]
 fn insert(rt: HostRuntime) -> Result<(), Fail> {
     let mut set = LinkedHashSet::new(rt.alloc());
-    assert!(rt; set.insert('x')?);
-    assert!(rt; set.insert('y')?);
-    assert!(rt; !set.insert('x')?);
-    assert_eq!(rt; set.back(), Some(&'x'));
+    check!(rt; set.insert('x')?);
+    check!(rt; set.insert('y')?);
+    check!(rt; !set.insert('x')?);
+    check_eq!(rt; set.back(), Some(&'x'));
     Ok(())
 }
 
@@ -18,10 +18,10 @@ fn insert(rt: HostRuntime) -> Result<(), Fail> {
 #[test]
 fn insert_if_absent(rt: HostRuntime) -> Result<(), Fail> {
     let mut set = LinkedHashSet::new(rt.alloc());
-    assert!(rt; set.insert_if_absent('x')?);
-    assert!(rt; set.insert_if_absent('y')?);
-    assert!(rt; !set.insert_if_absent('x')?);
-    assert_eq!(rt; set.back(), Some(&'y'));
+    check!(rt; set.insert_if_absent('x')?);
+    check!(rt; set.insert_if_absent('y')?);
+    check!(rt; !set.insert_if_absent('x')?);
+    check_eq!(rt; set.back(), Some(&'y'));
     Ok(())
 }
 
@@ -29,10 +29,10 @@ fn insert_if_absent(rt: HostRuntime) -> Result<(), Fail> {
 #[test]
 fn replace(rt: HostRuntime) -> Result<(), Fail> {
     let mut set = LinkedHashSet::new(rt.alloc());
-    assert_eq!(rt; set.replace('x')?, None);
-    assert_eq!(rt; set.replace('y')?, None);
-    assert_eq!(rt; set.replace('x')?, Some('x'));
-    assert_eq!(rt; set.back(), Some(&'y'));
+    check_eq!(rt; set.replace('x')?, None);
+    check_eq!(rt; set.replace('y')?, None);
+    check_eq!(rt; set.replace('x')?, Some('x'));
+    check_eq!(rt; set.back(), Some(&'y'));
     Ok(())
 }
 
@@ -41,9 +41,9 @@ fn replace(rt: HostRuntime) -> Result<(), Fail> {
 fn get_or_insert(rt: HostRuntime) -> Result<(), Fail> {
     let mut set = LinkedHashSet::new(rt.alloc());
     set.insert('x')?;
-    assert_eq!(rt; set.get_or_insert('y')?, &'y');
-    assert_eq!(rt; set.get_or_insert('x')?, &'x');
-    assert_eq!(rt; (set.len(), set.back()), (2, Some(&'x')));
+    check_eq!(rt; set.get_or_insert('y')?, &'y');
+    check_eq!(rt; set.get_or_insert('x')?, &'x');
+    check_eq!(rt; (set.len(), set.back()), (2, Some(&'x')));
     Ok(())
 }
 
@@ -52,9 +52,9 @@ fn get_or_insert(rt: HostRuntime) -> Result<(), Fail> {
 fn get_or_insert_with(rt: HostRuntime) -> Result<(), Fail> {
     let mut set = LinkedHashSet::new(rt.alloc());
     set.insert('x')?;
-    assert_eq!(rt; set.get_or_insert_with(&'y', |item| *item)?, &'y');
-    assert_eq!(rt; set.get_or_insert_with(&'x', |_item| 'z')?, &'x');
-    assert_eq!(rt; (set.len(), set.back()), (2, Some(&'x')));
+    check_eq!(rt; set.get_or_insert_with(&'y', |item| *item)?, &'y');
+    check_eq!(rt; set.get_or_insert_with(&'x', |_item| 'z')?, &'x');
+    check_eq!(rt; (set.len(), set.back()), (2, Some(&'x')));
     Ok(())
 }
 
@@ -63,8 +63,8 @@ fn get_or_insert_with(rt: HostRuntime) -> Result<(), Fail> {
 fn refused(rt: HostRuntime) -> Result<(), Fail> {
     let mut set = LinkedHashSet::new(rt.alloc());
     if let Err(refused) = set.insert('x') {
-        assert_eq!(rt; refused.item, 'x');
-        assert!(rt; set.is_empty());
+        check_eq!(rt; refused.item, 'x');
+        check!(rt; set.is_empty());
     }
     Ok(())
 }

@@ -1,5 +1,5 @@
 //! Loops over one set.
-use crate::tests::support::checks::{check as assert, check_eq as assert_eq};
+use crate::tests::support::checks::{check, check_eq};
 use linked_hash_set::LinkedHashSet;
 use std::test::Fail;
 
@@ -9,10 +9,10 @@ fn iter(rt: HostRuntime) -> Result<(), Fail> {
     let mut set = LinkedHashSet::new(rt.alloc());
     set.extend(['x', 'y'])?;
     let mut items = set.iter();
-    assert_eq!(rt; items.next(), Some(&'x'));
+    check_eq!(rt; items.next(), Some(&'x'));
     let mut rest = items.clone()?;
-    assert_eq!(rt; rest.next_back(), Some(&'y'));
-    assert_eq!(rt; (items.len(), rest.len()), (1, 0));
+    check_eq!(rt; rest.next_back(), Some(&'y'));
+    check_eq!(rt; (items.len(), rest.len()), (1, 0));
     Ok(())
 }
 
@@ -25,7 +25,7 @@ fn loop_by_reference(rt: HostRuntime) -> Result<(), Fail> {
     for item in &set {
         last = Some(*item);
     }
-    assert_eq!(rt; last, Some('y'));
+    check_eq!(rt; last, Some('y'));
     Ok(())
 }
 
@@ -34,6 +34,6 @@ fn loop_by_reference(rt: HostRuntime) -> Result<(), Fail> {
 fn loop_by_value(rt: HostRuntime) -> Result<(), Fail> {
     let mut set = LinkedHashSet::new(rt.alloc());
     set.extend(['x', 'y'])?;
-    assert!(rt; set.into_iter().rev().eq(['y', 'x']));
+    check!(rt; set.into_iter().rev().eq(['y', 'x']));
     Ok(())
 }

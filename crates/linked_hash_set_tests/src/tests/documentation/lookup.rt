@@ -1,5 +1,5 @@
 //! Items looked up.
-use crate::tests::support::checks::{check as assert, check_eq as assert_eq};
+use crate::tests::support::checks::{check, check_eq};
 use linked_hash_set::LinkedHashSet;
 use std::test::Fail;
 
@@ -8,8 +8,8 @@ use std::test::Fail;
 fn contains(rt: HostRuntime) -> Result<(), Fail> {
     let mut set = LinkedHashSet::new(rt.alloc());
     set.insert('x')?;
-    assert!(rt; set.contains(&'x'));
-    assert!(rt; !set.contains(&'y'));
+    check!(rt; set.contains(&'x'));
+    check!(rt; !set.contains(&'y'));
     Ok(())
 }
 
@@ -18,8 +18,8 @@ fn contains(rt: HostRuntime) -> Result<(), Fail> {
 fn get(rt: HostRuntime) -> Result<(), Fail> {
     let mut set = LinkedHashSet::new(rt.alloc());
     set.insert('x')?;
-    assert_eq!(rt; set.get(&'x'), Some(&'x'));
-    assert_eq!(rt; set.get(&'y'), None);
+    check_eq!(rt; set.get(&'x'), Some(&'x'));
+    check_eq!(rt; set.get(&'y'), None);
     Ok(())
 }
 
@@ -28,7 +28,7 @@ fn get(rt: HostRuntime) -> Result<(), Fail> {
 fn front(rt: HostRuntime) -> Result<(), Fail> {
     let mut set = LinkedHashSet::new(rt.alloc());
     set.extend(['x', 'y'])?;
-    assert_eq!(rt; set.front(), Some(&'x'));
+    check_eq!(rt; set.front(), Some(&'x'));
     Ok(())
 }
 
@@ -37,6 +37,6 @@ fn front(rt: HostRuntime) -> Result<(), Fail> {
 fn back(rt: HostRuntime) -> Result<(), Fail> {
     let mut set = LinkedHashSet::new(rt.alloc());
     set.extend(['x', 'y'])?;
-    assert_eq!(rt; set.back(), Some(&'y'));
+    check_eq!(rt; set.back(), Some(&'y'));
     Ok(())
 }

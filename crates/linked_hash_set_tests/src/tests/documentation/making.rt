@@ -1,5 +1,5 @@
 //! Sets made.
-use crate::tests::support::checks::{check as assert, check_eq as assert_eq};
+use crate::tests::support::checks::{check, check_eq};
 use linked_hash_set::{DefaultHashBuilder, LinkedHashSet};
 use std::collections::HashMap;
 use std::hash::RandomState;
@@ -10,7 +10,7 @@ use std::test::Fail;
 #[test]
 fn new(rt: HostRuntime) -> Result<(), Fail> {
     let set: LinkedHashSet<char> = LinkedHashSet::new(rt.alloc());
-    assert_eq!(rt; (set.len(), set.capacity()), (0, 0));
+    check_eq!(rt; (set.len(), set.capacity()), (0, 0));
     Ok(())
 }
 
@@ -18,7 +18,7 @@ fn new(rt: HostRuntime) -> Result<(), Fail> {
 #[test]
 fn with_capacity(rt: HostRuntime) -> Result<(), Fail> {
     let set: LinkedHashSet<char> = LinkedHashSet::with_capacity(rt.alloc(), 5)?;
-    assert_eq!(rt; (set.len(), set.capacity()), (0, 5));
+    check_eq!(rt; (set.len(), set.capacity()), (0, 5));
     Ok(())
 }
 
@@ -28,7 +28,7 @@ fn with_hasher(rt: HostRuntime) -> Result<(), Fail> {
     let builder = RandomState::new(&rt)?;
     let mut set = LinkedHashSet::with_hasher(rt.alloc(), builder);
     set.insert('x')?;
-    assert!(rt; set.contains(&'x'));
+    check!(rt; set.contains(&'x'));
     Ok(())
 }
 
@@ -38,7 +38,7 @@ fn with_capacity_and_hasher(rt: HostRuntime) -> Result<(), Fail> {
     let builder = DefaultHashBuilder::new();
     let mut set = LinkedHashSet::with_capacity_and_hasher(rt.alloc(), 2, builder)?;
     set.insert('x')?;
-    assert_eq!(rt; (set.len(), set.capacity()), (1, 2));
+    check_eq!(rt; (set.len(), set.capacity()), (1, 2));
     Ok(())
 }
 
@@ -48,8 +48,8 @@ fn clone(rt: HostRuntime) -> Result<(), Fail> {
     let mut set = LinkedHashSet::with_capacity(rt.alloc(), 5)?;
     set.insert('x')?;
     let clone = set.clone()?;
-    assert!(rt; clone == set);
-    assert_eq!(rt; clone.capacity(), 1);
+    check!(rt; clone == set);
+    check_eq!(rt; clone.capacity(), 1);
     Ok(())
 }
 
@@ -58,8 +58,8 @@ fn clone(rt: HostRuntime) -> Result<(), Fail> {
 fn extend(rt: HostRuntime) -> Result<(), Fail> {
     let mut set = LinkedHashSet::new(rt.alloc());
     set.extend(['x', 'y', 'x'])?;
-    assert_eq!(rt; set.front(), Some(&'y'));
-    assert_eq!(rt; set.back(), Some(&'x'));
+    check_eq!(rt; set.front(), Some(&'y'));
+    check_eq!(rt; set.back(), Some(&'x'));
     Ok(())
 }
 
@@ -67,7 +67,7 @@ fn extend(rt: HostRuntime) -> Result<(), Fail> {
 #[test]
 fn from_iter(rt: HostRuntime) -> Result<(), Fail> {
     let set: LinkedHashSet<char> = LinkedHashSet::from_iter(rt.alloc(), ['x', 'y', 'x'])?;
-    assert_eq!(rt; (set.len(), set.back()), (2, Some(&'x')));
+    check_eq!(rt; (set.len(), set.back()), (2, Some(&'x')));
     Ok(())
 }
 
@@ -77,7 +77,7 @@ fn emptied(rt: HostRuntime) -> Result<(), Fail> {
     let mut set = LinkedHashSet::new(rt.alloc());
     set.insert('x')?;
     let taken = try_take(&mut set)?;
-    assert_eq!(rt; (taken.len(), set.len()), (1, 0));
+    check_eq!(rt; (taken.len(), set.len()), (1, 0));
     Ok(())
 }
 
@@ -86,6 +86,6 @@ fn emptied(rt: HostRuntime) -> Result<(), Fail> {
 fn made_with(rt: HostRuntime) -> Result<(), Fail> {
     let mut sets: HashMap<char, LinkedHashSet<char>> = HashMap::new(rt.alloc());
     sets.entry('a')?.or_default().insert('x')?;
-    assert_eq!(rt; sets.len(), 1);
+    check_eq!(rt; sets.len(), 1);
     Ok(())
 }

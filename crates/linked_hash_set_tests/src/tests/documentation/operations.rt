@@ -1,5 +1,5 @@
 //! Operations on two sets.
-use crate::tests::support::checks::check as assert;
+use crate::tests::support::checks::check;
 use linked_hash_set::LinkedHashSet;
 use std::test::Fail;
 
@@ -10,7 +10,7 @@ fn difference(rt: HostRuntime) -> Result<(), Fail> {
     set.extend([1, 2, 3])?;
     let mut other = LinkedHashSet::new(rt.alloc());
     other.extend([4, 2])?;
-    assert!(rt; set.difference(&other).eq(&[1, 3]));
+    check!(rt; set.difference(&other).eq(&[1, 3]));
     Ok(())
 }
 
@@ -21,7 +21,7 @@ fn intersection(rt: HostRuntime) -> Result<(), Fail> {
     set.extend([1, 2, 3])?;
     let mut other = LinkedHashSet::new(rt.alloc());
     other.extend([4, 2])?;
-    assert!(rt; set.intersection(&other).eq(&[2]));
+    check!(rt; set.intersection(&other).eq(&[2]));
     Ok(())
 }
 
@@ -32,7 +32,7 @@ fn union(rt: HostRuntime) -> Result<(), Fail> {
     set.extend([1, 2, 3])?;
     let mut other = LinkedHashSet::new(rt.alloc());
     other.extend([4, 2])?;
-    assert!(rt; set.union(&other).eq(&[1, 2, 3, 4]));
+    check!(rt; set.union(&other).eq(&[1, 2, 3, 4]));
     Ok(())
 }
 
@@ -43,7 +43,7 @@ fn symmetric_difference(rt: HostRuntime) -> Result<(), Fail> {
     set.extend([1, 2, 3])?;
     let mut other = LinkedHashSet::new(rt.alloc());
     other.extend([4, 2])?;
-    assert!(rt; set.symmetric_difference(&other).eq(&[1, 3, 4]));
+    check!(rt; set.symmetric_difference(&other).eq(&[1, 3, 4]));
     Ok(())
 }
 
@@ -54,8 +54,8 @@ fn is_subset(rt: HostRuntime) -> Result<(), Fail> {
     set.extend([1, 2, 3])?;
     let mut other = LinkedHashSet::new(rt.alloc());
     other.extend([3, 1])?;
-    assert!(rt; other.is_subset(&set));
-    assert!(rt; !set.is_subset(&other));
+    check!(rt; other.is_subset(&set));
+    check!(rt; !set.is_subset(&other));
     Ok(())
 }
 
@@ -66,8 +66,8 @@ fn is_superset(rt: HostRuntime) -> Result<(), Fail> {
     set.extend([1, 2, 3])?;
     let mut other = LinkedHashSet::new(rt.alloc());
     other.extend([3, 1])?;
-    assert!(rt; set.is_superset(&other));
-    assert!(rt; !other.is_superset(&set));
+    check!(rt; set.is_superset(&other));
+    check!(rt; !other.is_superset(&set));
     Ok(())
 }
 
@@ -78,8 +78,8 @@ fn is_disjoint(rt: HostRuntime) -> Result<(), Fail> {
     set.extend([1, 2])?;
     let mut other = LinkedHashSet::new(rt.alloc());
     other.extend([3])?;
-    assert!(rt; set.is_disjoint(&other));
+    check!(rt; set.is_disjoint(&other));
     other.insert(2)?;
-    assert!(rt; !set.is_disjoint(&other));
+    check!(rt; !set.is_disjoint(&other));
     Ok(())
 }

@@ -1,5 +1,5 @@
 //! Items moved.
-use crate::tests::support::checks::{check as assert, check_eq as assert_eq};
+use crate::tests::support::checks::{check, check_eq};
 use linked_hash_set::LinkedHashSet;
 use std::test::Fail;
 
@@ -8,9 +8,9 @@ use std::test::Fail;
 fn to_back(rt: HostRuntime) -> Result<(), Fail> {
     let mut set = LinkedHashSet::new(rt.alloc());
     set.extend(['x', 'y'])?;
-    assert!(rt; set.to_back(&'x'));
-    assert_eq!(rt; set.back(), Some(&'x'));
-    assert!(rt; !set.to_back(&'z'));
+    check!(rt; set.to_back(&'x'));
+    check_eq!(rt; set.back(), Some(&'x'));
+    check!(rt; !set.to_back(&'z'));
     Ok(())
 }
 
@@ -19,9 +19,9 @@ fn to_back(rt: HostRuntime) -> Result<(), Fail> {
 fn refresh(rt: HostRuntime) -> Result<(), Fail> {
     let mut set = LinkedHashSet::new(rt.alloc());
     set.extend(['x', 'y'])?;
-    assert!(rt; set.refresh(&'x'));
-    assert_eq!(rt; set.back(), Some(&'x'));
-    assert!(rt; !set.refresh(&'z'));
+    check!(rt; set.refresh(&'x'));
+    check_eq!(rt; set.back(), Some(&'x'));
+    check!(rt; !set.refresh(&'z'));
     Ok(())
 }
 
@@ -30,8 +30,8 @@ fn refresh(rt: HostRuntime) -> Result<(), Fail> {
 fn to_front(rt: HostRuntime) -> Result<(), Fail> {
     let mut set = LinkedHashSet::new(rt.alloc());
     set.extend(['x', 'y'])?;
-    assert!(rt; set.to_front(&'y'));
-    assert_eq!(rt; set.front(), Some(&'y'));
-    assert!(rt; !set.to_front(&'z'));
+    check!(rt; set.to_front(&'y'));
+    check_eq!(rt; set.front(), Some(&'y'));
+    check!(rt; !set.to_front(&'z'));
     Ok(())
 }

@@ -1,5 +1,5 @@
 //! Items taken out.
-use crate::tests::support::checks::{check as assert, check_eq as assert_eq};
+use crate::tests::support::checks::{check, check_eq};
 use linked_hash_set::LinkedHashSet;
 use std::test::Fail;
 
@@ -8,9 +8,9 @@ use std::test::Fail;
 fn remove(rt: HostRuntime) -> Result<(), Fail> {
     let mut set = LinkedHashSet::new(rt.alloc());
     set.extend(['x', 'y'])?;
-    assert!(rt; set.remove(&'x'));
-    assert!(rt; !set.remove(&'x'));
-    assert_eq!(rt; (set.len(), set.capacity()), (1, 2));
+    check!(rt; set.remove(&'x'));
+    check!(rt; !set.remove(&'x'));
+    check_eq!(rt; (set.len(), set.capacity()), (1, 2));
     Ok(())
 }
 
@@ -19,9 +19,9 @@ fn remove(rt: HostRuntime) -> Result<(), Fail> {
 fn take(rt: HostRuntime) -> Result<(), Fail> {
     let mut set = LinkedHashSet::new(rt.alloc());
     set.extend(['x', 'y'])?;
-    assert_eq!(rt; set.take(&'x'), Some('x'));
-    assert_eq!(rt; set.take(&'x'), None);
-    assert_eq!(rt; (set.len(), set.capacity()), (1, 2));
+    check_eq!(rt; set.take(&'x'), Some('x'));
+    check_eq!(rt; set.take(&'x'), None);
+    check_eq!(rt; (set.len(), set.capacity()), (1, 2));
     Ok(())
 }
 
@@ -30,8 +30,8 @@ fn take(rt: HostRuntime) -> Result<(), Fail> {
 fn pop_front(rt: HostRuntime) -> Result<(), Fail> {
     let mut set = LinkedHashSet::new(rt.alloc());
     set.extend(['x', 'y'])?;
-    assert_eq!(rt; set.pop_front(), Some('x'));
-    assert_eq!(rt; set.front(), Some(&'y'));
+    check_eq!(rt; set.pop_front(), Some('x'));
+    check_eq!(rt; set.front(), Some(&'y'));
     Ok(())
 }
 
@@ -40,8 +40,8 @@ fn pop_front(rt: HostRuntime) -> Result<(), Fail> {
 fn pop_back(rt: HostRuntime) -> Result<(), Fail> {
     let mut set = LinkedHashSet::new(rt.alloc());
     set.extend(['x', 'y'])?;
-    assert_eq!(rt; set.pop_back(), Some('y'));
-    assert_eq!(rt; set.back(), Some(&'x'));
+    check_eq!(rt; set.pop_back(), Some('y'));
+    check_eq!(rt; set.back(), Some(&'x'));
     Ok(())
 }
 
@@ -51,8 +51,8 @@ fn retain(rt: HostRuntime) -> Result<(), Fail> {
     let mut set = LinkedHashSet::new(rt.alloc());
     set.extend(['x', 'y', 'z'])?;
     set.retain(|item| *item != 'y');
-    assert_eq!(rt; (set.len(), set.contains(&'y')), (2, false));
-    assert_eq!(rt; set.front(), Some(&'x'));
+    check_eq!(rt; (set.len(), set.contains(&'y')), (2, false));
+    check_eq!(rt; set.front(), Some(&'x'));
     Ok(())
 }
 
@@ -62,7 +62,7 @@ fn clear(rt: HostRuntime) -> Result<(), Fail> {
     let mut set = LinkedHashSet::new(rt.alloc());
     set.insert('x')?;
     set.clear();
-    assert_eq!(rt; (set.len(), set.capacity()), (0, 1));
+    check_eq!(rt; (set.len(), set.capacity()), (0, 1));
     Ok(())
 }
 
@@ -72,9 +72,9 @@ fn drain(rt: HostRuntime) -> Result<(), Fail> {
     let mut set = LinkedHashSet::new(rt.alloc());
     set.extend(['x', 'y'])?;
     let mut items = set.drain();
-    assert_eq!(rt; items.next(), Some('x'));
-    assert_eq!(rt; items.len(), 1);
+    check_eq!(rt; items.next(), Some('x'));
+    check_eq!(rt; items.len(), 1);
     drop(items);
-    assert_eq!(rt; (set.len(), set.capacity()), (0, 2));
+    check_eq!(rt; (set.len(), set.capacity()), (0, 2));
     Ok(())
 }

@@ -1,5 +1,5 @@
 //! The set and its sizes.
-use crate::tests::support::checks::{check as assert, check_eq as assert_eq};
+use crate::tests::support::checks::{check, check_eq};
 use linked_hash_set::LinkedHashSet;
 use std::hash::{BuildHasher, RandomState};
 use std::test::Fail;
@@ -8,11 +8,11 @@ use std::test::Fail;
 #[test]
 fn linked_hash_set(rt: HostRuntime) -> Result<(), Fail> {
     let mut set = LinkedHashSet::new(rt.alloc());
-    assert!(rt; set.insert('x')?);
-    assert!(rt; set.insert('y')?);
-    assert!(rt; !set.insert('x')?);
-    assert_eq!(rt; set.front(), Some(&'y'));
-    assert_eq!(rt; set.back(), Some(&'x'));
+    check!(rt; set.insert('x')?);
+    check!(rt; set.insert('y')?);
+    check!(rt; !set.insert('x')?);
+    check_eq!(rt; set.front(), Some(&'y'));
+    check_eq!(rt; set.back(), Some(&'x'));
     Ok(())
 }
 
@@ -21,7 +21,7 @@ fn linked_hash_set(rt: HostRuntime) -> Result<(), Fail> {
 fn len(rt: HostRuntime) -> Result<(), Fail> {
     let mut set = LinkedHashSet::new(rt.alloc());
     set.insert('x')?;
-    assert_eq!(rt; set.len(), 1);
+    check_eq!(rt; set.len(), 1);
     Ok(())
 }
 
@@ -29,9 +29,9 @@ fn len(rt: HostRuntime) -> Result<(), Fail> {
 #[test]
 fn is_empty(rt: HostRuntime) -> Result<(), Fail> {
     let mut set = LinkedHashSet::new(rt.alloc());
-    assert!(rt; set.is_empty());
+    check!(rt; set.is_empty());
     set.insert('x')?;
-    assert!(rt; !set.is_empty());
+    check!(rt; !set.is_empty());
     Ok(())
 }
 
@@ -40,9 +40,9 @@ fn is_empty(rt: HostRuntime) -> Result<(), Fail> {
 fn capacity(rt: HostRuntime) -> Result<(), Fail> {
     let mut set = LinkedHashSet::new(rt.alloc());
     set.insert('x')?;
-    assert_eq!(rt; set.capacity(), 1);
+    check_eq!(rt; set.capacity(), 1);
     set.reserve(4)?;
-    assert_eq!(rt; set.capacity(), 5);
+    check_eq!(rt; set.capacity(), 5);
     Ok(())
 }
 
@@ -52,7 +52,7 @@ fn hasher(rt: HostRuntime) -> Result<(), Fail> {
     let builder = RandomState::new(&rt)?;
     let mut set = LinkedHashSet::with_hasher(rt.alloc(), builder);
     set.insert('x')?;
-    assert_eq!(rt; set.hasher().hash_one('x'), builder.hash_one('x'));
+    check_eq!(rt; set.hasher().hash_one('x'), builder.hash_one('x'));
     Ok(())
 }
 
@@ -63,9 +63,9 @@ fn seen_words(rt: HostRuntime) -> Result<(), Fail> {
     words.extend(["red", "green"])?;
 
     // A present item moves to the back, except by `insert_if_absent` and `replace`.
-    assert!(rt; !words.insert("red")?);
-    assert!(rt; !words.insert_if_absent("green")?);
-    assert_eq!(rt;
+    check!(rt; !words.insert("red")?);
+    check!(rt; !words.insert_if_absent("green")?);
+    check_eq!(rt;
         (words.front(), words.back()),
         (Some(&"green"), Some(&"red"))
     );
@@ -73,12 +73,12 @@ fn seen_words(rt: HostRuntime) -> Result<(), Fail> {
     // Operations on two sets go from the front.
     let mut others = LinkedHashSet::new(rt.alloc());
     others.extend(["blue", "red"])?;
-    assert!(rt; words.union(&others).eq(&["green", "red", "blue"]));
+    check!(rt; words.union(&others).eq(&["green", "red", "blue"]));
 
     // If an allocation fails, the item comes back and the set is unchanged.
     match words.insert("grey") {
-        Ok(new) => assert!(rt; new),
-        Err(refused) => assert_eq!(rt; refused.item, "grey"),
+        Ok(new) => check!(rt; new),
+        Err(refused) => check_eq!(rt; refused.item, "grey"),
     }
     Ok(())
 }

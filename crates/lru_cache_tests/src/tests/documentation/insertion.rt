@@ -1,5 +1,5 @@
 //! Inserting pairs.
-use crate::tests::support::checks::check_eq as assert_eq;
+use crate::tests::support::checks::check_eq;
 use lru_cache::LruCache;
 use std::test::Fail;
 
@@ -7,11 +7,11 @@ use std::test::Fail;
 #[test]
 fn insert(rt: HostRuntime) -> Result<(), Fail> {
     let mut cache = LruCache::new(rt.alloc(), 2);
-    assert_eq!(rt; cache.insert('x', 1)?, None);
-    assert_eq!(rt; cache.insert('y', 2)?, None);
-    assert_eq!(rt; cache.insert('x', 3)?, Some(1));
-    assert_eq!(rt; cache.insert('z', 4)?, None);
-    assert_eq!(rt; cache.peek(&'y'), None);
+    check_eq!(rt; cache.insert('x', 1)?, None);
+    check_eq!(rt; cache.insert('y', 2)?, None);
+    check_eq!(rt; cache.insert('x', 3)?, Some(1));
+    check_eq!(rt; cache.insert('z', 4)?, None);
+    check_eq!(rt; cache.peek(&'y'), None);
     Ok(())
 }
 
@@ -19,10 +19,10 @@ fn insert(rt: HostRuntime) -> Result<(), Fail> {
 #[test]
 fn put(rt: HostRuntime) -> Result<(), Fail> {
     let mut cache = LruCache::new(rt.alloc(), 2);
-    assert_eq!(rt; cache.put('x', 1)?, None);
-    assert_eq!(rt; cache.put('y', 2)?, None);
-    assert_eq!(rt; cache.put('x', 3)?, Some(('x', 1)));
-    assert_eq!(rt; cache.put('z', 4)?, Some(('y', 2)));
+    check_eq!(rt; cache.put('x', 1)?, None);
+    check_eq!(rt; cache.put('y', 2)?, None);
+    check_eq!(rt; cache.put('x', 3)?, Some(('x', 1)));
+    check_eq!(rt; cache.put('z', 4)?, Some(('y', 2)));
     Ok(())
 }
 
@@ -31,8 +31,8 @@ fn put(rt: HostRuntime) -> Result<(), Fail> {
 fn extend(rt: HostRuntime) -> Result<(), Fail> {
     let mut cache = LruCache::new(rt.alloc(), 2);
     cache.extend([('x', 1), ('y', 2), ('z', 3)])?;
-    assert_eq!(rt; cache.len(), 2);
-    assert_eq!(rt; (cache.peek(&'x'), cache.peek(&'z')), (None, Some(&3)));
+    check_eq!(rt; cache.len(), 2);
+    check_eq!(rt; (cache.peek(&'x'), cache.peek(&'z')), (None, Some(&3)));
     Ok(())
 }
 
@@ -42,7 +42,7 @@ fn reserve(rt: HostRuntime) -> Result<(), Fail> {
     let mut cache = LruCache::new(rt.alloc(), 2);
     cache.reserve(3)?;
     for key in ['x', 'y', 'z'] {
-        assert_eq!(rt; cache.insert(key, 1), Ok(None)); // asks for no memory
+        check_eq!(rt; cache.insert(key, 1), Ok(None)); // asks for no memory
     }
     Ok(())
 }

@@ -1,5 +1,5 @@
 //! Iterating over pairs.
-use crate::tests::support::checks::check_eq as assert_eq;
+use crate::tests::support::checks::check_eq;
 use lru_cache::LruCache;
 use std::test::Fail;
 
@@ -10,9 +10,9 @@ fn iter(rt: HostRuntime) -> Result<(), Fail> {
     cache.insert('x', 1)?;
     cache.insert('y', 2)?;
     let mut pairs = cache.iter();
-    assert_eq!(rt; pairs.next(), Some((&'x', &1)));
-    assert_eq!(rt; pairs.next(), Some((&'y', &2)));
-    assert_eq!(rt; pairs.next(), None);
+    check_eq!(rt; pairs.next(), Some((&'x', &1)));
+    check_eq!(rt; pairs.next(), Some((&'y', &2)));
+    check_eq!(rt; pairs.next(), None);
     Ok(())
 }
 
@@ -25,7 +25,7 @@ fn iter_mut(rt: HostRuntime) -> Result<(), Fail> {
     if let Some((_key, value)) = pairs.next() {
         *value = 3;
     }
-    assert_eq!(rt; cache.peek(&'x'), Some(&3));
+    check_eq!(rt; cache.peek(&'x'), Some(&3));
     Ok(())
 }
 
@@ -38,7 +38,7 @@ fn loop_by_value(rt: HostRuntime) -> Result<(), Fail> {
     for pair in cache {
         last = Some(pair);
     }
-    assert_eq!(rt; last, Some(('z', 3)));
+    check_eq!(rt; last, Some(('z', 3)));
     Ok(())
 }
 
@@ -51,7 +51,7 @@ fn loop_by_reference(rt: HostRuntime) -> Result<(), Fail> {
     for (key, value) in &cache {
         last = Some((*key, *value));
     }
-    assert_eq!(rt; last, Some(('z', 3)));
+    check_eq!(rt; last, Some(('z', 3)));
     Ok(())
 }
 
@@ -63,6 +63,6 @@ fn loop_by_mutable_reference(rt: HostRuntime) -> Result<(), Fail> {
     for (_key, value) in &mut cache {
         *value = 3;
     }
-    assert_eq!(rt; cache.peek(&'x'), Some(&3));
+    check_eq!(rt; cache.peek(&'x'), Some(&3));
     Ok(())
 }

@@ -1,5 +1,5 @@
 //! The example of the library.
-use crate::tests::support::checks::check_eq as assert_eq;
+use crate::tests::support::checks::check_eq;
 use lru_cache::LruCache;
 use std::test::Fail;
 
@@ -11,11 +11,11 @@ fn library(rt: HostRuntime) -> Result<(), Fail> {
     cache.insert(2, 20)?;
 
     // A lookup uses its pair, so that of 2 is now the one used least recently.
-    assert_eq!(rt; cache.get(&1), Some(&10));
+    check_eq!(rt; cache.get(&1), Some(&10));
 
     // A new pair takes the place of the one used least recently, if the cache is full.
     cache.insert(3, 30)?;
-    assert_eq!(rt; cache.get(&2), None);
-    assert_eq!(rt; cache.remove_lru(), Some((1, 10)));
+    check_eq!(rt; cache.get(&2), None);
+    check_eq!(rt; cache.remove_lru(), Some((1, 10)));
     Ok(())
 }

@@ -1,5 +1,5 @@
 //! Looking up keys.
-use crate::tests::support::checks::{check as assert, check_eq as assert_eq};
+use crate::tests::support::checks::{check, check_eq};
 use lru_cache::LruCache;
 use std::test::Fail;
 
@@ -9,8 +9,8 @@ fn contains_key(rt: HostRuntime) -> Result<(), Fail> {
     let mut cache = LruCache::new(rt.alloc(), 2);
     cache.insert('x', 1)?;
     cache.insert('y', 2)?;
-    assert!(rt; cache.contains_key(&'x'));
-    assert_eq!(rt; cache.remove_lru(), Some(('y', 2)));
+    check!(rt; cache.contains_key(&'x'));
+    check_eq!(rt; cache.remove_lru(), Some(('y', 2)));
     Ok(())
 }
 
@@ -20,8 +20,8 @@ fn get(rt: HostRuntime) -> Result<(), Fail> {
     let mut cache = LruCache::new(rt.alloc(), 2);
     cache.insert('x', 1)?;
     cache.insert('y', 2)?;
-    assert_eq!(rt; cache.get(&'x'), Some(&1));
-    assert_eq!(rt; cache.remove_lru(), Some(('y', 2)));
+    check_eq!(rt; cache.get(&'x'), Some(&1));
+    check_eq!(rt; cache.remove_lru(), Some(('y', 2)));
     Ok(())
 }
 
@@ -33,7 +33,7 @@ fn get_mut(rt: HostRuntime) -> Result<(), Fail> {
     if let Some(value) = cache.get_mut(&'x') {
         *value = 3;
     }
-    assert_eq!(rt; cache.peek(&'x'), Some(&3));
+    check_eq!(rt; cache.peek(&'x'), Some(&3));
     Ok(())
 }
 
@@ -43,8 +43,8 @@ fn peek(rt: HostRuntime) -> Result<(), Fail> {
     let mut cache = LruCache::new(rt.alloc(), 2);
     cache.insert('x', 1)?;
     cache.insert('y', 2)?;
-    assert_eq!(rt; cache.peek(&'x'), Some(&1));
-    assert_eq!(rt; cache.remove_lru(), Some(('x', 1)));
+    check_eq!(rt; cache.peek(&'x'), Some(&1));
+    check_eq!(rt; cache.remove_lru(), Some(('x', 1)));
     Ok(())
 }
 
@@ -57,6 +57,6 @@ fn peek_mut(rt: HostRuntime) -> Result<(), Fail> {
     if let Some(value) = cache.peek_mut(&'x') {
         *value = 3;
     }
-    assert_eq!(rt; cache.remove_lru(), Some(('x', 3)));
+    check_eq!(rt; cache.remove_lru(), Some(('x', 3)));
     Ok(())
 }

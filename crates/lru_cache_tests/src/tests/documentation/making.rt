@@ -1,5 +1,5 @@
 //! Making a cache, and its numbers.
-use crate::tests::support::checks::{check as assert, check_eq as assert_eq};
+use crate::tests::support::checks::{check, check_eq};
 use lru_cache::LruCache;
 use std::hash::RandomState;
 use std::test::Fail;
@@ -8,11 +8,11 @@ use std::test::Fail;
 #[test]
 fn lru_cache(rt: HostRuntime) -> Result<(), Fail> {
     let mut cache = LruCache::new(rt.alloc(), 2);
-    assert_eq!(rt; cache.insert('x', 1)?, None);
-    assert_eq!(rt; cache.insert('y', 2)?, None);
-    assert_eq!(rt; cache.insert('x', 3)?, Some(1));
-    assert_eq!(rt; cache.insert('z', 4)?, None); // the pair of 'y' goes
-    assert_eq!(rt; (cache.peek(&'x'), cache.peek(&'y')), (Some(&3), None));
+    check_eq!(rt; cache.insert('x', 1)?, None);
+    check_eq!(rt; cache.insert('y', 2)?, None);
+    check_eq!(rt; cache.insert('x', 3)?, Some(1));
+    check_eq!(rt; cache.insert('z', 4)?, None); // the pair of 'y' goes
+    check_eq!(rt; (cache.peek(&'x'), cache.peek(&'y')), (Some(&3), None));
     Ok(())
 }
 
@@ -20,7 +20,7 @@ fn lru_cache(rt: HostRuntime) -> Result<(), Fail> {
 #[test]
 fn new(rt: HostRuntime) -> Result<(), Fail> {
     let cache: LruCache<char, u64> = LruCache::new(rt.alloc(), 2);
-    assert_eq!(rt; (cache.len(), cache.capacity()), (0, 2));
+    check_eq!(rt; (cache.len(), cache.capacity()), (0, 2));
     Ok(())
 }
 
@@ -29,7 +29,7 @@ fn new(rt: HostRuntime) -> Result<(), Fail> {
 fn with_hasher(rt: HostRuntime) -> Result<(), Fail> {
     let mut cache = LruCache::with_hasher(rt.alloc(), 2, RandomState::new(&rt)?);
     cache.insert('x', 1)?;
-    assert_eq!(rt; cache.get(&'x'), Some(&1));
+    check_eq!(rt; cache.get(&'x'), Some(&1));
     Ok(())
 }
 
@@ -38,7 +38,7 @@ fn with_hasher(rt: HostRuntime) -> Result<(), Fail> {
 fn capacity(rt: HostRuntime) -> Result<(), Fail> {
     let mut cache: LruCache<char, u64> = LruCache::new(rt.alloc(), 2);
     cache.set_capacity(5);
-    assert_eq!(rt; cache.capacity(), 5);
+    check_eq!(rt; cache.capacity(), 5);
     Ok(())
 }
 
@@ -47,7 +47,7 @@ fn capacity(rt: HostRuntime) -> Result<(), Fail> {
 fn len(rt: HostRuntime) -> Result<(), Fail> {
     let mut cache = LruCache::new(rt.alloc(), 2);
     cache.insert('x', 1)?;
-    assert_eq!(rt; cache.len(), 1);
+    check_eq!(rt; cache.len(), 1);
     Ok(())
 }
 
@@ -55,8 +55,8 @@ fn len(rt: HostRuntime) -> Result<(), Fail> {
 #[test]
 fn is_empty(rt: HostRuntime) -> Result<(), Fail> {
     let mut cache = LruCache::new(rt.alloc(), 2);
-    assert!(rt; cache.is_empty());
+    check!(rt; cache.is_empty());
     cache.insert('x', 1)?;
-    assert!(rt; !cache.is_empty());
+    check!(rt; !cache.is_empty());
     Ok(())
 }

@@ -1,5 +1,5 @@
 //! Removing pairs, and the limit.
-use crate::tests::support::checks::{check as assert, check_eq as assert_eq};
+use crate::tests::support::checks::{check, check_eq};
 use lru_cache::LruCache;
 use std::test::Fail;
 
@@ -8,8 +8,8 @@ use std::test::Fail;
 fn remove(rt: HostRuntime) -> Result<(), Fail> {
     let mut cache = LruCache::new(rt.alloc(), 2);
     cache.insert('x', 1)?;
-    assert_eq!(rt; cache.remove(&'x'), Some(1));
-    assert_eq!(rt; cache.remove(&'x'), None);
+    check_eq!(rt; cache.remove(&'x'), Some(1));
+    check_eq!(rt; cache.remove(&'x'), None);
     Ok(())
 }
 
@@ -19,8 +19,8 @@ fn remove_lru(rt: HostRuntime) -> Result<(), Fail> {
     let mut cache = LruCache::new(rt.alloc(), 2);
     cache.insert('x', 1)?;
     cache.insert('y', 2)?;
-    assert_eq!(rt; cache.remove_lru(), Some(('x', 1)));
-    assert_eq!(rt; cache.len(), 1);
+    check_eq!(rt; cache.remove_lru(), Some(('x', 1)));
+    check_eq!(rt; cache.len(), 1);
     Ok(())
 }
 
@@ -30,7 +30,7 @@ fn set_capacity(rt: HostRuntime) -> Result<(), Fail> {
     let mut cache = LruCache::new(rt.alloc(), 3);
     cache.extend([('x', 1), ('y', 2), ('z', 3)])?;
     cache.set_capacity(1);
-    assert_eq!(rt; (cache.len(), cache.peek(&'z')), (1, Some(&3)));
+    check_eq!(rt; (cache.len(), cache.peek(&'z')), (1, Some(&3)));
     Ok(())
 }
 
@@ -40,7 +40,7 @@ fn clear(rt: HostRuntime) -> Result<(), Fail> {
     let mut cache = LruCache::new(rt.alloc(), 2);
     cache.insert('x', 1)?;
     cache.clear();
-    assert_eq!(rt; (cache.len(), cache.capacity()), (0, 2));
+    check_eq!(rt; (cache.len(), cache.capacity()), (0, 2));
     Ok(())
 }
 
@@ -51,9 +51,9 @@ fn drain(rt: HostRuntime) -> Result<(), Fail> {
     cache.insert('x', 1)?;
     cache.insert('y', 2)?;
     let mut pairs = cache.drain();
-    assert_eq!(rt; pairs.next(), Some(('x', 1)));
+    check_eq!(rt; pairs.next(), Some(('x', 1)));
     drop(pairs);
-    assert!(rt; cache.is_empty());
+    check!(rt; cache.is_empty());
     Ok(())
 }
 
@@ -64,6 +64,6 @@ fn retain(rt: HostRuntime) -> Result<(), Fail> {
     cache.insert('x', 1)?;
     cache.insert('y', 2)?;
     cache.retain(|_key, value| *value > 1);
-    assert_eq!(rt; (cache.len(), cache.peek(&'y')), (1, Some(&2)));
+    check_eq!(rt; (cache.len(), cache.peek(&'y')), (1, Some(&2)));
     Ok(())
 }

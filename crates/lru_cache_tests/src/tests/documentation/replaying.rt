@@ -1,5 +1,5 @@
 //! Runs of commands.
-use crate::tests::support::checks::check_eq as assert_eq;
+use crate::tests::support::checks::check_eq;
 use lru_cache::LruCache;
 use lru_cache::replay::{Answer, Command, replay};
 use std::test::Fail;
@@ -14,9 +14,9 @@ fn module(rt: HostRuntime) -> Result<(), Fail> {
         Command::RemoveLru,
     ];
     let mut answers = replay(&mut cache, Vec::from_array(rt.alloc(), commands)?)?.into_iter();
-    assert_eq!(rt; answers.next(), Some(Answer::New));
-    assert_eq!(rt; answers.next(), Some(Answer::New));
-    assert_eq!(rt; answers.next(), Some(Answer::Pair('y', 2)));
+    check_eq!(rt; answers.next(), Some(Answer::New));
+    check_eq!(rt; answers.next(), Some(Answer::New));
+    check_eq!(rt; answers.next(), Some(Answer::Pair('y', 2)));
     Ok(())
 }
 
@@ -26,9 +26,9 @@ fn command(rt: HostRuntime) -> Result<(), Fail> {
     let mut cache: LruCache<char, u64> = LruCache::new(rt.alloc(), 1);
     let commands = Vec::from_array(rt.alloc(), [Command::SetCapacity(2)])?;
     for answer in replay(&mut cache, commands)? {
-        assert_eq!(rt; answer, Answer::Kept(0));
+        check_eq!(rt; answer, Answer::Kept(0));
     }
-    assert_eq!(rt; cache.capacity(), 2);
+    check_eq!(rt; cache.capacity(), 2);
     Ok(())
 }
 
@@ -38,7 +38,7 @@ fn answer(rt: HostRuntime) -> Result<(), Fail> {
     let mut cache: LruCache<char, u64> = LruCache::new(rt.alloc(), 1);
     let commands = Vec::from_array(rt.alloc(), [Command::Get('x')])?;
     for answer in replay(&mut cache, commands)? {
-        assert_eq!(rt; answer, Answer::Missing);
+        check_eq!(rt; answer, Answer::Missing);
     }
     Ok(())
 }
@@ -53,7 +53,7 @@ fn replays(rt: HostRuntime) -> Result<(), Fail> {
         Command::Get('x'),
     ];
     let mut answers = replay(&mut cache, Vec::from_array(rt.alloc(), commands)?)?.into_iter();
-    assert_eq!(rt; answers.next_back(), Some(Answer::Missing));
-    assert_eq!(rt; cache.peek(&'y'), Some(&2));
+    check_eq!(rt; answers.next_back(), Some(Answer::Missing));
+    check_eq!(rt; cache.peek(&'y'), Some(&2));
     Ok(())
 }

@@ -1,5 +1,5 @@
 //! Clones and debug text.
-use crate::tests::support::checks::check_eq as assert_eq;
+use crate::tests::support::checks::check_eq;
 use lru_cache::LruCache;
 use std::test::Fail;
 
@@ -9,7 +9,7 @@ fn clone(rt: HostRuntime) -> Result<(), Fail> {
     let mut cache = LruCache::new(rt.alloc(), 2);
     cache.insert('x', 1)?;
     let clone = cache.clone()?;
-    assert_eq!(rt; (clone.peek(&'x'), clone.capacity()), (Some(&1), 2));
+    check_eq!(rt; (clone.peek(&'x'), clone.capacity()), (Some(&1), 2));
     Ok(())
 }
 
@@ -19,6 +19,6 @@ fn debug(rt: HostRuntime) -> Result<(), Fail> {
     let mut cache = LruCache::new(rt.alloc(), 2);
     cache.extend([(1, 10), (2, 20), (3, 30)])?;
     let text = format!(in rt.alloc(); "{cache:?}")?;
-    assert_eq!(rt; text.as_str(), "{3: 30, 2: 20}");
+    check_eq!(rt; text.as_str(), "{3: 30, 2: 20}");
     Ok(())
 }

@@ -2,8 +2,8 @@
 
 use super::{CallMap, KINDS, Kind, check_calls, lookup_of, map_of_kind};
 use crate::tests::support::checks::check;
-use crate::tests::support::counted_calls::{Builder, Calls, Key, key_of, lookup, new_counts};
-use linked_hash_map::{Entry, OccupiedEntry, VacantEntry};
+use crate::tests::support::counted_calls::{Calls, Key, key_of, lookup, new_counts};
+use linked_hash_map::Entry;
 use std::alloc::Global;
 use std::process::Abort;
 
@@ -31,15 +31,10 @@ fn or_default(rt: &impl Abort, map: &mut CallMap, key: &Key, wanted: Calls) {
     check_calls!(rt; key.counts, map.entry(key.again(rt)).or_default().is_ok(), wanted);
 }
 
-/// Reads the key of a vacant entry, and inserts it.
-fn insert_new(entry: VacantEntry<'_, Key, u64, Builder>, number: u64) -> bool {
-    entry.key().number == number && entry.insert(1).is_ok()
-}
-
 /// Inserts a key through its vacant entry.
 fn insert_vacant(rt: &impl Abort, map: &mut CallMap, key: &Key) -> bool {
     match map.entry(key.again(rt)) {
-        Entry::Vacant(entry) => insert_new(entry, key.number),
+        Entry::Vacant(entry) => entry.key().number == key.number && entry.insert(1).is_ok(),
         Entry::Occupied(_entry) => false,
     }
 }
@@ -53,22 +48,18 @@ fn take_key(rt: &impl Abort, map: &mut CallMap, key: &Key) -> bool {
 }
 
 /// Makes the calls of an occupied entry that leave its pair.
-fn use_entry(entry: OccupiedEntry<'_, Key, u64, Builder>) -> u64 {
-    let mut entry = entry;
-    let number = entry.key().number;
-    *entry.get_mut() = number;
-    let old = entry.insert(1);
-    entry.move_to_front();
-    entry.move_to_back();
-    *entry.into_mut() = old;
-    old
-}
-
-/// Makes the calls of the occupied entry of a key that leave its pair.
 fn use_occupied(rt: &impl Abort, map: &mut CallMap, key: &Key) -> u64 {
     match map.entry(key.again(rt)) {
         Entry::Vacant(_entry) => 0,
-        Entry::Occupied(entry) => use_entry(entry),
+        Entry::Occupied(mut entry) => {
+            let number = entry.key().number;
+            *entry.get_mut() = number;
+            let old = entry.insert(1);
+            entry.move_to_front();
+            entry.move_to_back();
+            *entry.into_mut() = old;
+            old
+        }
     }
 }
 
