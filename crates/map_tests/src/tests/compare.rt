@@ -17,6 +17,7 @@ fn assert_operators(
 ) {
     check_eq!(rt; (lesser != greater, lesser == lesser), (true, true));
     check_eq!(rt; (lesser < greater, lesser <= lesser), (true, true));
+    check_eq!(rt; (greater > lesser, greater >= greater), (true, true));
 }
 
 /// Checks each comparison of two maps of which the first is less.
