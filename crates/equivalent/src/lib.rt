@@ -34,7 +34,8 @@ pub trait Equivalent<K: Eq + Hash>: Copy + Hash {
     // Whether a value looks up a key.
     ghost equivalent: { Self → K → Bool };
 
-    // The key that the value is, if it is one. An implementation may leave this out.
+    // The key that the value is, if it is one. No law ties it to the value, and no result rests on
+    // it: a clause that uses it speaks of a key that was found. An implementation may leave it out.
     ghost as_key: { Self → Option K } = { λ _. None };
 
     /// Returns `true` if `self` looks up `key`.

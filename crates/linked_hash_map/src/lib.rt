@@ -50,7 +50,8 @@
 //! Lookups, insertions and removals are O(1) on average, and O(n) if all keys hash alike. Below the
 //! capacity no insertion allocates or fails; a refused one hands back its pair. A call that
 //! allocates returns a `Result`, and an error changes nothing, except that an extension keeps what
-//! it inserted before. By `?` an error becomes an `io::Error` or an `AllocError` too. Nothing panics.
+//! it inserted before. By `?` an error becomes an `io::Error` or an `AllocError` too, except
+//! [`PutRefused`](sessions::PutRefused), which may not be for want of memory. Nothing panics.
 //! [`LinkedHashMap`] says more.
 //!
 //! `docs/PROMISES.md` says what is proved, and `docs/CALLING.md` how callers use contracts.
