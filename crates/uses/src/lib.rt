@@ -1,5 +1,5 @@
-//! Programs over the public calls of `linked_hash_map`, each proved from the contracts of those
-//! calls alone.
+//! Programs over the public calls of `linked_hash_map`, `lru_cache` and `linked_hash_set`, each
+//! proved from the contracts of those calls alone.
 #![tactic(auto)]
 
 pub mod cache;
@@ -9,6 +9,7 @@ pub mod document;
 pub mod hasher;
 pub mod interner;
 pub mod loops;
+pub mod memo;
 pub mod memory;
 pub mod modes;
 pub mod numbered;
@@ -21,5 +22,6 @@ pub mod recent;
 pub mod refusal;
 pub mod replaying;
 pub mod retains;
+pub mod tasks;
 pub mod text;
 pub mod window;

@@ -1,5 +1,5 @@
 //! Each program except the caches and the replays, run once.
-ghost use Rattle.std.specs.Prelude.{◌≡◌, ◌∷◌, [], Ok};
+ghost use Rattle.std.specs.Prelude.{◌≡◌, ◌∷◌, ◌*◌, ◌%◌, [], Ok};
 
 use super::support::checks::{check, check_eq, given};
 use linked_hash_map::{LinkedHashMap, Mode};
@@ -16,6 +16,7 @@ use uses::loops::{
     keys_in_order, oldest_key, reset, sum_by_values, sum_of, take_all, take_out_zeros,
     visit_by_value,
 };
+use uses::memo::{Function, Memo};
 use uses::memory::{empty_out, rehashed, reserve_and_extend, reserve_and_insert};
 use uses::modes::insert_in_place;
 use uses::numbered::{Numbered, add_both};
@@ -25,6 +26,7 @@ use uses::queue::Queue;
 use uses::recent::Recent;
 use uses::refusal::{insert_anyway, insert_if_new};
 use uses::retains::{age, keep_frequent};
+use uses::tasks::{Tasks, cancel_from};
 use uses::text::{age_of, first_page, note_age, note_pages};
 use uses::window::Window;
 
@@ -345,4 +347,43 @@ fn an_insertion_is_printed(rt: HostRuntime) {
     check!(rt; insert_and_print(&rt, &mut map, 1, 10).is_ok());
     check!(rt; insert_and_print(&rt, &mut map, 1, 11).is_ok());
     check_eq!(rt; map.get(&1), Some(&11));
+}
+
+/// The squares of numbers, modulo 2^64.
+#[derive(Drop)]
+struct Square {}
+
+impl Function for Square {
+    ghost of = { λ number. number * number % 18446744073709551616 };
+
+    fn compute(&self, number: u64) -> u64 {
+        number.wrapping_mul(number)
+    }
+}
+
+#[test]
+fn results_are_stored(rt: HostRuntime) {
+    let mut squares = Memo::new(rt.alloc(), Square {}, 2);
+    check_eq!(rt; squares.result_for(3), 9);
+    check_eq!(rt; squares.result_for(4), 16);
+    check_eq!(rt; squares.result_for(3), 9);
+    check_eq!(rt; squares.result_for(5), 25);
+    check_eq!(rt; (squares.stored(3), squares.stored(4)), (Some(9), None));
+    squares.forget(3);
+    check_eq!(rt; (squares.stored(3), squares.stored(5)), (None, Some(25)));
+    squares.resize(0);
+    check_eq!(rt; (squares.result_for(5), squares.stored(5)), (25, None));
+}
+
+#[test]
+fn tasks_leave_once_they_are_done(rt: HostRuntime) {
+    let mut tasks = Tasks::new(rt.alloc());
+    check_eq!(rt; tasks.add(7), Ok(true));
+    check_eq!(rt; tasks.add(5), Ok(true));
+    check_eq!(rt; tasks.add(9), Ok(true));
+    check_eq!(rt; tasks.add(7), Ok(false));
+    check_eq!(rt; tasks.add(2), Ok(true));
+    check_eq!(rt; (tasks.done(&5), tasks.done(&5), tasks.has(&5)), (true, false, false));
+    cancel_from(&mut tasks, 8);
+    check_eq!(rt; (tasks.next(), tasks.next(), tasks.next()), (Some(7), Some(2), None));
 }

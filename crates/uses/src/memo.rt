@@ -1,0 +1,85 @@
+//! Results of a function, each computed once while the cache has it.
+ghost use Rattle.std.specs.Prelude.{◌≡◌, ◌≤◌, ℕ, [], false, length, Some, IsSome, None, IfSome, nat_eq};
+ghost use Rattle.linked_hash_map.specs.Pairs.{value_at, to_back_as_is};
+
+use lru_cache::LruCache;
+use std::alloc::Global;
+
+/// A function of numbers, which returns the same for the same number.
+pub trait Function {
+    /// What it returns for each number.
+    ghost of: { ℕ → ℕ };
+
+    /// Computes the result for a number.
+    fn compute(&self, number: u64) -> u64
+        ensures { result ≡ of number };
+}
+
+/// A function with its results for the numbers that were asked for last.
+#[derive(Drop)]
+pub struct Memo<F: Function> {
+    function: F,
+    results: LruCache<u64, u64>,
+    ghost right: { (number result : ℕ)
+        → value_at nat_eq results.pairs number ≡ Some result → result ≡ F.of number },
+}
+
+impl<F: Function> Memo<F> {
+    /// Makes a table for at most `size` results, in which none is stored.
+    pub fn new(alloc: Global, function: F, size: usize) -> Self
+        ensures empty { result.results.pairs ≡ [] }
+        ensures size { result.results.limit ≡ size }
+        ensures function { result.function ≡ function }
+    {
+        Memo {
+            function,
+            results: LruCache::new(alloc, size),
+        }
+    }
+
+    /// Returns the result for a number. If it is stored, it is returned and is then the one used
+    /// last, else it is computed and stored. It is also returned if there is no memory to store it.
+    pub fn result_for(&mut self, number: u64) -> u64
+        ensures result { result ≡ F.of number }
+        ensures used { IsSome (value_at nat_eq self.old.results.pairs number)
+            → self.new.results.pairs ≡ to_back_as_is nat_eq self.old.results.pairs number }
+        ensures size { self.new.results.limit ≡ self.old.results.limit }
+        ensures function { self.new.function ≡ self.old.function }
+    {
+        if let Some(result) = self.results.get(&number) {
+            return *result;
+        }
+        let result = self.function.compute(number);
+        let _ = self.results.insert(number, result);
+        result
+    }
+
+    /// Returns the result for a number if it is stored.
+    pub fn stored(&self, number: u64) -> Option<u64>
+        ensures stored { result ≡ value_at nat_eq self.now.results.pairs number }
+        ensures right { IfSome result (λ result. result ≡ F.of number) }
+    {
+        self.results.peek(&number).copied()
+    }
+
+    /// Forgets the result for a number.
+    pub fn forget(&mut self, number: u64)
+        ensures gone { value_at nat_eq self.new.results.pairs number ≡ None }
+        ensures others { (other : ℕ) → nat_eq number other ≡ false
+            → value_at nat_eq self.new.results.pairs other
+            ≡ value_at nat_eq self.old.results.pairs other }
+        ensures size { self.new.results.limit ≡ self.old.results.limit }
+        ensures function { self.new.function ≡ self.old.function }
+    {
+        self.results.remove(&number);
+    }
+
+    /// Sets how many results are stored at most. Those used least recently are forgotten.
+    pub fn resize(&mut self, size: usize)
+        ensures within { length self.new.results.pairs ≤ size }
+        ensures size { self.new.results.limit ≡ size }
+        ensures function { self.new.function ≡ self.old.function }
+    {
+        self.results.set_capacity(size);
+    }
+}
