@@ -13,6 +13,7 @@ mod drains;
 mod drops;
 mod entries;
 mod equal_keys;
+mod equivalents;
 mod errors;
 mod every_call;
 mod failing_checks;
