@@ -25,20 +25,45 @@ pub record LeavesVisit {K V S : Type 0} (insertions : ℕ) (old new : LinkedMap 
   pub stands : length new.pairs ≡ length old.pairs + insertions → to_visit new ≡ to_visit old
   pub ended : length new.pairs < length old.pairs + insertions → to_visit new ≡ []
 
+-- a map is empty, in `Touch`, and has no room
+pub record IsNew {K V S : Type 0} (eq : K → K → Bool) (m : LinkedMap K V S) : Type 0 where
+  pub pairs : m.pairs ≡ []
+  pub capacity : m.capacity ≡ 0
+  pub mode : m.mode ≡ Touch
+  pub rechained : m.rechained ≡ 0
+  pub made : m.made ≡ 0
+  pub valid : IsValid eq m
+
+-- a new map has the default hasher of its type
+pub record IsNewDefault {K V S : Type 0} (eq : K → K → Bool) (IsDefault : S → Type 0)
+    (m : LinkedMap K V S) : Type 0 where
+  pub is_new : IsNew eq m
+  pub hasher : IsDefault m.hasher
+
 module _ {K V S : Type 0} (eq : K → K → Bool) where
   -- the items went into a map one by one, in its mode; the capacity was raised as far as need be
   pub record ExtendsWith (old : LinkedMap K V S) (items : List (K × V)) (new : LinkedMap K V S) : Type 0 where
     pub pairs : new.pairs ≡ insert_each eq old.mode old.pairs items
     pub capacity : new.capacity ≡ max old.capacity (length new.pairs)
+    pub rechained : new.rechained
+        ≡ rechained_each old.rechained old.capacity (new.capacity - old.capacity)
+    pub made : new.made ≡ made_each old.made old.capacity (new.capacity - old.capacity)
     pub settings : KeepsSettings old new
+    pub visit : LeavesVisit (length items) old new
     pub valid : IsValid eq new
 
-  -- the items went into a new map one by one, which has room for no more
-  pub record CollectsInto (items : List (K × V)) (made : LinkedMap K V S) : Type 0 where
-    pub pairs : made.pairs ≡ insert_each eq Touch [] items
-    pub capacity : made.capacity ≡ length made.pairs
-    pub mode : made.mode ≡ Touch
-    pub valid : IsValid eq made
+  -- the items went one by one into a new map with the default hasher of its type, which has room
+  -- for no more
+  pub record CollectsInto (IsDefault : S → Type 0) (items : List (K × V)) (new : LinkedMap K V S)
+      : Type 0 where
+    pub pairs : new.pairs ≡ insert_each eq Touch [] items
+    pub capacity : new.capacity ≡ length new.pairs
+    pub rechained : new.rechained ≡ rechained_each 0 0 new.capacity
+    pub made : new.made ≡ made_each 0 0 new.capacity
+    pub hasher : IsDefault new.hasher
+    pub mode : new.mode ≡ Touch
+    pub visit : to_visit new ≡ []
+    pub valid : IsValid eq new
 
 -- whichever iterator it becomes, that has at most n items left
 abbrev pub GivesAtMost : {T I : Type 0} → (T → I → Type 0) → (I → Count) → T → ℕ → Type 0

@@ -1,9 +1,10 @@
 //! Maps filled from an iterator.
-ghost use Rattle.std.specs.Prelude.{◌≡◌, ℕ, ◌+◌, ◌-◌, ◌≤◌, max, length, None, IfOk, IfErr, OnErr, OnOk, IsOk, IsErrOf};
+ghost use Rattle.std.specs.Prelude.{◌≡◌, ℕ, ◌+◌, ◌-◌, ◌≤◌, [], max, length, None, IfOk, IfErr, OnErr, OnOk, IsOk, IsErrOf};
 ghost use Rattle.std.specs.Iterator.{IsFiniteIterable};
 ghost use Rattle.std.specs.Map.Iter.{deref_pair};
 ghost use Rattle.linked_hash_map.specs.Pairs.{find};
 ghost use Rattle.linked_hash_map.specs.Changes.{KeepsSettings};
+ghost use Rattle.linked_hash_map.specs.Cursor.{to_visit};
 ghost use Rattle.linked_hash_map.specs.Validity.{IsValid};
 ghost use Rattle.linked_hash_map.specs.Counts.{rechained_each, made_each};
 ghost use Rattle.linked_hash_map.specs.Inserts.{LeavesVisit, GivesAtMost, InsertsAll, InsertsUntil, Collects, HintsAboveLimit, NeedsRoom};
@@ -170,6 +171,7 @@ impl<K: Eq + Hash, V, S: BuildHasher> LinkedHashMap<K, V, S> {
             map.pairs map.capacity map.rechained map.made) }
         ensures hasher { IfOk result (λ map. S.is_default map.hasher) }
         ensures mode { IfOk result (λ map. map.mode ≡ Mode.Touch) }
+        ensures to_visit { IfOk result (λ map. to_visit map ≡ []) }
         ensures valid { IfOk result (IsValid K.eq) }
 
         ensures too_large { IsErrOf result ReserveError.TooLarge →

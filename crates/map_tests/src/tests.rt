@@ -27,6 +27,7 @@ mod nodes;
 mod removals;
 mod replays;
 mod retains;
+mod signatures;
 mod support;
 mod under_hashers;
 mod visits;

@@ -1,13 +1,16 @@
 -- What `extend` and `extend_refs` have inserted, one step after another.
-use Rattle.std.proofs.Common.{◌≡◌, ◌+◌, ◌≤◌, ℕ, Bool, List, [], ◌∷◌, ◌++◌, length, map, Option, Some, None, OnSome, IfNone}
-use Rattle.std.proofs.Common.{IsSome, refl, sym, ap, ◌∙◌, subst, arith, length-append}
+use Rattle.std.proofs.Common.{◌≡◌, ◌+◌, ◌-◌, ◌<◌, ◌≤◌, ◌⊎◌, ℕ, Bool, List, [], ◌∷◌, ◌++◌, length, map, Option, Some, None}
+use Rattle.std.proofs.Common.{OnSome, IfNone, IsSome, inl, inr, take, drop, refl, sym, ap, ◌∙◌, subst, arith, length-append}
+use Rattle.std.proofs.Math.Nat.{eq-or-lt_of_le}
+use Rattle.std.proofs.Math.Seq.{drop-nil, take-nil}
 use Rattle.std.specs.List.{IsDistinct}
 use Rattle.std.specs.Map.{keys_of}
 use Rattle.std.specs.Iterator.{Count, IsFinite, size, MakesProgress, YieldsThen}
 use Rattle.std.specs.Cmp.{IsEquivalence}
 use Rattle.std.proofs.lemmas.List.{map-append, map-id, length-map}
 use Rattle.linked_hash_map.specs.LinkedMap.{LinkedMap}
-use Rattle.linked_hash_map.specs.Inserts.{InsertsUntil, LeavesVisit, ExtendsWith}
+use Rattle.linked_hash_map.specs.Counts.{rechained_each, made_each}
+use Rattle.linked_hash_map.specs.Inserts.{insert_each, InsertsUntil, LeavesVisit, ExtendsWith, CollectsInto, IsNewDefault}
 use Rattle.linked_hash_map.specs.Cursor.{to_visit}
 use Rattle.linked_hash_map.specs.Pairs.{find, value_at}
 use Rattle.linked_hash_map.specs.Validity.{IsValid}
@@ -127,7 +130,10 @@ module _ {I X K V S : Type 0} {eq : K → K → Bool} {shows : X → K × V} {re
   ExtendsWith-IsExtended so_far = record {
     pairs = so_far.inserted.pairs;
     capacity = so_far.inserted.capacity;
+    rechained = so_far.inserted.rechained;
+    made = so_far.inserted.made;
     settings = so_far.inserted.settings;
+    visit = subst (λ n. LeavesVisit n old new) (sym (length-map came shows)) so_far.visit;
     valid = so_far.valid;
   }
 
@@ -136,3 +142,34 @@ pub ExtendsWith-pairs : {I K V S : Type 0} {eq : K → K → Bool} {remaining : 
     → IsExtended eq (λ pair. pair) remaining old start now came new → ExtendsWith eq old came new
 ExtendsWith-pairs {eq = eq} {old = old} {new = new} {came = came} so_far =
     subst (λ items. ExtendsWith eq old items new) (map-id came) (ExtendsWith-IsExtended so_far)
+
+-- a map without pairs has none to visit, and neither has it once items went in
+pub to_visit-LeavesVisit : {K V S : Type 0} {old new : LinkedMap K V S} {n : ℕ} → old.pairs ≡ []
+    → length new.pairs ≤ length old.pairs + n → LeavesVisit n old new → to_visit new ≡ []
+to_visit-LeavesVisit {old = old} {new} {n} none most visit = by_length (eq-or-lt_of_le most)
+  where
+    by_length : (length new.pairs ≡ length old.pairs + n) ⊎ (length new.pairs < length old.pairs + n) → to_visit new ≡ []
+    by_length (inl longer) =
+        visit.stands longer
+        ∙ ap (λ pairs. take old.cursor.unvisited (drop old.cursor.bookmark (keys_of pairs))) none
+        ∙ ap (take old.cursor.unvisited) (drop-nil old.cursor.bookmark) ∙ take-nil old.cursor.unvisited
+    by_length (inr shorter) = visit.ended shorter
+
+-- the items went into a new map
+pub CollectsInto-ExtendsWith : {K V S : Type 0} {eq : K → K → Bool} {IsDefault : S → Type 0} → IsEquivalence eq
+    → {old new : LinkedMap K V S} {items : List (K × V)} → IsNewDefault eq IsDefault old
+    → ExtendsWith eq old items new → CollectsInto eq IsDefault items new
+CollectsInto-ExtendsWith {eq = eq} {IsDefault} laws {old} {new} {items} empty into =
+    let none = empty.is_new.capacity in
+    let raised : new.capacity - 0 ≡ new.capacity = omega arith in
+    let longest = length-insert_each_most laws old.mode old.pairs items empty.is_new.valid.distinct in
+    record {
+      pairs = into.pairs ∙ (λ i. insert_each eq (empty.is_new.mode i) (empty.is_new.pairs i) items);
+      capacity = omega (arith, into.capacity, none);
+      rechained = into.rechained ∙ (λ i. rechained_each (empty.is_new.rechained i) (none i) (new.capacity - none i)) ∙ ap (rechained_each 0 0) raised;
+      made = into.made ∙ (λ i. made_each (empty.is_new.made i) (none i) (new.capacity - none i)) ∙ ap (made_each 0 0) raised;
+      hasher = subst IsDefault (sym into.settings.hasher) empty.hasher;
+      mode = into.settings.mode ∙ empty.is_new.mode;
+      visit = to_visit-LeavesVisit empty.is_new.pairs (omega (arith, longest, ap length into.pairs)) into.visit;
+      valid = into.valid;
+    }

@@ -1,8 +1,7 @@
 //! The traits by which the map is collected, extended and made: their error is `AllocError`.
-ghost use Rattle.std.specs.Prelude.{◌≡◌, [], map};
+ghost use Rattle.std.specs.Prelude.{map};
 ghost use Rattle.std.specs.Map.Iter.{deref_pair};
-ghost use Rattle.linked_hash_map.specs.Inserts.{ExtendsWith, CollectsInto};
-ghost use Rattle.linked_hash_map.specs.Validity.{IsValid};
+ghost use Rattle.linked_hash_map.specs.Inserts.{ExtendsWith, CollectsInto, IsNew, IsNewDefault};
 
 use crate::map::LinkedHashMap;
 use std::alloc::{AllocError, Global};
@@ -80,7 +79,7 @@ impl<K: Eq + Hash + Drop, V: Drop, S: BuildHasher + Default + Drop> FromIterator
     for LinkedHashMap<K, V, S> {
     type Alloc = Global;
 
-    ghost from_iter_gives = { CollectsInto K.eq };
+    ghost from_iter_gives = { CollectsInto K.eq S.is_default };
 
     fn from_iter<I: IntoIterator<Item = (K, V)>>(
         alloc: Global,
@@ -92,7 +91,10 @@ impl<K: Eq + Hash + Drop, V: Drop, S: BuildHasher + Default + Drop> FromIterator
     }
 }
 
-/// Makes an empty map with a clone of the hasher, as `try_take` asks for.
+/// Makes an empty map with a clone of the hasher, as `try_take` asks for. It is in
+/// [`Mode::Touch`](crate::Mode::Touch), of capacity 0 and takes no memory.
+///
+/// No clause says that the hasher is a clone, since the clause of the trait is of the new map alone.
 ///
 /// # Examples
 ///
@@ -105,7 +107,7 @@ impl<K: Eq + Hash + Drop, V: Drop, S: BuildHasher + Default + Drop> FromIterator
 /// assert_eq!(rt; (taken.len(), map.len()), (1, 0));
 /// ```
 impl<K: Eq + Hash, V, S: BuildHasher + Clone> Emptied for LinkedHashMap<K, V, S> {
-    ghost is_emptied = { λ map. (map.pairs ≡ []) × IsValid K.eq map };
+    ghost is_emptied = { IsNew K.eq };
 
     fn emptied(like: &Self) -> Result<Self, AllocError> {
         Ok(LinkedHashMap::with_hasher(like.allocator(), like.hasher().clone()?))
@@ -113,7 +115,7 @@ impl<K: Eq + Hash, V, S: BuildHasher + Clone> Emptied for LinkedHashMap<K, V, S>
 }
 
 /// Makes an empty map with the default hasher of its type, as `or_default` of the maps of std asks
-/// for.
+/// for. It is in [`Mode::Touch`](crate::Mode::Touch), of capacity 0 and takes no memory.
 ///
 /// # Examples
 ///
@@ -125,7 +127,7 @@ impl<K: Eq + Hash, V, S: BuildHasher + Clone> Emptied for LinkedHashMap<K, V, S>
 /// assert_eq!(rt; maps.len(), 1);
 /// ```
 impl<K: Eq + Hash, V, S: BuildHasher + Default> MadeWith<Global> for LinkedHashMap<K, V, S> {
-    ghost is_made_with = { λ map. (map.pairs ≡ []) × IsValid K.eq map };
+    ghost is_made_with = { IsNewDefault K.eq S.is_default };
 
     fn made_with(alloc: Global) -> Self {
         LinkedHashMap::with_hasher(alloc, S::default())

@@ -1,10 +1,12 @@
-use Rattle.std.proofs.Common.{◌∙◌, ◌-◌, ◌≤◌, List, [], ◌∷◌, ap, subst, sym, max, length, inr, Option, Some, Err}
+use Rattle.std.proofs.Common.{◌∙◌, ◌-◌, ◌≤◌, List, [], ◌∷◌, map, arith, ap, subst, sym, max, length, inr, Option, Some, Err}
 use Rattle.std.specs.Iterator.{Drains, YieldsThen}
-use Rattle.std.proofs.lemmas.List.{map-id}
+use Rattle.std.proofs.lemmas.List.{map-id, length-map}
 use Rattle.std.proofs.lemmas.Result.{err_from_is_err_and}
 use Rattle.linked_hash_map.specs.Counts.{rechained_each, made_each}
 use Rattle.linked_hash_map.specs.Inserts.{insert_each}
 use Rattle.linked_hash_map.specs.declared.map.TheConstants.{LIMIT}
+use Rattle.linked_hash_map.proofs.Callers.Collected.{length-insert_each_most}
+use Rattle.linked_hash_map.proofs.pairs.ExtendSteps.{to_visit-LeavesVisit}
 use Rattle.linked_hash_map.proofs.map.LinkedHashMap.from_iter.Goals as goal
 
 -- what gives an item after others gives a first one
@@ -43,6 +45,14 @@ returns-in-Ok-clause-all g c =
       counted = took.rechained ∙ (λ i. rechained_each (made.rechained i) (made.capacity i) (c.extend.new.self.capacity - made.capacity i));
       nodes_are = took.made ∙ (λ i. made_each (made.made i) (made.capacity i) (c.extend.new.self.capacity - made.capacity i));
     }
+
+pub returns-in-Ok-clause-to_visit : goal.returns-in-Ok-clause-to_visit
+returns-in-Ok-clause-to_visit g c =
+    let made = c.in_ok-map.ensures in let inserts = c.in-Ok.ensures.to_visit in
+    let longest = length-insert_each_most g.met.K.Eq.laws c.in_ok-map.map.mode c.in_ok-map.map.pairs
+    (map (λ pair. pair) inserts.0.given) made.valid.distinct in
+    let came = length-map inserts.0.given (λ pair. pair) in
+    to_visit-LeavesVisit made.pairs (omega (arith, longest, came, ap length inserts.0.pairs)) inserts.1
 
 pub returns-in-Err-clause-no_room : goal.returns-in-Err-clause-no_room
 returns-in-Err-clause-no_room g c =
