@@ -49,7 +49,10 @@ fn a_reference_looks_up_a_key(rt: HostRuntime) {
 
 /// Makes two equal texts.
 fn two_strings(rt: &impl Abort, alloc: Global, text: &str) -> (String, String) {
-    (given!(rt; String::from_str(alloc, text)), given!(rt; String::from_str(alloc, text)))
+    (
+        given!(rt; String::from_str(alloc, text)),
+        given!(rt; String::from_str(alloc, text)),
+    )
 }
 
 #[test]
@@ -61,7 +64,10 @@ fn a_text_looks_up_a_string(rt: HostRuntime) {
 
 /// Makes two equal texts in boxes.
 fn two_boxed_texts(rt: &impl Abort, alloc: Global, text: &str) -> (BoxedStr, BoxedStr) {
-    (given!(rt; BoxedStr::from_str(alloc, text)), given!(rt; BoxedStr::from_str(alloc, text)))
+    (
+        given!(rt; BoxedStr::from_str(alloc, text)),
+        given!(rt; BoxedStr::from_str(alloc, text)),
+    )
 }
 
 #[test]
@@ -73,7 +79,10 @@ fn a_text_looks_up_a_boxed_text(rt: HostRuntime) {
 
 /// Makes two equal texts with counts of their owners.
 fn two_counted_texts(rt: &impl Abort, alloc: Global, text: &str) -> (RcStr, RcStr) {
-    (given!(rt; RcStr::from_str(alloc, text)), given!(rt; RcStr::from_str(alloc, text)))
+    (
+        given!(rt; RcStr::from_str(alloc, text)),
+        given!(rt; RcStr::from_str(alloc, text)),
+    )
 }
 
 #[test]
@@ -85,12 +94,22 @@ fn a_text_looks_up_a_counted_text(rt: HostRuntime) {
 
 #[test]
 fn a_text_looks_up_a_lent_text(rt: HostRuntime) {
-    check_lookups(&rt, rt.alloc(), ("one", "one"), ("one", "one"), "one", "two");
+    check_lookups(
+        &rt,
+        rt.alloc(),
+        ("one", "one"),
+        ("one", "one"),
+        "one",
+        "two",
+    );
 }
 
 /// Makes two equal vectors.
 fn two_vectors(rt: &impl Abort, alloc: Global, items: &[u8]) -> (Vec<u8>, Vec<u8>) {
-    (given!(rt; Vec::from_slice(alloc, items)), given!(rt; Vec::from_slice(alloc, items)))
+    (
+        given!(rt; Vec::from_slice(alloc, items)),
+        given!(rt; Vec::from_slice(alloc, items)),
+    )
 }
 
 #[test]
@@ -107,7 +126,10 @@ fn two_boxed_slices(
     alloc: Global,
     items: &[u8],
 ) -> (BoxedSlice<u8>, BoxedSlice<u8>) {
-    (given!(rt; BoxedSlice::from_slice(alloc, items)), given!(rt; BoxedSlice::from_slice(alloc, items)))
+    (
+        given!(rt; BoxedSlice::from_slice(alloc, items)),
+        given!(rt; BoxedSlice::from_slice(alloc, items)),
+    )
 }
 
 #[test]
@@ -121,5 +143,12 @@ fn a_slice_looks_up_a_boxed_slice(rt: HostRuntime) {
 #[test]
 fn a_slice_looks_up_a_lent_slice(rt: HostRuntime) {
     let (present, absent): (&[u8], &[u8]) = (&[1, 2], &[1, 3]);
-    check_lookups(&rt, rt.alloc(), (present, present), (present, present), present, absent);
+    check_lookups(
+        &rt,
+        rt.alloc(),
+        (present, present),
+        (present, present),
+        present,
+        absent,
+    );
 }
