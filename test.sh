@@ -58,7 +58,7 @@ show_part refused-growths 'refusal_tests: [1-9]'
 show_part wrong-bodies-self-test
 [ ! -e "$work/programs.end" ] ||
     show_part programs \
-        ': 6 inputs .* 40 res.* 20000 lines .* 20 workloads .* 250 turns .* 8192 KiB, and not in 4192'
+        ': 6 inputs .* 40 res.* 20000 lines .* 16384 lines .* 3 pipes .* 20 workloads .* 250 turns .* 8192 KiB, and not in 4192'
 if [ -n "$failed" ]; then
     echo "FAILED:$failed"
     exit 1
