@@ -1,66 +1,98 @@
 #!/bin/sh
-# Passes every proof and test of the repository, and says for each part the seconds that it took and
-# its result.
+# Passes every proof and test of the repository. Ends with a table of what each part took of a
+# processor, in seconds, and its result.
 #
 # The parts are the scripts in scripts/, each of which runs by itself too, their self-tests, and the
-# gate, `rt ci`. What needs no proof runs beside it, on what it leaves of the processors. RT_CI is a
-# word for `rt ci`, as `--anew`. The last line is that of the gate, or says what failed.
+# gate, `rt ci`. A part fails too if no line of it has its words. What needs no proof runs beside
+# the gate, on what it leaves of the processors. RT_CI is empty, or `--anew` for `rt ci` to prove all
+# once more. The last line is that of the gate, or says what failed.
 set -u
 cd "$(dirname "$0")" || exit 2
+case ${RT_CI:-} in
+'' | --anew) ;;
+*)
+    echo "RT_CI is '$RT_CI', and not empty or --anew"
+    exit 2
+    ;;
+esac
 work=$(mktemp -d) || exit 2
 trap 'rm -rf "$work"' EXIT
 failed=
 
-# Runs a part, with what it says in a file, and notes how it ended and when.
-run_part() {
-    name=$1 began=$(date +%s)
+# Runs a part, with what it says in a file, and notes how it ended and what it took.
+run_part() (
+    name=$1
     shift
+    echo "$(date +%H:%M) $name begins"
     "$@" >"$work/$name" 2>&1
-    echo "$? $(($(date +%s) - began))" >"$work/$name.end"
+    echo $? >"$work/$name.status"
+    times >"$work/$name.times"
+    echo "$(date +%H:%M) $name ends"
+)
+
+# Prints how many seconds of a processor a part took, with all that it ran.
+seconds_of() {
+    tr ms '  ' <"$work/$1.times" | awk '{ sum += 60 * ($1 + $3) + $2 + $4 } END { printf "%.0f", sum }'
 }
 
-# Shows what a part said, and its result. A part fails too if it does not say the words given.
+# Notes the row of a part for the table. It passes if its status is 0 and a line has these words.
+judge_part() {
+    result=passed
+    grep -q "$2" "$work/$1" || result="FAILED: no line has '$2'"
+    [ "$(cat "$work/$1.status")" = 0 ] || result=FAILED
+    [ "$result" = passed ] || failed="$failed $1"
+    printf '%7s  %-26s  %s\n' "$(seconds_of "$1")" "$1" "$result" >>"$work/table"
+}
+
+# Shows what a part said, and judges it.
 show_part() {
     cat "$work/$1"
-    status=1 seconds=0
-    [ ! -e "$work/$1.end" ] || read -r status seconds <"$work/$1.end"
-    [ -z "${2:-}" ] || grep -q "$2" "$work/$1" || status="1, without '$2'"
-    [ "$status" = 0 ] || failed="$failed $1"
-    echo "$1: $seconds s, $([ "$status" = 0 ] && echo passed || echo FAILED)"
+    judge_part "$@"
 }
 
-for script in documents dropped-counts; do
-    run_part $script "scripts/$script"
-    show_part $script
-done
+# Shows the table, and ends if a part failed.
+end_if_failed() {
+    [ -n "$failed" ] || return 0
+    cat "$work/table"
+    echo "FAILED:$failed"
+    exit 1
+}
+
+run_part documents scripts/documents
+show_part documents ': all as the sources have it$'
+run_part dropped-counts scripts/dropped-counts
+show_part dropped-counts ': each call has a test that counts what it drops, or drops nothing$'
 run_part wrong-body-texts scripts/wrong-bodies --texts
-show_part wrong-body-texts 'each text stands'
-for script in documents dropped-counts refused-growths programs; do
-    run_part $script-self-test "scripts/$script" --self-test
-    show_part $script-self-test
-done
-[ -z "$failed" ] || exit 1
+show_part wrong-body-texts ': each text stands$'
+run_part documents-self-test scripts/documents --self-test
+show_part documents-self-test '^documents finds each planted fault$'
+run_part dropped-counts-self-test scripts/dropped-counts --self-test
+show_part dropped-counts-self-test '^dropped-counts finds each of [1-9][0-9]* planted faults$'
+run_part refused-growths-self-test scripts/refused-growths --self-test
+show_part refused-growths-self-test '^refused-growths: [1-9][0-9]* tries end as they must$'
+run_part programs-self-test scripts/programs --self-test
+show_part programs-self-test '^programs: [1-9][0-9]* tries end as they must$'
+end_if_failed
 
 run_part refused-growths nice -n 19 scripts/refused-growths &
 run_part wrong-bodies-self-test nice -n 19 scripts/wrong-bodies --self-test &
 
-began=$(date +%s)
-{
-    RT_JOBS=${RT_JOBS:-$(scripts/lanes)} rt ci ${RT_CI:-}
-    echo "$? $(($(date +%s) - began))" >"$work/gate.end"
-} | tee "$work/gate-output"
-: >"$work/gate"
-show_part gate
-
+echo "$(date +%H:%M) gate begins"
+(
+    RT_JOBS=${RT_JOBS:-$(scripts/lanes)} rt ci ${RT_CI:-} 2>&1
+    echo $? >"$work/gate.status"
+    times >"$work/gate.times"
+) | tee "$work/gate"
 wait
-[ -n "$failed" ] || run_part programs scripts/programs
-show_part refused-growths 'refusal_tests: [1-9]'
-show_part wrong-bodies-self-test
-[ ! -e "$work/programs.end" ] ||
-    show_part programs \
-        ': 6 inputs .* 40 res.* 20000 lines .* 20 workloads .* 250 turns .* 8192 KiB, and not in 4192'
-if [ -n "$failed" ]; then
-    echo "FAILED:$failed"
-    exit 1
-fi
-tail -n 1 "$work/gate-output"
+judge_part gate "must-fail edits: $(ls crates/*/must-fail/*.edit | wc -l) refused; "
+show_part refused-growths '^refusal_tests: [1-9]'
+show_part wrong-bodies-self-test '^wrong-bodies passes good files, and fails on each of [1-9]'
+end_if_failed
+
+run_part programs scripts/programs
+words=': 32 rows .* 5 inputs .* 40 res.* 20000 lines .* 16384 lines .* 3 pipes .* 20 workloads'
+show_part programs "$words .* 250 turns .* 8192 KiB, and not in 4192"
+end_if_failed
+cat "$work/table"
+awk '{ sum += $1 } END { printf "%7d  in all, or %.0f minutes\n", sum, sum / 60 }' "$work/table"
+tail -n 1 "$work/gate"

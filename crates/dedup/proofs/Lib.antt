@@ -3,3 +3,4 @@ mod First
 mod Passes
 mod Remembered
 mod Said
+mod Told

@@ -18,9 +18,17 @@ SayKeep arguments Last = arguments ≡ codes "--last" ∷ []
 SayKeep arguments (Window n) =
     (text : List ℕ) × (arguments ≡ codes "--window" ∷ text ∷ []) × SpellsNumber text n
 
--- the arguments are wrong
+-- the arguments say no lines to keep
 abbrev pub SayNothing : List (List ℕ) → Type 0
 SayNothing arguments = (keep : Keep) → ¬ SayKeep arguments keep
+
+-- the arguments ask for help
+abbrev pub AskHelp : List (List ℕ) → Type 0
+AskHelp arguments = arguments ≡ codes "--help" ∷ []
+
+-- the arguments are wrong: they say no lines to keep, and do not ask for help
+abbrev pub AreWrong : List (List ℕ) → Type 0
+AreWrong arguments = SayNothing arguments × ¬ AskHelp arguments
 
 -- the bytes of the arguments
 abbrev pub texts : List (String Global) → List (List ℕ)

@@ -1,4 +1,5 @@
 pub mod Arguments
+pub mod Help
 pub mod Kept
 pub mod Lines
 pub mod Push

@@ -15,10 +15,15 @@ use super::recent::Recent;
 use super::stop::Stop;
 use linked_hash_set::Iter;
 use std::alloc::Global;
-use std::io::{BufRead, Write};
+use std::hash::BuildHasher;
+use std::io::{BufRead, ErrorKind, Write};
 
 /// Writes a line unless it is among the recent ones, and makes it the last of them.
-fn filter_line<W: Write>(recent: &mut Recent, line: &[u8], output: &mut W) -> Result<(), Stop>
+fn filter_line<S: BuildHasher, W: Write>(
+    recent: &mut Recent<S>,
+    line: &[u8],
+    output: &mut W,
+) -> Result<(), Stop>
     ensures written { OnOk result (Appends (W.contents output.old) (W.contents output.new)
         (text_of (unless_among (recent_lines recent.old) line.now))) }
     ensures lines { OnOk result (recent_lines recent.new
@@ -34,8 +39,9 @@ fn filter_line<W: Write>(recent: &mut Recent, line: &[u8], output: &mut W) -> Re
 
 /// Writes each line that is not among the distinct lines before it: all of them, or the last
 /// `size`.
-fn write_new<R: BufRead, W: Write>(
+fn write_new<S: BuildHasher + Drop, R: BufRead, W: Write>(
     alloc: Global,
+    hasher: S,
     size: Option<usize>,
     input: &mut R,
     output: &mut W,
@@ -45,7 +51,7 @@ fn write_new<R: BufRead, W: Write>(
         (text_of (new_lines (distinct_lines size) [] (lines_of bytes))))) }
     ensures stop { IfErr result StopsOutput }
 {
-    let mut recent = Recent::new(alloc, size);
+    let mut recent = Recent::new(alloc, size, hasher);
     let mut line = Vec::new(alloc);
     // The count only bounds the loop: it is never reached.
     for _ in 0..u64::MAX {
@@ -54,17 +60,21 @@ fn write_new<R: BufRead, W: Write>(
         }
         filter_line(&mut recent, line.as_slice(), output)?;
     }
-    Err(Stop::InputFailed)
+    Err(Stop::InputFailed(ErrorKind::Other))
 }
 
 /// Reads the input to its end, and returns the distinct lines in the order of their last
 /// appearances.
-fn read_lines<R: BufRead>(alloc: Global, input: &mut R) -> Result<Recent, Stop>
+fn read_lines<S: BuildHasher + Drop, R: BufRead>(
+    alloc: Global,
+    hasher: S,
+    input: &mut R,
+) -> Result<Recent<S>, Stop>
     ensures lines { IfOk result (λ recent. IfSome (R.remaining input.old) (λ bytes.
         recent_lines recent ≡ last_appearances (lines_of bytes))) }
     ensures stop { IfErr result StopsOutput }
 {
-    let mut recent = Recent::new(alloc, None);
+    let mut recent = Recent::new(alloc, None, hasher);
     let mut line = Vec::new(alloc);
     for _ in 0..u64::MAX {
         if !read_line(input, &mut line)? {
@@ -72,7 +82,7 @@ fn read_lines<R: BufRead>(alloc: Global, input: &mut R) -> Result<Recent, Stop>
         }
         recent.push(line.as_slice())?;
     }
-    Err(Stop::InputFailed)
+    Err(Stop::InputFailed(ErrorKind::Other))
 }
 
 /// Writes each of these lines.
@@ -90,8 +100,9 @@ fn write_lines<W: Write>(lines: Iter<'_, Vec<u8>>, output: &mut W) -> Result<(),
 /// Writes the lines of the input that are to be kept. Lines that are written at their first
 /// appearance, or by a window, are written as they come, and those that are written at their last
 /// appearance at the end of the input.
-pub fn write_kept<R: BufRead, W: Write>(
+pub fn write_kept<S: BuildHasher + Drop, R: BufRead, W: Write>(
     alloc: Global,
+    hasher: S,
     keep: Keep,
     input: &mut R,
     output: &mut W,
@@ -102,10 +113,10 @@ pub fn write_kept<R: BufRead, W: Write>(
     ensures stop { IfErr result StopsOutput }
 {
     match keep {
-        Keep::First => write_new(alloc, None, input, output),
-        Keep::Window(size) => write_new(alloc, Some(size), input, output),
+        Keep::First => write_new(alloc, hasher, None, input, output),
+        Keep::Window(size) => write_new(alloc, hasher, Some(size), input, output),
         Keep::Last => {
-            let recent = read_lines(alloc, input)?;
+            let recent = read_lines(alloc, hasher, input)?;
             write_lines(recent.iter(), output)
         }
     }

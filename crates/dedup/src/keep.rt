@@ -1,6 +1,6 @@
 //! Which lines are kept.
-ghost use Rattle.std.specs.Prelude.{MatchOption};
-ghost use Rattle.dedup.specs.Arguments.{SayKeep, SayNothing, texts};
+ghost use Rattle.std.specs.Prelude.{◌↔◌, IsTrue, MatchOption};
+ghost use Rattle.dedup.specs.Arguments.{AskHelp, SayKeep, SayNothing, texts};
 
 /// Which lines are kept.
 #[derive(Clone, Copy, Debug, PartialEq)]
@@ -14,7 +14,7 @@ pub enum Keep {
 }
 
 impl Keep {
-    /// Returns what the arguments of the program say, or `None` if they are wrong.
+    /// Returns what the arguments of the program say, or `None` if they say nothing.
     pub fn from_arguments(arguments: &[String]) -> Option<Keep>
         ensures { MatchOption result (SayNothing (texts arguments.now))
             (SayKeep (texts arguments.now)) }
@@ -28,5 +28,15 @@ impl Keep {
             },
             _ => None,
         }
+    }
+}
+
+/// Returns whether the arguments of the program ask for help.
+pub fn ask_help(arguments: &[String]) -> bool
+    ensures { IsTrue result ↔ AskHelp (texts arguments.now) }
+{
+    match arguments {
+        [option] => option.as_str() == "--help",
+        _ => false,
     }
 }

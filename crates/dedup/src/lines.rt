@@ -1,11 +1,12 @@
 //! Reading and writing lines.
-ghost use Rattle.std.specs.Prelude.{◌≡◌, ◌⊎◌, IsTrue, IsFalse, IfOk, IfErr, OnOk, [], ◌∷◌};
+ghost use Rattle.std.specs.Prelude.{◌≡◌, IsTrue, IsFalse, IfOk, IfErr, OnOk, [], ◌∷◌};
 ghost use Rattle.std.specs.Io.BufRead.{strip_last};
-ghost use Rattle.std.specs.Io.KnownBytes.{Appends, IsAtEnd};
+ghost use Rattle.std.specs.Io.KnownBytes.{Appends, IsAtEnd, Keeps};
 ghost use Rattle.dedup.specs.Lines.{TakesLines, text_of};
+ghost use Rattle.dedup.specs.Stop.{StopsOutput};
 
 use super::stop::Stop;
-use std::io::{BufRead, ErrorKind, Write};
+use std::io::{BufRead, Write};
 
 /// Removes the line feed at the end of a line, if it has one.
 fn strip_line_feed(line: &mut Vec<u8>)
@@ -23,7 +24,7 @@ pub fn read_line<R: BufRead>(input: &mut R, line: &mut Vec<u8>) -> Result<bool, 
     ensures line { IfOk result (λ is_read. IsTrue is_read
         → TakesLines (R.remaining input.old) (R.remaining input.new) (line.new.items ∷ [])) }
     ensures end { IfOk result (λ is_read. IsFalse is_read → IsAtEnd (R.remaining input.old)) }
-    ensures stop { IfErr result (λ stop. (stop ≡ Stop.OutOfMemory) ⊎ (stop ≡ Stop.InputFailed)) }
+    ensures stop { IfErr result StopsOutput }
 {
     line.clear();
     match input.read_until(b'\n', line) {
@@ -32,28 +33,39 @@ pub fn read_line<R: BufRead>(input: &mut R, line: &mut Vec<u8>) -> Result<bool, 
             strip_line_feed(line);
             Ok(true)
         }
-        Err(error) => Err(stop_reading(error.kind())),
+        Err(error) => Err(Stop::of_read(error.kind())),
     }
 }
 
-/// Returns why a run stops at a failed read.
-fn stop_reading(kind: ErrorKind) -> Stop
-    ensures { (result ≡ Stop.OutOfMemory) ⊎ (result ≡ Stop.InputFailed) }
+/// Writes bytes.
+pub fn write_bytes<W: Write>(output: &mut W, bytes: &[u8]) -> Result<(), Stop>
+    ensures written { OnOk result
+        (Appends (W.contents output.old) (W.contents output.new) bytes.now) }
+    ensures stop { IfErr result StopsOutput }
 {
-    if kind == ErrorKind::OutOfMemory {
-        return Stop::OutOfMemory;
+    match output.write_all(bytes) {
+        Ok(()) => Ok(()),
+        Err(error) => Err(Stop::of_write(error.kind())),
     }
-    Stop::InputFailed
 }
 
 /// Writes a line, and the line feed that ends it.
 pub fn write_line<W: Write>(output: &mut W, line: &[u8]) -> Result<(), Stop>
     ensures written { OnOk result
         (Appends (W.contents output.old) (W.contents output.new) (text_of (line.now ∷ []))) }
-    ensures stop { IfErr result (λ stop. stop ≡ Stop.OutputFailed) }
+    ensures stop { IfErr result StopsOutput }
 {
-    if output.write_all(line).is_err() || output.write_all(b"\n").is_err() {
-        return Err(Stop::OutputFailed);
+    write_bytes(output, line)?;
+    write_bytes(output, b"\n")
+}
+
+/// Hands what is written to where it goes.
+pub fn flush<W: Write>(output: &mut W) -> Result<(), Stop>
+    ensures kept { Keeps (W.contents output.old) (W.contents output.new) }
+    ensures stop { IfErr result StopsOutput }
+{
+    match output.flush() {
+        Ok(()) => Ok(()),
+        Err(error) => Err(Stop::of_write(error.kind())),
     }
-    Ok(())
 }

@@ -4,19 +4,21 @@
 //! A line is bytes up to a line feed, as `awk '!seen[$0]++'` has it. The lines that have come are in
 //! a set, where a line is looked up by its bytes, without a copy of it.
 //!
-//! The set's hasher has a fixed seed, so whoever writes the input can choose lines that collide, and
-//! a lookup is then O(n) in the number of lines.
+//! The set's hasher has a random seed, so whoever writes the input cannot choose lines that
+//! collide.
 #![tactic(auto)]
 
-ghost use Rattle.std.specs.Prelude.{◌≡◌, ◌⊎◌, ◌++◌, ◌∷◌, ◌↔◌, [], OnOk, IfErr, IfSome};
+ghost use Rattle.std.specs.Prelude.{◌≡◌, ◌≢◌, ◌⊎◌, ◌++◌, ◌↔◌, OnOk, IfErr, IfSome};
 ghost use Rattle.std.specs.Io.KnownBytes.{Appends, Keeps};
-ghost use Rattle.dedup.specs.Arguments.{SayKeep, SayNothing, texts};
+ghost use Rattle.dedup.specs.Arguments.{AreWrong, AskHelp, SayKeep, texts};
+ghost use Rattle.dedup.specs.Help.{help_text};
 ghost use Rattle.dedup.specs.Kept.{kept_lines};
 ghost use Rattle.dedup.specs.Lines.{lines_of, text_of};
-ghost use Rattle.dedup.specs.Stop.{status_of, stop_text, StopsOutput};
+ghost use Rattle.dedup.specs.Stop.{status_of, StopsOutput, Tells, TellsStatus};
 ghost use Rattle.dedup.specs.declared.keep.Keep.{Keep};
 
 mod filter;
+mod help;
 mod keep;
 mod lines;
 mod recent;
@@ -24,18 +26,21 @@ mod stop;
 #[cfg(test)]
 mod tests;
 
-use keep::Keep;
+use keep::{Keep, ask_help};
 use std::alloc::Global;
+use std::hash::{BuildHasher, RandomState};
 use std::io::{BufRead, BufReader, BufWriter, ErrorKind, Write};
 use std::process::ExitCode;
+use std::random::RandomSource;
 use std::{env, io};
 use stop::Stop;
 
 const BUFFER_LEN: usize = 65536;
 
 /// Writes the lines to keep, and flushes.
-fn write_output<R: BufRead, W: Write>(
+fn write_output<S: BuildHasher + Drop, R: BufRead, W: Write>(
     alloc: Global,
+    hasher: S,
     keep: Keep,
     input: &mut R,
     output: &mut W,
@@ -45,39 +50,72 @@ fn write_output<R: BufRead, W: Write>(
         (text_of (kept_lines keep (lines_of bytes))))) }
     ensures stop { IfErr result StopsOutput }
 {
-    filter::write_kept(alloc, keep, input, output)?;
-    if output.flush().is_err() {
-        return Err(Stop::OutputFailed);
-    }
-    Ok(())
+    filter::write_kept(alloc, hasher, keep, input, output)?;
+    lines::flush(output)
 }
 
-/// Writes a line that says why the run stopped.
+/// Tells why the run stopped, and flushes.
 fn write_fault<F: Write>(faults: &mut F, stop: &Stop) -> io::Result<()>
-    ensures { OnOk result
-        (Appends (F.contents faults.old) (F.contents faults.new) (stop_text stop.now ++ 10 ∷ [])) }
+    ensures { OnOk result (Tells stop.now (F.contents faults.old) (F.contents faults.new)) }
 {
-    writeln!(faults, "{stop}")?;
+    stop.tell(faults)?;
     faults.flush()
 }
 
-/// Tells why the run stopped, and returns the status. A writer of faults that fails changes no
-/// status.
-fn report<F: Write>(faults: &mut F, stop: &Stop) -> u8
-    ensures { result ≡ status_of stop.now }
+/// Returns the status of a run that stopped, and tells why. How that went is returned too.
+fn report<F: Write>(faults: &mut F, stop: &Stop) -> (u8, io::Result<()>)
+    ensures status { result.0 ≡ status_of stop.now }
+    ensures told { OnOk result.1 (Tells stop.now (F.contents faults.old) (F.contents faults.new)) }
 {
-    let _ = write_fault(faults, stop);
-    stop.status()
+    (stop.status(), write_fault(faults, stop))
 }
 
-/// Writes the lines of `input` that the arguments say to `output`. Returns the exit status of the
-/// program.
+/// Does what [`run`] does, and returns too how telling a fault went.
+fn run_and_report<S: BuildHasher + Drop, R: BufRead, W: Write, F: Write>(
+    alloc: Global,
+    hasher: S,
+    arguments: &[String],
+    input: &mut R,
+    output: &mut W,
+    faults: &mut F,
+) -> (u8, io::Result<()>)
+    ensures statuses { (result.0 ≡ 0) ⊎ (result.0 ≡ 2) ⊎ (result.0 ≡ 3) ⊎ (result.0 ≡ 4) }
+    ensures done { result.0 ≡ 0 → (AskHelp (texts arguments.now)
+        × Appends (W.contents output.old) (W.contents output.new) help_text)
+        ⊎ IfSome (R.remaining input.old) (λ bytes.
+        (keep : Keep) × (SayKeep (texts arguments.now) keep
+        × Appends (W.contents output.old) (W.contents output.new)
+        (text_of (kept_lines keep (lines_of bytes))))) }
+    ensures no_fault { result.0 ≡ 0 → Keeps (F.contents faults.old) (F.contents faults.new) }
+    ensures explained { result.0 ≢ 0 → OnOk result.1
+        (TellsStatus result.0 (F.contents faults.old) (F.contents faults.new)) }
+    ensures wrong { (result.0 ≡ 2) ↔ AreWrong (texts arguments.now) }
+    ensures silent { result.0 ≡ 2 → Keeps (W.contents output.old) (W.contents output.new) }
+{
+    let written = if ask_help(arguments) {
+        help::write_help(output)
+    } else {
+        match Keep::from_arguments(arguments) {
+            Some(keep) => write_output(alloc, hasher, keep, input, output),
+            None => Err(Stop::WrongArguments),
+        }
+    };
+    match written {
+        Ok(()) => (0, Ok(())),
+        Err(stop) => report(faults, &stop),
+    }
+}
+
+/// Writes the lines of `input` that the arguments say to `output`, or the help if they ask for it.
+/// The lines are hashed by `hasher`, and the output does not depend on it. Returns the exit status
+/// of the program.
 ///
 /// The status is 0 for a run, 2 if the arguments are wrong, 3 if memory is refused, and 4 if reading
-/// or writing fails. A status other than 0 is explained by a line on `faults`. If it is 3 or 4, a
-/// part of the output may be written.
-pub fn run<R: BufRead, W: Write, F: Write>(
+/// or writing fails. A status other than 0 is explained by a line on `faults`, except at a closed
+/// pipe. If it is 3 or 4, a part of the output may be written.
+pub fn run<S: BuildHasher + Drop, R: BufRead, W: Write, F: Write>(
     alloc: Global,
+    hasher: S,
     arguments: &[String],
     input: &mut R,
     output: &mut W,
@@ -85,44 +123,51 @@ pub fn run<R: BufRead, W: Write, F: Write>(
 ) -> u8
     ensures statuses { (result ≡ 0) ⊎ (result ≡ 2) ⊎ (result ≡ 3) ⊎ (result ≡ 4) }
 
-    // What is written are the lines of the input that the arguments say, and nothing is told on
-    // `faults`.
-    ensures done { result ≡ 0 → IfSome (R.remaining input.old) (λ bytes.
+    // What is written is the help, if the arguments ask for it, or the lines of the input that they
+    // say, and nothing is told on `faults`.
+    ensures done { result ≡ 0 → (AskHelp (texts arguments.now)
+        × Appends (W.contents output.old) (W.contents output.new) help_text)
+        ⊎ IfSome (R.remaining input.old) (λ bytes.
         (keep : Keep) × (SayKeep (texts arguments.now) keep
         × Appends (W.contents output.old) (W.contents output.new)
         (text_of (kept_lines keep (lines_of bytes))))) }
     ensures no_fault { result ≡ 0 → Keeps (F.contents faults.old) (F.contents faults.new) }
 
     // The status is 2 exactly if the arguments are wrong, and then nothing is written.
-    ensures wrong { (result ≡ 2) ↔ SayNothing (texts arguments.now) }
+    ensures wrong { (result ≡ 2) ↔ AreWrong (texts arguments.now) }
     ensures silent { result ≡ 2 → Keeps (W.contents output.old) (W.contents output.new) }
 {
-    match Keep::from_arguments(arguments) {
-        Some(keep) => match write_output(alloc, keep, input, output) {
-            Ok(()) => 0,
-            Err(stop) => report(faults, &stop),
-        },
-        None => report(faults, &Stop::WrongArguments),
-    }
+    run_and_report(alloc, hasher, arguments, input, output, faults).0
 }
 
 /// Writes lines of `input` as [`run`] does, and appends what it writes to `output` and `faults`.
-pub fn run_in_memory(
+pub fn run_in_memory<S: BuildHasher + Drop>(
     alloc: Global,
+    hasher: S,
     arguments: &[String],
     input: &[u8],
     output: &mut Vec<u8>,
     faults: &mut Vec<u8>,
 ) -> u8
     ensures statuses { (result ≡ 0) ⊎ (result ≡ 2) ⊎ (result ≡ 3) ⊎ (result ≡ 4) }
-    ensures done { result ≡ 0 → (keep : Keep) × (SayKeep (texts arguments.now) keep
+    ensures done { result ≡ 0 → (AskHelp (texts arguments.now)
+        × (output.new.items ≡ output.old.items ++ help_text))
+        ⊎ (keep : Keep) × (SayKeep (texts arguments.now) keep
         × (output.new.items ≡ output.old.items ++ text_of (kept_lines keep (lines_of input.now)))) }
     ensures no_fault { result ≡ 0 → faults.new.items ≡ faults.old.items }
-    ensures wrong { (result ≡ 2) ↔ SayNothing (texts arguments.now) }
+    ensures wrong { (result ≡ 2) ↔ AreWrong (texts arguments.now) }
     ensures silent { result ≡ 2 → output.new.items ≡ output.old.items }
 {
     let mut rest = input;
-    run(alloc, arguments, &mut rest, output, faults)
+    run(alloc, hasher, arguments, &mut rest, output, faults)
+}
+
+/// Returns a build hasher with a random seed.
+fn seed(rt: &impl RandomSource) -> Result<RandomState, Stop> {
+    match RandomState::new(rt) {
+        Ok(hasher) => Ok(hasher),
+        Err(error) => Err(Stop::of_seed(error.kind())),
+    }
 }
 
 /// Returns the arguments of the program, without its name.
@@ -134,7 +179,7 @@ fn arguments(rt: &HostRuntime) -> Result<Vec<String>, Stop> {
     }
 }
 
-/// Runs from standard input to standard output, each with a buffer.
+/// Runs from standard input to standard output, each with a buffer, and with a random seed.
 fn run_buffered(rt: &HostRuntime) -> Result<u8, Stop> {
     let arguments = arguments(rt)?;
     let Ok(mut input) = BufReader::with_capacity(rt.alloc(), BUFFER_LEN, rt.stdin()) else {
@@ -145,6 +190,7 @@ fn run_buffered(rt: &HostRuntime) -> Result<u8, Stop> {
     };
     Ok(run(
         rt.alloc(),
+        seed(rt)?,
         arguments.as_slice(),
         &mut input,
         &mut output,
@@ -155,6 +201,6 @@ fn run_buffered(rt: &HostRuntime) -> Result<u8, Stop> {
 fn main(rt: HostRuntime) -> ExitCode {
     ExitCode::from(match run_buffered(&rt) {
         Ok(status) => status,
-        Err(stop) => report(&mut rt.stderr(), &stop),
+        Err(stop) => report(&mut rt.stderr(), &stop).0,
     })
 }

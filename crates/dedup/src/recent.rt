@@ -9,18 +9,19 @@ ghost use Rattle.dedup.specs.Push.{bytes_of, to_back, trimmed};
 use super::stop::Stop;
 use linked_hash_set::{Iter, LinkedHashSet};
 use std::alloc::Global;
+use std::hash::BuildHasher;
 
 /// The distinct lines, in the order of their last appearances: all of them, or the last `size`.
 #[derive(Drop)]
-pub struct Recent {
-    lines: LinkedHashSet<Vec<u8>>,
+pub struct Recent<S: BuildHasher> {
+    lines: LinkedHashSet<Vec<u8>, S>,
     size: Option<usize>,
     alloc: Global,
     ghost within: { ForSome size (λ n. length lines.items ≤ n) },
 }
 
 /// Removes the front line if there are more than `size`.
-fn trim(lines: &mut LinkedHashSet<Vec<u8>>, size: Option<usize>)
+fn trim<S: BuildHasher>(lines: &mut LinkedHashSet<Vec<u8>, S>, size: Option<usize>)
     requires one_more { ForSome size (λ n. length lines.old.items ≤ n + 1) }
     ensures within { ForSome size (λ n. length lines.new.items ≤ n) }
     ensures lines { bytes_of lines.new.items ≡ trimmed size (bytes_of lines.old.items) }
@@ -33,16 +34,16 @@ fn trim(lines: &mut LinkedHashSet<Vec<u8>>, size: Option<usize>)
     }
 }
 
-impl Recent {
+impl<S: BuildHasher> Recent<S> {
     ghost use Rattle.dedup.specs.Recent.{recent_lines, recent_size};
 
-    /// Creates one without lines, which keeps `size` lines at most.
-    pub fn new(alloc: Global, size: Option<usize>) -> Recent
+    /// Creates one without lines, which keeps `size` lines at most and hashes them by `hasher`.
+    pub fn new(alloc: Global, size: Option<usize>, hasher: S) -> Recent<S>
         ensures lines { recent_lines result ≡ [] }
         ensures size { recent_size result ≡ size }
     {
         Recent {
-            lines: LinkedHashSet::new(alloc),
+            lines: LinkedHashSet::with_hasher(alloc, hasher),
             size,
             alloc,
         }

@@ -1,12 +1,12 @@
 -- The definitions, computed on short texts.
-use Rattle.std.proofs.Common.{◌≡◌, ℕ, List, [], ◌∷◌, ◌++◌, Bor, replicate, refl}
+use Rattle.std.proofs.Common.{◌≡◌, [], ◌∷◌, ◌++◌, refl}
 use Rattle.std.specs.Prelude.{codes}
 use Rattle.std.specs.Fmt.{digits}
 use Rattle.linked_hash_map.specs.declared.replay.Answer.TheVariants.{New, Old, Missing, Refused}
 use Rattle.lhm.specs.declared.stop.Stop.TheVariants.{NotACommand}
 use Rattle.lhm.specs.Grammar.{lines_of, words_of}
 use Rattle.lhm.specs.Text.{reply_text, list_text}
-use Rattle.lhm.specs.Stop.{quote_text, stop_text}
+use Rattle.lhm.specs.Stop.{stop_text}
 
 -- blank lines count, and bytes after the last newline are a line
 lines_of-unended : lines_of (codes "a" ++ 10 ∷ 10 ∷ codes "bc") ≡ codes "a" ∷ [] ∷ codes "bc" ∷ []
@@ -47,21 +47,6 @@ list_text-two : list_text ((2, 20) ∷ (1, 11) ∷ []) ≡ codes "list 2:20 1:11
 unfolding digits
 list_text-two = refl
 
--- what is not printable ASCII and quotation marks are escaped
-quote_text-escaped : quote_text (codes "a\"b" ++ 9 ∷ 255 ∷ []) ≡ codes "\"a\\\"b\\t\\xff\""
-unfolding lib.Utf8.encode
-quote_text-escaped = refl
-
--- a line of 40 bytes, and one of 41
-quote_text-whole : quote_text (replicate 40 97) ≡ codes "\"aaaaaaaaaaaaaaaaaaaaaaaaaaaaaaaaaaaaaaaa\""
-unfolding lib.Utf8.encode
-quote_text-whole = refl
-
-quote_text-cut : quote_text (replicate 41 97) ≡ codes "\"aaaaaaaaaaaaaaaaaaaaaaaaaaaaaaaaaaaaaaaa\"..."
-unfolding lib.Utf8.encode
-quote_text-cut = refl
-
-stop_text-line : (line : Bor (List ℕ)) → line.now ≡ codes "insert 5"
-    → stop_text (NotACommand 3 line) ≡ codes "line 3: not a command: \"insert 5\""
-unfolding digits lib.Utf8.encode
-stop_text-line line same = rw same refl
+stop_text-line : stop_text (NotACommand 3) ≡ codes "line 3: not a command"
+unfolding digits
+stop_text-line = refl

@@ -11,7 +11,7 @@ const BUFFER_LEN: usize = 8192;
 ///
 /// They are read into a fixed buffer and pushed on from there, so a failed read and a refused
 /// growth are told apart. An interrupted read is tried again.
-pub fn read_all<R: Read>(alloc: Global, input: &mut R) -> Result<Vec<u8>, Stop<'static>>
+pub fn read_all<R: Read>(alloc: Global, input: &mut R) -> Result<Vec<u8>, Stop>
     ensures bytes { IfOk result (λ bytes.
         IfSome (R.remaining input.old) (λ all. bytes.items ≡ all)) }
     ensures stop { IfErr result (λ stop. (stop ≡ Stop.OutOfMemory) ⊎ (stop ≡ Stop.InputFailed)) }

@@ -21,7 +21,6 @@ ghost use Rattle.lhm.specs.Run.{IsRunOf};
 mod grammar;
 mod input;
 mod parser;
-mod quote;
 mod stop;
 #[cfg(test)]
 mod tests;
@@ -30,14 +29,13 @@ mod text;
 use linked_hash_map::LinkedHashMap;
 use linked_hash_map::replay::replay;
 use std::alloc::Global;
-use std::env::{Env, FillError};
 use std::io;
 use std::io::{Read, Write};
 use std::process::ExitCode;
 use stop::Stop;
 
 /// Runs the commands in these bytes on a new map, and returns the whole text of the output.
-fn respond(alloc: Global, bytes: &[u8]) -> Result<String, Stop<'_>>
+fn respond(alloc: Global, bytes: &[u8]) -> Result<String, Stop>
     ensures text { IfOk result (λ text. IsRunOf bytes.now (string_bytes text)) }
     ensures stop { IfErr result (StopsLines (lines_of bytes.now)) }
 {
@@ -55,7 +53,7 @@ fn respond(alloc: Global, bytes: &[u8]) -> Result<String, Stop<'_>>
 }
 
 /// Writes all of the bytes and flushes.
-fn write_output<W: Write>(output: &mut W, bytes: &[u8]) -> Result<(), Stop<'static>>
+fn write_output<W: Write>(output: &mut W, bytes: &[u8]) -> Result<(), Stop>
     ensures written { OnOk result
         (Appends (W.contents output.old) (W.contents output.new) bytes.now) }
     ensures failed { IfErr result (λ stop. stop ≡ Stop.OutputFailed) }
@@ -67,7 +65,7 @@ fn write_output<W: Write>(output: &mut W, bytes: &[u8]) -> Result<(), Stop<'stat
 }
 
 /// Writes a line that says why the run stopped.
-fn write_fault<F: Write>(faults: &mut F, stop: &Stop<'_>) -> io::Result<()>
+fn write_fault<F: Write>(faults: &mut F, stop: &Stop) -> io::Result<()>
     ensures { OnOk result
         (Appends (F.contents faults.old) (F.contents faults.new) (stop_text stop.now ++ 10 ∷ [])) }
 {
@@ -77,7 +75,7 @@ fn write_fault<F: Write>(faults: &mut F, stop: &Stop<'_>) -> io::Result<()>
 
 /// Tells why the run stopped, and returns the status. A writer of faults that fails changes no
 /// status.
-fn report<F: Write>(faults: &mut F, stop: &Stop<'_>) -> u8
+fn report<F: Write>(faults: &mut F, stop: &Stop) -> u8
     ensures { result ≡ status_of stop.now }
 {
     let _ = write_fault(faults, stop);
@@ -111,8 +109,8 @@ fn run_bytes<W: Write, F: Write>(alloc: Global, bytes: &[u8], output: &mut W, fa
 ///
 /// The status is 0 for a run, 2 if a line is no command, 3 if memory is refused for the
 /// input, the commands, the replies or the output, and 4 if reading or writing fails. A status
-/// other than 0 is explained by a line on `faults`, which quotes at most 40 bytes of the line that
-/// is no command. The output is built whole before its first byte is written.
+/// other than 0 is explained by a line on `faults`. The output is built whole before its first
+/// byte is written.
 pub fn run<R: Read, W: Write, F: Write>(
     alloc: Global,
     input: &mut R,
@@ -158,16 +156,7 @@ pub fn run_in_memory(alloc: Global, input: &[u8], output: &mut Vec<u8>, faults: 
     run(alloc, &mut rest, output, faults)
 }
 
-/// Returns whether the program is called with an argument. It need not be UTF-8.
-fn has_arguments<E: Env>(env: &E) -> bool {
-    // One that is longer than the buffer is `TooLong`.
-    !matches!(env.arg(1, &mut [0]), Err(FillError::NotPresent))
-}
-
 fn main(rt: HostRuntime) -> ExitCode {
-    if has_arguments(&rt) {
-        return ExitCode::from(report(&mut rt.stderr(), &Stop::HasArguments));
-    }
     ExitCode::from(run(
         rt.alloc(),
         &mut rt.stdin(),

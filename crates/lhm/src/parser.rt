@@ -251,12 +251,12 @@ fn command(alloc: Global, line: &[u8]) -> Result<Option<Command<u64, u64>>, Line
     }
 }
 
-/// Returns the commands of all lines in order, or the first line that has words and is no command,
-/// with its number.
+/// Returns the commands of all lines in order, or the number of the first line that has words and
+/// is no command.
 ///
 /// Lines are counted from 1, and blank lines count. Memory can be refused before that line is
 /// found.
-pub fn commands(alloc: Global, bytes: &[u8]) -> Result<Vec<Command<u64, u64>>, Stop<'_>>
+pub fn commands(alloc: Global, bytes: &[u8]) -> Result<Vec<Command<u64, u64>>, Stop>
     ensures ok { IfOk result (λ commands. AreCommandsOf (lines_of bytes.now) commands.items) }
     ensures err { IfErr result (StopsLines (lines_of bytes.now)) }
 {
@@ -269,7 +269,7 @@ pub fn commands(alloc: Global, bytes: &[u8]) -> Result<Vec<Command<u64, u64>>, S
         match command(alloc, line) {
             Ok(None) => {}
             Ok(Some(command)) => commands.push(command)?,
-            Err(LineError::NotACommand) => return Err(Stop::NotACommand(line_number, line)),
+            Err(LineError::NotACommand) => return Err(Stop::NotACommand(line_number)),
             Err(LineError::OutOfMemory) => return Err(Stop::OutOfMemory),
         }
         rest = after;

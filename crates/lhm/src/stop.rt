@@ -3,18 +3,15 @@ ghost use Rattle.std.specs.Prelude.{◌≡◌, Some};
 ghost use Rattle.lhm.specs.declared.stop.Stop.TheVariants.{OutOfMemory};
 ghost use Rattle.lhm.specs.Stop.{status_of, stop_text};
 
-use super::quote::Quote;
 use std::alloc::{AllocError, AllocFailed};
 use std::error::Error;
 use std::fmt;
 
 /// Why a run stops before all of its output is written.
 #[derive(Clone, Copy, Debug, PartialEq)]
-pub enum Stop<'a> {
-    /// The program is called with an argument.
-    HasArguments,
-    /// The number, counted from 1, and the bytes of the first line that has words and is no command.
-    NotACommand(usize, &'a [u8]),
+pub enum Stop {
+    /// The number, counted from 1, of the first line that has words and is no command.
+    NotACommand(usize),
     /// Memory was refused for the input, the commands, the replies or the output.
     OutOfMemory,
     /// The input could not be read to its end.
@@ -23,14 +20,13 @@ pub enum Stop<'a> {
     OutputFailed,
 }
 
-impl Stop<'_> {
+impl Stop {
     /// Returns the exit status of the program.
     pub fn status(&self) -> u8
         ensures { result ≡ status_of self.now }
     {
         match self {
-            Stop::HasArguments => 2,
-            Stop::NotACommand(_, _) => 2,
+            Stop::NotACommand(_) => 2,
             Stop::OutOfMemory => 3,
             Stop::InputFailed => 4,
             Stop::OutputFailed => 4,
@@ -38,13 +34,12 @@ impl Stop<'_> {
     }
 }
 
-impl fmt::Display for Stop<'_> {
+impl fmt::Display for Stop {
     ghost output = { λ stop. Some (stop_text stop) };
 
     fn fmt<W: fmt::Write>(&self, f: &mut fmt::Formatter<W>) -> fmt::Result {
         match self {
-            Stop::HasArguments => write!(f, "usage: lhm < FILE"),
-            Stop::NotACommand(n, line) => write!(f, "line {n}: not a command: {}", Quote(line)),
+            Stop::NotACommand(n) => write!(f, "line {n}: not a command"),
             Stop::OutOfMemory => write!(f, "out of memory"),
             Stop::InputFailed => write!(f, "input failed"),
             Stop::OutputFailed => write!(f, "output failed"),
@@ -52,9 +47,9 @@ impl fmt::Display for Stop<'_> {
     }
 }
 
-impl Error for Stop<'_> {}
+impl Error for Stop {}
 
-impl From<AllocError> for Stop<'_> {
+impl From<AllocError> for Stop {
     ghost from_gives = { λ _ stop. stop ≡ OutOfMemory };
 
     fn from(_error: AllocError) -> Self {
@@ -62,7 +57,7 @@ impl From<AllocError> for Stop<'_> {
     }
 }
 
-impl<T: Drop> From<AllocFailed<T>> for Stop<'_> {
+impl<T: Drop> From<AllocFailed<T>> for Stop {
     ghost from_gives = { λ _ stop. stop ≡ OutOfMemory };
 
     fn from(_error: AllocFailed<T>) -> Self {

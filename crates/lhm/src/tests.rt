@@ -1,7 +1,5 @@
-//! Runs over memory: worked examples, readers and writers that fail, and growths that are refused;
-//! and the words of the command line.
+//! Runs over memory: worked examples, readers and writers that fail, and growths that are refused.
 
-mod arguments;
 mod failures;
 mod refusals;
 mod runs;

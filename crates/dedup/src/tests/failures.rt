@@ -3,10 +3,13 @@
 use super::support::checks::{check_eq, given};
 use super::support::streams::{NEVER, Output, Source};
 use super::support::words::arguments;
-use crate::run;
+use crate::{report, run, seed};
+use linked_hash_set::DefaultHashBuilder;
 use std::alloc::Global;
+use std::io;
 use std::io::{BufReader, ErrorKind};
 use std::process::Abort;
+use std::random::RandomSource;
 
 /// The input of each run. A reader with a buffer of four bytes gives it in three reads, and the
 /// fourth finds its end.
@@ -26,10 +29,11 @@ fn check_read(
     let words = given!(rt; arguments(alloc, words));
     let source = Source::new(INPUT, failing.0, failing.1);
     let mut input = given!(rt; BufReader::with_capacity(alloc, BUFFER_LEN, source));
-    let mut output = Output::new(alloc, NEVER);
-    let mut faults = Output::new(alloc, NEVER);
+    let mut output = Output::new(alloc, NEVER, ErrorKind::Other);
+    let mut faults = Output::new(alloc, NEVER, ErrorKind::Other);
     let status = run(
         alloc,
+        DefaultHashBuilder::new(),
         words.as_slice(),
         &mut input,
         &mut output,
@@ -44,14 +48,14 @@ fn check_read(
 #[test]
 fn reads_that_fail(rt: HostRuntime) {
     let alloc = rt.alloc();
-    let told = b"input failed\n";
+    let told = b"dedup: input failed: other error\n";
     check_read(&rt, alloc, &[], (1, ErrorKind::Other), (4, b"", told));
     check_read(
         &rt,
         alloc,
         &[],
-        (2, ErrorKind::WouldBlock),
-        (4, b"a\nb\n", told),
+        (2, ErrorKind::IsADirectory),
+        (4, b"a\nb\n", b"dedup: input failed: is a directory\n"),
     );
     check_read(
         &rt,
@@ -111,7 +115,7 @@ fn interrupted_reads_are_tried_again(rt: HostRuntime) {
 
 #[test]
 fn reads_without_memory(rt: HostRuntime) {
-    let told = b"out of memory\n";
+    let told = b"dedup: out of memory\n";
     check_read(
         &rt,
         rt.alloc(),
@@ -121,15 +125,22 @@ fn reads_without_memory(rt: HostRuntime) {
     );
 }
 
-/// Checks a run whose writer fails at a call: a line and its line feed are two writes, and a flush
-/// comes last.
-fn check_write(rt: &impl Abort, alloc: Global, words: &[&str], fails_at: usize, written: &[u8]) {
+/// Checks a run whose writer fails at a call by an error of a kind. A line and its line feed are
+/// two writes, and a flush comes last.
+fn check_write(
+    rt: &impl Abort,
+    alloc: Global,
+    words: &[&str],
+    failing: (usize, ErrorKind),
+    wanted: (&[u8], &[u8]),
+) {
     let words = given!(rt; arguments(alloc, words));
     let mut input = INPUT;
-    let mut output = Output::new(alloc, fails_at);
-    let mut faults = Output::new(alloc, NEVER);
+    let mut output = Output::new(alloc, failing.0, failing.1);
+    let mut faults = Output::new(alloc, NEVER, ErrorKind::Other);
     let status = run(
         alloc,
+        DefaultHashBuilder::new(),
         words.as_slice(),
         &mut input,
         &mut output,
@@ -137,29 +148,78 @@ fn check_write(rt: &impl Abort, alloc: Global, words: &[&str], fails_at: usize, 
     );
     check_eq!(rt;
         (output.bytes.as_slice(), output.calls.made, status, faults.bytes.as_slice()),
-        (written, fails_at, 4, b"output failed\n".as_slice())
+        (wanted.0, failing.0, 4, wanted.1)
     );
 }
 
 #[test]
 fn writes_that_fail(rt: HostRuntime) {
     let alloc = rt.alloc();
-    check_write(&rt, alloc, &[], 1, b"");
-    check_write(&rt, alloc, &[], 2, b"a");
-    check_write(&rt, alloc, &[], 5, b"a\nb\n");
-    check_write(&rt, alloc, &[], 7, b"a\nb\nbc\n");
-    check_write(&rt, alloc, &["--last"], 3, b"a\n");
-    check_write(&rt, alloc, &["--last"], 7, b"a\nbc\nb\n");
+    let told = b"dedup: output failed: other error\n";
+    check_write(&rt, alloc, &[], (1, ErrorKind::Other), (b"", told));
+    check_write(&rt, alloc, &[], (2, ErrorKind::Other), (b"a", told));
+    check_write(
+        &rt,
+        alloc,
+        &[],
+        (5, ErrorKind::StorageFull),
+        (b"a\nb\n", b"dedup: output failed: no storage space\n"),
+    );
+    check_write(
+        &rt,
+        alloc,
+        &[],
+        (7, ErrorKind::Other),
+        (b"a\nb\nbc\n", told),
+    );
+    check_write(
+        &rt,
+        alloc,
+        &["--last"],
+        (3, ErrorKind::Other),
+        (b"a\n", told),
+    );
+    check_write(
+        &rt,
+        alloc,
+        &["--last"],
+        (7, ErrorKind::Other),
+        (b"a\nbc\nb\n", told),
+    );
+}
+
+#[test]
+fn closed_pipes_are_not_told(rt: HostRuntime) {
+    let alloc = rt.alloc();
+    let closed = ErrorKind::BrokenPipe;
+    check_write(&rt, alloc, &[], (1, closed), (b"", b""));
+    check_write(&rt, alloc, &[], (4, closed), (b"a\nb", b""));
+    check_write(&rt, alloc, &[], (7, closed), (b"a\nb\nbc\n", b""));
+    check_write(&rt, alloc, &["--last"], (2, closed), (b"a", b""));
+    check_write(&rt, alloc, &["--help"], (1, closed), (b"", b""));
+}
+
+#[test]
+fn help_that_fails(rt: HostRuntime) {
+    let told = b"dedup: output failed: other error\n";
+    check_write(
+        &rt,
+        rt.alloc(),
+        &["--help"],
+        (1, ErrorKind::Other),
+        (b"", told),
+    );
 }
 
 /// Checks that a writer of faults that fails changes no status.
 fn check_fault(rt: &impl Abort, alloc: Global, fails_at: usize) {
     let words = given!(rt; arguments(alloc, &["--first"]));
     let mut input = INPUT;
-    let mut output = Output::new(alloc, NEVER);
-    let mut faults = Output::new(alloc, fails_at);
+    let mut output = Output::new(alloc, NEVER, ErrorKind::Other);
+    let mut faults = Output::new(alloc, fails_at, ErrorKind::Other);
     let status = run(
         alloc,
+        DefaultHashBuilder::new(),
         words.as_slice(),
         &mut input,
         &mut output,
@@ -172,4 +232,43 @@ fn check_fault(rt: &impl Abort, alloc: Global, fails_at: usize) {
 fn faults_that_fail_change_no_status(rt: HostRuntime) {
     check_fault(&rt, rt.alloc(), 1);
     check_fault(&rt, rt.alloc(), 2);
+}
+
+/// The system, if it gives no random numbers.
+#[derive(Drop)]
+struct NoNumbers {
+    kind: ErrorKind,
+}
+
+impl RandomSource for NoNumbers {
+    fn fill_bytes(&self, _buf: &mut [u8]) -> io::Result<()> {
+        Err(io::Error::from(self.kind))
+    }
+}
+
+/// Checks the status and the fault of a program that gets no random numbers.
+fn check_seed(rt: &impl Abort, alloc: Global, kind: ErrorKind, wanted: (u8, &[u8])) {
+    let mut faults = Vec::new(alloc);
+    let status = match seed(&NoNumbers { kind }) {
+        Ok(_) => 0,
+        Err(stop) => report(&mut faults, &stop).0,
+    };
+    check_eq!(rt; (status, faults.as_slice()), wanted);
+}
+
+#[test]
+fn seeds_that_fail(rt: HostRuntime) {
+    let alloc = rt.alloc();
+    check_seed(
+        &rt,
+        alloc,
+        ErrorKind::Unsupported,
+        (4, b"dedup: no random seed: unsupported\n"),
+    );
+    check_seed(
+        &rt,
+        alloc,
+        ErrorKind::OutOfMemory,
+        (3, b"dedup: out of memory\n"),
+    );
 }

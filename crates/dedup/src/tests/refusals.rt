@@ -11,6 +11,7 @@ use super::support::streams::Sink;
 use crate::keep::Keep;
 use crate::stop::Stop;
 use crate::{run, write_output};
+use linked_hash_set::DefaultHashBuilder;
 use std::alloc::Global;
 use std::process::Abort;
 
@@ -24,7 +25,9 @@ fn say_if_given(rt: &impl Print, given: bool, growths: u64) {
 /// Tells whether a run that was refused a growth ended as it has to: it wrote its first line, or
 /// none.
 fn is_refused(status: u8, output: &[u8], faults: &[u8]) -> bool {
-    status == 3 && b"a\n".as_slice().starts_with(output) && faults == b"out of memory\n".as_slice()
+    status == 3
+        && b"a\n".as_slice().starts_with(output)
+        && faults == b"dedup: out of memory\n".as_slice()
 }
 
 /// Checks a run over two lines, and says so if no growth is refused in it.
@@ -32,7 +35,14 @@ fn check_run(rt: &(impl Abort + Print), alloc: Global) {
     let mut input = b"a\nb\na\n".as_slice();
     let mut output = Sink::new();
     let mut faults = Sink::new();
-    let status = run(alloc, &[], &mut input, &mut output, &mut faults);
+    let status = run(
+        alloc,
+        DefaultHashBuilder::new(),
+        &[],
+        &mut input,
+        &mut output,
+        &mut faults,
+    );
     let given = status == 0 && output.bytes() == b"a\nb\n".as_slice();
     check_eq!(rt;
         (status, output.bytes(), given || is_refused(status, output.bytes(), faults.bytes())),
@@ -51,7 +61,13 @@ fn refused_growth_of_a_run(rt: HostRuntime) {
 fn check_pass(rt: &(impl Abort + Print), alloc: Global, keep: Keep, lines: &[u8], growths: u64) {
     let mut input = b"a\nb\na\n".as_slice();
     let mut output = Sink::new();
-    let result = write_output(alloc, keep, &mut input, &mut output);
+    let result = write_output(
+        alloc,
+        DefaultHashBuilder::new(),
+        keep,
+        &mut input,
+        &mut output,
+    );
     let given = result == Ok(()) && output.bytes() == lines;
     check_eq!(rt;
         (result, output.bytes(), given || result == Err(Stop::OutOfMemory)),

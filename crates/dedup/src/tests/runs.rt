@@ -3,7 +3,9 @@
 use super::support::checks::{check_eq, given};
 use super::support::words::arguments;
 use crate::run_in_memory;
+use linked_hash_set::DefaultHashBuilder;
 use std::alloc::Global;
+use std::hash::{BuildHasher, BuildHasherDefault, DefaultHasher};
 use std::process::Abort;
 
 /// Arguments, an input, and the output of the run.
@@ -47,18 +49,31 @@ const RUNS: [Run; 20] = [
 ];
 
 /// Checks a run: its status, its output and that it tells no fault.
-fn check_run(rt: &impl Abort, alloc: Global, wanted: Run) {
+fn check_run<S: BuildHasher + Drop>(rt: &impl Abort, alloc: Global, hasher: S, wanted: Run) {
     let words = given!(rt; arguments(alloc, wanted.0));
     let mut output = Vec::new(alloc);
     let mut faults = Vec::new(alloc);
-    let status = run_in_memory(alloc, words.as_slice(), wanted.1, &mut output, &mut faults);
+    let status = run_in_memory(
+        alloc,
+        hasher,
+        words.as_slice(),
+        wanted.1,
+        &mut output,
+        &mut faults,
+    );
     check_eq!(rt; (output.as_slice(), status, faults.len()), (wanted.2, 0, 0));
 }
 
-/// Checks each run.
+/// Checks each run, by two hashers.
 fn check_runs(rt: &impl Abort, alloc: Global) {
     for wanted in RUNS {
-        check_run(rt, alloc, wanted);
+        check_run(rt, alloc, DefaultHashBuilder::new(), wanted);
+        check_run(
+            rt,
+            alloc,
+            BuildHasherDefault::<DefaultHasher>::new(),
+            wanted,
+        );
     }
 }
 
@@ -67,8 +82,28 @@ fn runs(rt: HostRuntime) {
     check_runs(&rt, rt.alloc());
 }
 
+/// What `--help` prints.
+const HELP: &[u8] = b"\
+dedup prints each line of standard input once, at its first appearance.
+--last: prints each line once, at its last appearance.
+--window N: prints each line that is not among the last N distinct lines before it.
+";
+
+#[test]
+fn help(rt: HostRuntime) {
+    check_run(
+        &rt,
+        rt.alloc(),
+        DefaultHashBuilder::new(),
+        (&["--help"], b"a\n", HELP),
+    );
+}
+
 /// Arguments that are wrong.
-const WRONG: [&[&str]; 12] = [
+const WRONG: [&[&str]; 15] = [
+    &["--help", "--help"],
+    &["--help", "--last"],
+    &["-h"],
     &["--first"],
     &["--last", "--last"],
     &["--last", "2"],
@@ -88,11 +123,16 @@ fn check_wrong(rt: &impl Abort, alloc: Global, words: &[&str]) {
     let words = given!(rt; arguments(alloc, words));
     let mut output = Vec::new(alloc);
     let mut faults = Vec::new(alloc);
-    let status = run_in_memory(alloc, words.as_slice(), b"a\n", &mut output, &mut faults);
-    check_eq!(rt;
-        (faults.as_slice(), status, output.len()),
-        (b"usage: dedup [--last | --window N]\n".as_slice(), 2, 0)
+    let status = run_in_memory(
+        alloc,
+        DefaultHashBuilder::new(),
+        words.as_slice(),
+        b"a\n",
+        &mut output,
+        &mut faults,
     );
+    let told = b"dedup: wrong arguments; usage: dedup [--last | --window N]\n".as_slice();
+    check_eq!(rt; (faults.as_slice(), status, output.len()), (told, 2, 0));
 }
 
 /// Checks all wrong arguments.

@@ -221,7 +221,7 @@ const STOPPED: [Stopped; 3] = [
         read_fails_at: NEVER,
         write_fails_at: NEVER,
         status: 2,
-        fault: "line 1: not a command: \"remove\"\n",
+        fault: "line 1: not a command\n",
     },
     Stopped {
         input: "remove 1\n",

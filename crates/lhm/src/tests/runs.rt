@@ -7,8 +7,9 @@ use std::alloc::{AllocError, Global};
 use std::process::Abort;
 
 /// Inputs of commands, and the output of each run.
-const DONE: [(&str, &str); 29] = [
+const DONE: [(&str, &str); 30] = [
     ("", "list\n"),
+    ("popfront\n", "empty len=0 cap=0\nlist\n"),
     (
         "insert 2 20\ninsert 1 10\ninsert 3 30\n",
         "new len=1 cap=1\nnew len=2 cap=2\nnew len=3 cap=3\nlist 2:20 1:10 3:30\n",
@@ -127,82 +128,44 @@ const DONE: [(&str, &str); 29] = [
 ];
 
 /// Inputs with a line that is no command, and what is told of it.
-const INVALID: [(&[u8], &str); 35] = [
+const INVALID: [(&[u8], &str); 32] = [
     (
         b"insert 18446744073709551615 1\n\ninsert 18446744073709551616 1\ninsert 5\n",
-        "line 3: not a command: \"insert 18446744073709551616 1\"\n",
+        "line 3: not a command\n",
     ),
-    (b"drain 1\n", "line 1: not a command: \"drain 1\"\n"),
-    (b"extend 1\n", "line 1: not a command: \"extend 1\"\n"),
-    (
-        b"extend 1 2 3\n",
-        "line 1: not a command: \"extend 1 2 3\"\n",
-    ),
-    (
-        b"extend 1 2 3 x\n",
-        "line 1: not a command: \"extend 1 2 3 x\"\n",
-    ),
-    (b"orinsert 1\n", "line 1: not a command: \"orinsert 1\"\n"),
-    (b"eput\n", "line 1: not a command: \"eput\"\n"),
-    (b"eremove 1 2\n", "line 1: not a command: \"eremove 1 2\"\n"),
-    (b"popfront 1\n", "line 1: not a command: \"popfront 1\"\n"),
-    (b"clear all\n", "line 1: not a command: \"clear all\"\n"),
-    (b"write 1\n", "line 1: not a command: \"write 1\"\n"),
-    (b"refresh\n", "line 1: not a command: \"refresh\"\n"),
-    (b"reserve\n", "line 1: not a command: \"reserve\"\n"),
-    (b"shrink 1\n", "line 1: not a command: \"shrink 1\"\n"),
-    (b"insert\n", "line 1: not a command: \"insert\"\n"),
-    (b"insert 1", "line 1: not a command: \"insert 1\"\n"),
-    (
-        b"insert 1 2 3\n",
-        "line 1: not a command: \"insert 1 2 3\"\n",
-    ),
-    (b"remove\n", "line 1: not a command: \"remove\"\n"),
-    (b"remove 1 2\n", "line 1: not a command: \"remove 1 2\"\n"),
-    (b"Insert 1 2\n", "line 1: not a command: \"Insert 1 2\"\n"),
-    (b"inserts 1 2\n", "line 1: not a command: \"inserts 1 2\"\n"),
-    (b"insert +1 2\n", "line 1: not a command: \"insert +1 2\"\n"),
-    (b"insert 1 -2\n", "line 1: not a command: \"insert 1 -2\"\n"),
-    (b"insert 1,2\n", "line 1: not a command: \"insert 1,2\"\n"),
-    (b"mode\n", "line 1: not a command: \"mode\"\n"),
-    (b"mode fast\n", "line 1: not a command: \"mode fast\"\n"),
-    (
-        b"mode touch keep\n",
-        "line 1: not a command: \"mode touch keep\"\n",
-    ),
+    (b"popmiddle\n", "line 1: not a command\n"),
+    (b"drain 1\n", "line 1: not a command\n"),
+    (b"extend 1\n", "line 1: not a command\n"),
+    (b"extend 1 2 3\n", "line 1: not a command\n"),
+    (b"extend 1 2 3 x\n", "line 1: not a command\n"),
+    (b"orinsert 1\n", "line 1: not a command\n"),
+    (b"eput\n", "line 1: not a command\n"),
+    (b"eremove 1 2\n", "line 1: not a command\n"),
+    (b"popfront 1\n", "line 1: not a command\n"),
+    (b"clear all\n", "line 1: not a command\n"),
+    (b"write 1\n", "line 1: not a command\n"),
+    (b"refresh\n", "line 1: not a command\n"),
+    (b"reserve\n", "line 1: not a command\n"),
+    (b"shrink 1\n", "line 1: not a command\n"),
+    (b"insert\n", "line 1: not a command\n"),
+    (b"insert 1", "line 1: not a command\n"),
+    (b"insert 1 2 3\n", "line 1: not a command\n"),
+    (b"remove\n", "line 1: not a command\n"),
+    (b"remove 1 2\n", "line 1: not a command\n"),
+    (b"Insert 1 2\n", "line 1: not a command\n"),
+    (b"inserts 1 2\n", "line 1: not a command\n"),
+    (b"insert +1 2\n", "line 1: not a command\n"),
+    (b"insert 1 -2\n", "line 1: not a command\n"),
+    (b"insert 1,2\n", "line 1: not a command\n"),
+    (b"mode\n", "line 1: not a command\n"),
+    (b"mode fast\n", "line 1: not a command\n"),
+    (b"mode touch keep\n", "line 1: not a command\n"),
     // A vertical tab separates nothing.
-    (
-        b"remove\x0b1\n",
-        "line 1: not a command: \"remove\\x0b1\"\n",
-    ),
+    (b"remove\x0b1\n", "line 1: not a command\n"),
     // Bytes that are not UTF-8, in a name and in a number.
-    (
-        b"\n\xff\xfe 1\n",
-        "line 2: not a command: \"\\xff\\xfe 1\"\n",
-    ),
-    (
-        b"insert 1 2\nremove \xc3\n",
-        "line 2: not a command: \"remove \\xc3\"\n",
-    ),
-    (b"\r\n\n \nx", "line 4: not a command: \"x\"\n"),
-    // A quoted line has its quotation marks and other bytes escaped as in a byte string of Rust.
-    (
-        b"say \"it's\"\t\\\0\x1b\x7f\xc3\xa9\r\n",
-        "line 1: not a command: \"say \\\"it\\'s\\\"\\t\\\\\\x00\\x1b\\x7f\\xc3\\xa9\\r\"\n",
-    ),
-    // A line of 40 bytes is quoted whole, and of a longer one the first 40, whatever they are.
-    (
-        b"insert 1 2345678901234567890123456789012\n",
-        "line 1: not a command: \"insert 1 2345678901234567890123456789012\"\n",
-    ),
-    (
-        b"insert 1 23456789012345678901234567890123\n",
-        "line 1: not a command: \"insert 1 2345678901234567890123456789012\"...\n",
-    ),
-    (
-        b"extend 1 2 3 4 5 6 7 8 9 10 11 12 13 14\xc3\xa9\ninsert 1 10\n",
-        "line 1: not a command: \"extend 1 2 3 4 5 6 7 8 9 10 11 12 13 14\\xc3\"...\n",
-    ),
+    (b"\n\xff\xfe 1\n", "line 2: not a command\n"),
+    (b"insert 1 2\nremove \xc3\n", "line 2: not a command\n"),
+    (b"\r\n\n \nx", "line 4: not a command\n"),
 ];
 
 /// Checks one run over memory against its status, its output and its faults.

@@ -73,11 +73,13 @@ pub struct Output {
 }
 
 impl Output {
-    /// Creates an empty writer that fails at a call.
-    pub fn new(alloc: Global, fails_at: usize) -> Output {
+    /// Creates an empty writer that fails at a call by an error of a kind.
+    pub fn new(alloc: Global, fails_at: usize, kind: ErrorKind) -> Output {
+        let mut calls = Calls::new(fails_at);
+        calls.kind = kind;
         Output {
             bytes: Vec::new(alloc),
-            calls: Calls::new(fails_at),
+            calls,
         }
     }
 }

@@ -9,7 +9,8 @@ use Rattle.lhm.proofs.parser.commands.Goals as goal
 pub returns-in-Err-NotACommand-clause-err : goal.returns-in-Err-NotACommand-clause-err
 returns-in-Err-NotACommand-clause-err c =
     let invalid = c.in-Err-NotACommand.ensures.err (ap Err c.in-Err-NotACommand.field-0-is) in
-    c.loop-rest.invariant.first_invalid 1 c.split_line.result.0.now (rw c.split_line.ensures.lines (IsFirstInvalid-one _ _ invalid))
+    let line = c.split_line.result.0.now in
+    (line, c.loop-rest.invariant.first_invalid 1 line (rw c.split_line.ensures.lines (IsFirstInvalid-one _ _ invalid)))
 
 pub loop-rest-preserved-in-Ok-None : goal.loop-rest-preserved-in-Ok-None
 loop-rest-preserved-in-Ok-None c =

@@ -1,10 +1,8 @@
-//! Readers and writers over memory, which move a few bytes at once and fail when they are told to,
-//! and command lines. The contracts of the first tell their bytes, so what is proved of `run` holds
-//! of it with them.
+//! Readers and writers over memory, which move a few bytes at once and fail when they are told to.
+//! Their contracts tell their bytes, so what is proved of `run` holds of it with them.
 ghost use Rattle.std.specs.Prelude.{Some, ◌<◌, take};
 
 use std::alloc::Global;
-use std::env::{Env, FillError};
 use std::io;
 use std::io::{ErrorKind, Read, Write};
 
@@ -190,32 +188,5 @@ impl Write for Output {
 
     fn flush(&mut self) -> io::Result<()> {
         self.calls.count()
-    }
-}
-
-/// A command line with so many arguments behind the program's name, each of so many bytes.
-#[derive(Clone, Copy)]
-pub struct Arguments {
-    pub count: usize,
-    pub len: usize,
-}
-
-impl Env for Arguments {
-    fn arg(&self, i: usize, buf: &mut [u8]) -> Result<usize, FillError> {
-        if i > self.count {
-            return Err(FillError::NotPresent);
-        }
-        if self.len > buf.len() {
-            return Err(FillError::TooLong);
-        }
-        Ok(self.len)
-    }
-
-    fn var(&self, _name: &str, _buf: &mut [u8]) -> Result<usize, FillError> {
-        Err(FillError::NotPresent)
-    }
-
-    fn var_at(&self, _i: usize, _buf: &mut [u8]) -> Result<usize, FillError> {
-        Err(FillError::NotPresent)
     }
 }
