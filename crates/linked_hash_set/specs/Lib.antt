@@ -5,4 +5,5 @@ pub mod Items
 pub mod Lends
 pub mod LinkedSet
 pub mod Operations
+pub mod Updates
 pub mod Validity

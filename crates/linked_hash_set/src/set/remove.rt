@@ -1,12 +1,14 @@
 //! Removal.
 
-ghost use Rattle.std.specs.Prelude.{◌≡◌, [], length};
+ghost use Rattle.std.specs.Prelude.{◌≡◌, ◌+◌, ◌≤◌, [], length, true, false, IfNone, IfSome, OnSome, IsTrue, IsFalse};
 ghost use Rattle.std.specs.Borrow.{sem};
 ghost use Rattle.std.specs.Fn.{CalledAt};
 ghost use Rattle.std.specs.List.Retain.{IsFiltered};
 ghost use Rattle.linked_hash_map.specs.Pairs.{first, last, without_first, without_last};
+ghost use Rattle.linked_hash_map.specs.Retains.{IsSublist};
 ghost use Rattle.linked_hash_set.specs.Items.{contains, find, without};
 ghost use Rattle.linked_hash_set.specs.LinkedSet.{Keeps};
+ghost use Rattle.linked_hash_set.specs.Updates.{Updates};
 ghost use Rattle.linked_hash_set.specs.Validity.{IsValid};
 
 use super::LinkedHashSet;
@@ -38,6 +40,10 @@ impl<T: Eq + Hash, S: BuildHasher> LinkedHashSet<T, S> {
         ensures items { self.new.items ≡ without Q.equivalent self.old.items item }
         ensures keeps { Keeps self.old self.new }
         ensures stays_valid { IsValid T.eq self.new }
+        // Consequences of `present` and `items`, for the proofs of callers.
+        ensures updates { Updates T.eq self.old.items self.new.items (Q.equivalent item) false }
+        ensures fewer { IsTrue result → length self.new.items + 1 ≡ length self.old.items }
+        ensures same { IsFalse result → self.new.items ≡ self.old.items }
     {
         self.map.remove(item).is_some()
     }
@@ -60,6 +66,10 @@ impl<T: Eq + Hash, S: BuildHasher> LinkedHashSet<T, S> {
         ensures items { self.new.items ≡ without Q.equivalent self.old.items item }
         ensures keeps { Keeps self.old self.new }
         ensures stays_valid { IsValid T.eq self.new }
+        // Consequences of `stored` and `items`, for the proofs of callers.
+        ensures updates { Updates T.eq self.old.items self.new.items (Q.equivalent item) false }
+        ensures fewer { OnSome result (length self.new.items + 1 ≡ length self.old.items) }
+        ensures same { IfNone result (self.new.items ≡ self.old.items) }
     {
         let (stored, _unit) = self.map.remove_entry(item)?;
         Some(stored)
@@ -80,6 +90,9 @@ impl<T: Eq + Hash, S: BuildHasher> LinkedHashSet<T, S> {
         ensures items { self.new.items ≡ without_first self.old.items }
         ensures keeps { Keeps self.old self.new }
         ensures stays_valid { IsValid T.eq self.new }
+        // A consequence of `item` and `items`, for the proofs of callers.
+        ensures updates { IfSome result (λ item.
+            Updates T.eq self.old.items self.new.items (T.eq item) false) }
     {
         let (item, _unit) = self.map.pop_front()?;
         Some(item)
@@ -100,6 +113,9 @@ impl<T: Eq + Hash, S: BuildHasher> LinkedHashSet<T, S> {
         ensures items { self.new.items ≡ without_last self.old.items }
         ensures keeps { Keeps self.old self.new }
         ensures stays_valid { IsValid T.eq self.new }
+        // A consequence of `item` and `items`, for the proofs of callers.
+        ensures updates { IfSome result (λ item.
+            Updates T.eq self.old.items self.new.items (T.eq item) false) }
     {
         let (item, _unit) = self.map.pop_back()?;
         Some(item)
@@ -124,6 +140,8 @@ impl<T: Eq + Hash, S: BuildHasher> LinkedHashSet<T, S> {
         T: Drop,
         requires { F.IsAlwaysCallable keep }
         ensures items { IsFiltered (CalledAt F.FnMut) keep self.old.items self.new.items }
+        ensures kept { IsSublist self.new.items self.old.items }
+        ensures len { length self.new.items ≤ length self.old.items }
         ensures keeps { Keeps self.old self.new }
         ensures stays_valid { IsValid T.eq self.new }
     {
@@ -150,6 +168,7 @@ impl<T: Eq + Hash, S: BuildHasher> LinkedHashSet<T, S> {
         T: Drop,
         ensures items { self.new.items ≡ [] }
         ensures keeps { Keeps self.old self.new }
+        ensures stays_valid { IsValid T.eq self.new }
     {
         self.map.clear();
     }
