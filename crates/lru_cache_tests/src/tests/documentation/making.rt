@@ -42,6 +42,15 @@ fn capacity(rt: HostRuntime) -> Result<(), Fail> {
     Ok(())
 }
 
+/// The example of `room`.
+#[test]
+fn room(rt: HostRuntime) -> Result<(), Fail> {
+    let mut cache: LruCache<char, u64> = LruCache::new(rt.alloc(), 2);
+    cache.reserve(3)?;
+    check_eq!(rt; (cache.room(), cache.capacity()), (3, 2));
+    Ok(())
+}
+
 /// The example of `len`.
 #[test]
 fn len(rt: HostRuntime) -> Result<(), Fail> {
