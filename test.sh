@@ -43,6 +43,8 @@ done
 
 run_part refused-growths nice -n 19 scripts/refused-growths &
 run_part wrong-bodies-self-test nice -n 19 scripts/wrong-bodies --self-test &
+run_part doc-tests nice -n 19 scripts/doc-tests &
+run_part doc-tests-self-test nice -n 19 scripts/doc-tests --self-test &
 
 began=$(date +%s)
 {
@@ -56,6 +58,8 @@ wait
 [ -n "$failed" ] || run_part programs scripts/programs
 show_part refused-growths 'refusal_tests: [1-9]'
 show_part wrong-bodies-self-test
+show_part doc-tests '[2-9][0-9][0-9] examples of [1-9][0-9]* files passed'
+show_part doc-tests-self-test 'finds each of [1-9][0-9]* planted faults'
 [ ! -e "$work/programs.end" ] ||
     show_part programs \
         ': 6 inputs .* 40 res.* 20000 lines .* 20 workloads .* 250 turns .* 8192 KiB, and not in 4192'
