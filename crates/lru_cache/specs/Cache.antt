@@ -1,10 +1,12 @@
 -- What a contract sees of a cache: a list of pairs, the one used least recently first.
-use Rattle.std.specs.Prelude.{◌≡◌, ℕ, ◌-◌, ◌≤◌, nat_lt, Bool, cond, List, [], ◌∷◌, ◌++◌, length, drop, Option, Some, None}
+use Rattle.std.specs.Prelude.{◌≡◌, ◌⊎◌, ℕ, ◌+◌, ◌-◌, ◌<◌, ◌≤◌, nat_lt, Bool, cond, List, [], ◌∷◌}
+use Rattle.std.specs.Prelude.{◌++◌, length, drop, Option, Some, None, IsSome}
 use Rattle.std.specs.List.{IsDistinct}
 use Rattle.std.specs.Map.{keys_of}
 use Rattle.linked_hash_map.specs.LinkedMap.{LinkedMap}
 use Rattle.linked_hash_map.specs.declared.map.Mode.TheVariants.{Touch}
-use Rattle.linked_hash_map.specs.Pairs.{first, value_at, to_back}
+use Rattle.linked_hash_map.specs.Pairs.{first, find, value_at, to_back}
+use Rattle.linked_hash_map.specs.declared.map.TheConstants.{LIMIT}
 use Rattle.linked_hash_map.specs.Validity.{IsValid}
 
 pub record Cache (K V S : Type 0) : Type 0 where
@@ -38,6 +40,11 @@ module _ {K V : Type 0} (eq : K → K → Bool) where
   abbrev pub gone : ℕ → List (K × V) → K → V → Option (K × V)
   gone n pairs k v = replaced_or_first n pairs k v (value_at eq pairs k)
 
+  -- after a call the key q has the value that it had before, or none
+  abbrev pub SameOrNone : List (K × V) → List (K × V) → K → Type 0
+  SameOrNone before after q =
+      (value_at eq after q ≡ None) ⊎ (value_at eq after q ≡ value_at eq before q)
+
 module _ {K V S : Type 0} where
   abbrev pub cache : List (K × V) → ℕ → ℕ → S → Cache K V S
   cache pairs limit room hasher =
@@ -49,12 +56,22 @@ module _ {K V S : Type 0} where
     pub room : new.room ≡ old.room
     pub hasher : new.hasher ≡ old.hasher
 
-  -- a cache is valid: no two of its keys are the same, and it has no more pairs than the limit, and
-  -- no more than room
+  -- what room there may be once k is inserted in a cache c: as much as before if k is present, or if
+  -- there is room for one pair more; else room for one more, or as much as before if c is full and
+  -- memory was refused
+  pub record IsRoomAfter (eq : K → K → Bool) (c : Cache K V S) (k : K) (room : ℕ) : Type 0 where
+    pub present : IsSome (find eq c.pairs k) → room ≡ c.room
+    pub below : length c.pairs < c.room → room ≡ c.room
+    pub at : find eq c.pairs k ≡ None → length c.pairs ≡ c.room
+        → (room ≡ c.room + 1) ⊎ ((length c.pairs ≡ c.limit) × (room ≡ c.room))
+
+  -- a cache is valid: no two of its keys are the same, it has no more pairs than the limit, and no
+  -- more than room, and no more room than a map may have
   pub record IsValidCache (eq : K → K → Bool) (c : Cache K V S) : Type 0 where
     pub distinct : IsDistinct eq (keys_of c.pairs)
     pub within : length c.pairs ≤ c.limit
     pub within_room : length c.pairs ≤ c.room
+    pub room_limit : c.room ≤ LIMIT
 
   -- private: how a cache is kept in a map
   pub record IsKept (eq : K → K → Bool) (m : LinkedMap K V S) (limit : ℕ) : Type 0 where

@@ -1,7 +1,7 @@
 -- Runs of commands to a cache.
 use Rattle.std.specs.Prelude.{◌≡◌, ℕ, ◌<◌, ◌⊎◌, Bool, cond, List, [], ◌∷◌, length, Option, Some, None, is_some}
 use Rattle.linked_hash_map.specs.Pairs.{first, without_first, find, value_at, without, to_back_as_is}
-use Rattle.lru_cache.specs.Cache.{Cache, newest, inserted}
+use Rattle.lru_cache.specs.Cache.{Cache, newest, inserted, IsRoomAfter}
 use Rattle.lru_cache.specs.declared.replay.Command.{Command}
 use Rattle.lru_cache.specs.declared.replay.Command.TheVariants.{Insert, Get, Remove, RemoveLru, SetCapacity, Clear}
 use Rattle.lru_cache.specs.declared.replay.Answer.{Answer}
@@ -41,6 +41,11 @@ module _ {K V : Type 0} (eq : K → K → Bool) where
   pairs_after limit pairs (SetCapacity n) = newest n pairs
   pairs_after limit pairs Clear = []
 
+  -- what room there may be after it
+  abbrev pub IsRoomAfterRun : {S : Type 0} → Cache K V S → Command K V → ℕ → Type 0
+  IsRoomAfterRun c (Insert k v) room = IsRoomAfter eq c k room
+  IsRoomAfterRun c _ room = room ≡ c.room
+
   module _ {S : Type 0} (c : Cache K V S) (command : Command K V) (answer : Answer K V)
       (d : Cache K V S) where
     -- a cache c ran a command with this answer, and is d after it
@@ -48,9 +53,10 @@ module _ {K V : Type 0} (eq : K → K → Bool) where
       pub answered : answer ≡ answer_to c.pairs command
       pub pairs : d.pairs ≡ pairs_after c.limit c.pairs command
       pub limit : d.limit ≡ limit_after c.limit command
+      pub room : IsRoomAfterRun c command d.room
       pub hasher : d.hasher ≡ c.hasher
 
-    -- it refused to insert a new pair, though it was not full, and is as it was
+    -- it refused to insert a new pair: it was not full, had no room, and is as it was
     pub record RefusedPair : Type 0 where
       pub key : K
       pub value : V
@@ -58,6 +64,7 @@ module _ {K V : Type 0} (eq : K → K → Bool) where
       pub refused : answer ≡ Refused key value
       pub absent : find eq c.pairs key ≡ None
       pub not_full : length c.pairs < c.limit
+      pub no_room : length c.pairs ≡ c.room
       pub unchanged : d ≡ c
 
     -- one of the two

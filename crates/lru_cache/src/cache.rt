@@ -122,6 +122,22 @@ impl<K: Eq + Hash, V, S: BuildHasher> LruCache<K, V, S> {
         self.limit
     }
 
+    /// Returns for how many pairs there is memory, in O(1).
+    ///
+    /// # Examples
+    ///
+    /// ```rust
+    /// let mut cache: LruCache<char, u64> = LruCache::new(rt.alloc(), 2);
+    /// cache.reserve(3)?;
+    /// assert_eq!(rt; (cache.room(), cache.capacity()), (3, 2));
+    /// ```
+    pub fn room(&self) -> usize
+        ensures room { result ≡ self.now.room }
+        ensures valid { IsValidCache K.eq self.now }
+    {
+        self.map.capacity()
+    }
+
     /// Returns the number of pairs, in O(1).
     ///
     /// # Examples

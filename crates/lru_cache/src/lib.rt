@@ -30,7 +30,7 @@
 //! - Remove: `remove`, `remove_lru`, `retain`, `clear`, `drain`.
 //! - Iterate, the pair used least recently first: `iter`, `iter_mut`, `into_iter`.
 //! - The limit: `capacity`, `set_capacity`.
-//! - Memory: `reserve`.
+//! - Memory: `reserve`, `room`.
 //! - Besides: `len`, `is_empty`; [`replay`] runs commands.
 #![tactic(auto)]
 

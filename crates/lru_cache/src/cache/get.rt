@@ -1,9 +1,10 @@
 //! Lookups.
-ghost use Rattle.std.specs.Prelude.{◌≡◌, is_some, option_copied, IfNone};
+ghost use Rattle.std.specs.Prelude.{◌≡◌, length, is_some, option_copied, option_map, Some, IfNone, OnSome, IsFalse};
 ghost use Rattle.std.specs.Borrow.{sem};
 ghost use Rattle.std.specs.Option.{option_copied_mut};
-ghost use Rattle.linked_hash_map.specs.Pairs.{find, value_at, to_back_as_is};
-ghost use Rattle.lru_cache.specs.Cache.{Keeps};
+ghost use Rattle.linked_hash_map.specs.Pairs.{last, find, value_at, set_value, to_back_as_is, to_back_by};
+ghost use Rattle.linked_hash_map.specs.Updates.{UpdatesBy};
+ghost use Rattle.lru_cache.specs.Cache.{Keeps, IsValidCache};
 
 use super::LruCache;
 use linked_hash_map::Equivalent;
@@ -29,6 +30,11 @@ impl<K: Eq + Hash, V, S: BuildHasher> LruCache<K, V, S> {
         ensures present { result ≡ is_some (find Q.equivalent self.old.pairs key) }
         ensures pairs { self.new.pairs ≡ to_back_as_is Q.equivalent self.old.pairs key }
         ensures keeps { Keeps self.old self.new }
+        ensures unchanged { IsFalse result → self.new ≡ self.old }
+        ensures valid { IsValidCache K.eq self.old }
+        ensures stays_valid { IsValidCache K.eq self.new }
+        // A consequence of `pairs`, for the proofs of callers.
+        ensures finds { (q : K) → find K.eq self.new.pairs q ≡ find K.eq self.old.pairs q }
     {
         self.map.move_to_back(key)
     }
@@ -51,9 +57,16 @@ impl<K: Eq + Hash, V, S: BuildHasher> LruCache<K, V, S> {
             (shows_used K.row V.row S.row S.Hasher.row K.Hash S.BuildHasher S.Hasher.Hasher
             self.entry Q.equivalent key) }
         ensures value { option_copied result ≡ value_at Q.equivalent self.old.pairs key }
-        // A law of lists, for the proofs of callers.
+        ensures valid { IsValidCache K.eq self.old }
+
+        // Laws of the cache once the pair is used, for the proofs of callers.
         ensures absent { IfNone result
             (to_back_as_is Q.equivalent self.old.pairs key ≡ self.old.pairs) }
+        ensures finds { (q : K)
+            → find K.eq (to_back_as_is Q.equivalent self.old.pairs key) q
+            ≡ find K.eq self.old.pairs q }
+        ensures stays_valid { IsValidCache K.eq
+            (record self.old { pairs = to_back_as_is Q.equivalent self.old.pairs key }) }
     {
         if !self.map.move_to_back(key) {
             return None;
@@ -83,6 +96,21 @@ impl<K: Eq + Hash, V, S: BuildHasher> LruCache<K, V, S> {
             (lends_used K.row V.row S.row S.Hasher.row K.Hash S.BuildHasher S.Hasher.Hasher
             self.entry Q.equivalent Q.as_key key result) }
         ensures value { option_copied_mut result ≡ value_at Q.equivalent self.old.pairs key }
+        ensures valid { IsValidCache K.eq self.old }
+
+        // Laws of the cache once a value is written, for the proofs of callers.
+        ensures updates { (v : V) → OnSome result
+            (UpdatesBy K.eq self.old.pairs (to_back_by Q.equivalent Q.as_key self.old.pairs key v)
+            (Q.equivalent key) (Some v)) }
+        ensures last { (v : V) → OnSome result
+            (last (to_back_by Q.equivalent Q.as_key self.old.pairs key v)
+            ≡ option_map (λ pair. (pair.0, v)) (find Q.equivalent self.old.pairs key)) }
+        ensures as_many { (v : V) → OnSome result
+            (length (to_back_by Q.equivalent Q.as_key self.old.pairs key v)
+            ≡ length self.old.pairs) }
+        ensures stays_valid { (v : V) → OnSome result (IsValidCache K.eq (record self.old {
+          pairs = to_back_by Q.equivalent Q.as_key self.old.pairs key v;
+        })) }
     {
         match self.map.get_refresh(key) {
             Some(value) => Some(value),
@@ -126,6 +154,14 @@ impl<K: Eq + Hash, V, S: BuildHasher> LruCache<K, V, S> {
             (lends_value K.row V.row S.row S.Hasher.row K.Hash S.BuildHasher S.Hasher.Hasher
             self.entry Q.equivalent key result) }
         ensures value { option_copied_mut result ≡ value_at Q.equivalent self.old.pairs key }
+        ensures valid { IsValidCache K.eq self.old }
+
+        // Laws of the cache once a value is written, for the proofs of callers.
+        ensures updates { (v : V) → OnSome result
+            (UpdatesBy K.eq self.old.pairs (set_value Q.equivalent self.old.pairs key v)
+            (Q.equivalent key) (Some v)) }
+        ensures stays_valid { (v : V) → IsValidCache K.eq
+            (record self.old { pairs = set_value Q.equivalent self.old.pairs key v }) }
     {
         match self.map.get_mut(key) {
             Some(value) => Some(value),

@@ -1,8 +1,9 @@
 //! Insertion, and room for it.
-ghost use Rattle.std.specs.Prelude.{◌≡◌, ◌<◌, ◌≤◌, ◌+◌, ◌↔◌, [], ◌∷◌, ◌++◌, length, max, Some, None, IfOk, IfErr, OnOk, OnErr, IsErrOf};
+ghost use Rattle.std.specs.Prelude.{◌≡◌, ◌<◌, ◌≤◌, ◌+◌, ◌⊎◌, ◌↔◌, [], ◌∷◌, ◌++◌, false, length, max, Some, None, IsSome, IfOk, IfErr, OnOk, OnErr, IsErrOf};
 ghost use Rattle.std.specs.Iterator.{IsFiniteIterable};
-ghost use Rattle.linked_hash_map.specs.Pairs.{find, value_at};
-ghost use Rattle.lru_cache.specs.Cache.{inserted, replaced_or_first, gone, IsValidCache};
+ghost use Rattle.linked_hash_map.specs.Pairs.{last, key_or, find, value_at};
+ghost use Rattle.linked_hash_map.specs.Updates.{Updates};
+ghost use Rattle.lru_cache.specs.Cache.{inserted, replaced_or_first, gone, SameOrNone, IsRoomAfter, IsValidCache};
 ghost use Rattle.lru_cache.specs.Extension.{InsertsAll, InsertsUntil};
 
 use super::LruCache;
@@ -30,6 +31,7 @@ impl<K: Eq + Hash, V, S: BuildHasher> LruCache<K, V, S> {
     /// assert_eq!(rt; cache.insert('z', 4)?, None);
     /// assert_eq!(rt; cache.peek(&'y'), None);
     /// ```
+    #[tactic(auto, using(crate::proofs::Insertions::insertions))]
     pub fn insert(&mut self, key: K, value: V) -> Result<Option<V>, Refused<K, V>>
     where
         K: Drop,
@@ -39,10 +41,24 @@ impl<K: Eq + Hash, V, S: BuildHasher> LruCache<K, V, S> {
             (self.new.pairs ≡ inserted K.eq self.old.limit self.old.pairs key value) }
         ensures limit { self.new.limit ≡ self.old.limit }
         ensures hasher { self.new.hasher ≡ self.old.hasher }
-        ensures room { self.old.room ≤ self.new.room }
+        ensures room { OnOk result (IsRoomAfter K.eq self.old key self.new.room) }
+        ensures valid { IsValidCache K.eq self.old }
+        ensures stays_valid { IsValidCache K.eq self.new }
+        // Consequences of `room`: room for one pair more than the limit is room enough.
+        ensures room_least { self.old.room ≤ self.new.room }
         ensures room_most { self.new.room ≤ max self.old.room (self.old.limit + 1) }
-        // Room for one pair more than the limit is room enough.
         ensures room_enough { self.old.limit < self.old.room → self.new.room ≡ self.old.room }
+        // Consequences of `pairs`, for the proofs of callers.
+        ensures here { OnOk result
+            (0 < self.old.limit → value_at K.eq self.new.pairs key ≡ Some value) }
+        ensures last { OnOk result (0 < self.old.limit → last self.new.pairs
+            ≡ Some (key_or key (find K.eq self.old.pairs key), value)) }
+        ensures others { OnOk result ((q : K) → K.eq key q ≡ false
+            → SameOrNone K.eq self.old.pairs self.new.pairs q) }
+        // No pair goes if the key is present or the cache is not full.
+        ensures updates { OnOk result (IsSome (find K.eq self.old.pairs key)
+            ⊎ (length self.old.pairs < self.old.limit)
+            → Updates K.eq self.old.pairs self.new.pairs key (Some value)) }
 
         ensures key_back { IfErr result (λ refused. refused.key ≡ key) }
         ensures value_back { IfErr result (λ refused. refused.value ≡ value) }
@@ -74,6 +90,7 @@ impl<K: Eq + Hash, V, S: BuildHasher> LruCache<K, V, S> {
     /// assert_eq!(rt; cache.put('x', 3)?, Some(('x', 1)));
     /// assert_eq!(rt; cache.put('z', 4)?, Some(('y', 2)));
     /// ```
+    #[tactic(auto, using(crate::proofs::Insertions::insertions, crate::proofs::Rooms::rooms))]
     pub fn put(&mut self, key: K, value: V) -> Result<Option<(K, V)>, Refused<K, V>>
     where
         K: Drop,
@@ -84,10 +101,24 @@ impl<K: Eq + Hash, V, S: BuildHasher> LruCache<K, V, S> {
             (self.new.pairs ≡ inserted K.eq self.old.limit self.old.pairs key value) }
         ensures limit { self.new.limit ≡ self.old.limit }
         ensures hasher { self.new.hasher ≡ self.old.hasher }
-        ensures room { self.old.room ≤ self.new.room }
+        ensures room { OnOk result (IsRoomAfter K.eq self.old key self.new.room) }
+        ensures valid { IsValidCache K.eq self.old }
+        ensures stays_valid { IsValidCache K.eq self.new }
+        // Consequences of `room`: room for one pair more than the limit is room enough.
+        ensures room_least { self.old.room ≤ self.new.room }
         ensures room_most { self.new.room ≤ max self.old.room (self.old.limit + 1) }
-        // Room for one pair more than the limit is room enough.
         ensures room_enough { self.old.limit < self.old.room → self.new.room ≡ self.old.room }
+        // Consequences of `pairs`, for the proofs of callers.
+        ensures here { OnOk result
+            (0 < self.old.limit → value_at K.eq self.new.pairs key ≡ Some value) }
+        ensures last { OnOk result (0 < self.old.limit → last self.new.pairs
+            ≡ Some (key_or key (find K.eq self.old.pairs key), value)) }
+        ensures others { OnOk result ((q : K) → K.eq key q ≡ false
+            → SameOrNone K.eq self.old.pairs self.new.pairs q) }
+        // No pair goes if the key is present or the cache is not full.
+        ensures updates { OnOk result (IsSome (find K.eq self.old.pairs key)
+            ⊎ (length self.old.pairs < self.old.limit)
+            → Updates K.eq self.old.pairs self.new.pairs key (Some value)) }
 
         ensures key_back { IfErr result (λ refused. refused.key ≡ key) }
         ensures value_back { IfErr result (λ refused. refused.value ≡ value) }
@@ -107,6 +138,7 @@ impl<K: Eq + Hash, V, S: BuildHasher> LruCache<K, V, S> {
 
     /// Inserts a pair as `insert` does, and returns the old value of its key and the pair that goes
     /// for a new one.
+    #[tactic(auto, using(crate::proofs::Rooms::rooms))]
     fn insert_or_replace(
         &mut self,
         key: K,
@@ -122,7 +154,10 @@ impl<K: Eq + Hash, V, S: BuildHasher> LruCache<K, V, S> {
             (self.new.pairs ≡ inserted K.eq self.old.limit self.old.pairs key value) }
         ensures limit { self.new.limit ≡ self.old.limit }
         ensures hasher { self.new.hasher ≡ self.old.hasher }
-        ensures room { self.old.room ≤ self.new.room }
+        ensures room { OnOk result (IsRoomAfter K.eq self.old key self.new.room) }
+        ensures valid { IsValidCache K.eq self.old }
+        ensures stays_valid { IsValidCache K.eq self.new }
+        ensures room_least { self.old.room ≤ self.new.room }
         ensures room_most { self.new.room ≤ max self.old.room (self.old.limit + 1) }
         ensures room_enough { self.old.limit < self.old.room → self.new.room ≡ self.old.room }
 
@@ -166,7 +201,7 @@ impl<K: Eq + Hash, V, S: BuildHasher> LruCache<K, V, S> {
     /// assert_eq!(rt; cache.len(), 2);
     /// assert_eq!(rt; (cache.peek(&'x'), cache.peek(&'z')), (None, Some(&3)));
     /// ```
-    #[tactic(auto, using(crate::proofs::Newest::insertions))]
+    #[tactic(auto, using(crate::proofs::Newest::insertions, crate::proofs::Rooms::more_rooms))]
     pub fn extend<I: IntoIterator<Item = (K, V)>>(&mut self, items: I) -> Result<(), Refused<K, V>>
     where
         K: Drop,
@@ -175,21 +210,23 @@ impl<K: Eq + Hash, V, S: BuildHasher> LruCache<K, V, S> {
         requires ends { IsFiniteIterable I.into_iter_gives I.IntoIter.can_next
             I.IntoIter.remaining items }
         ensures all { OnOk result
-            (InsertsAll I.into_iter_gives I.IntoIter.next_gives items K.eq self.old.limit
-            self.old.pairs self.new.pairs) }
+            (InsertsAll I.into_iter_gives I.IntoIter.next_gives items K.eq self.old self.new) }
         ensures limit { self.new.limit ≡ self.old.limit }
         ensures hasher { self.new.hasher ≡ self.old.hasher }
         ensures room { self.old.room ≤ self.new.room }
         ensures room_most { self.new.room ≤ max self.old.room (self.old.limit + 1) }
         ensures room_enough { self.old.limit < self.old.room → self.new.room ≡ self.old.room }
+        ensures stays_valid { IsValidCache K.eq self.new }
 
         ensures stopped { IfErr result (λ refused.
-            InsertsUntil I.into_iter_gives I.IntoIter.next_gives items K.eq self.old.limit
-            self.old.pairs self.new.pairs refused.key refused.value) }
+            InsertsUntil I.into_iter_gives I.IntoIter.next_gives items K.eq self.old self.new
+            refused.key refused.value) }
         ensures absent { IfErr result (λ refused. find K.eq self.new.pairs refused.key ≡ None) }
         ensures not_full { OnErr result (length self.new.pairs < self.new.limit) }
         ensures no_room { OnErr result (length self.new.pairs ≡ self.new.room) }
     {
+        // Shows that the cache is valid.
+        let _is_empty = self.is_empty();
         for (key, value) in items {
             match self.insert(key, value) {
                 Ok(_old) => {}
@@ -223,6 +260,7 @@ impl<K: Eq + Hash, V, S: BuildHasher> LruCache<K, V, S> {
             (self.new.room ≡ max self.old.room (length self.old.pairs + additional)) }
 
         ensures unchanged { OnErr result (self.new ≡ self.old) }
+        ensures stays_valid { IsValidCache K.eq self.new }
         ensures too_large { IsErrOf result ReserveError.TooLarge ↔
             (LIMIT < length self.old.pairs + additional) }
         ensures no_room { IsErrOf result ReserveError.NoRoom →

@@ -1,11 +1,12 @@
 //! Removal, and the limit.
-ghost use Rattle.std.specs.Prelude.{◌≡◌, ◌≤◌, [], length};
+ghost use Rattle.std.specs.Prelude.{◌≡◌, ◌≤◌, [], length, None, IfSome};
 ghost use Rattle.std.specs.Borrow.{sem};
 ghost use Rattle.std.specs.Map.{keys_of};
 ghost use Rattle.std.specs.Map.Calls.{CallableOnEachPair, CalledAtPair, TakesPair, RetainsPairs};
-ghost use Rattle.linked_hash_map.specs.Pairs.{value_at, without, first, without_first};
+ghost use Rattle.linked_hash_map.specs.Pairs.{find, value_at, without, first, without_first};
 ghost use Rattle.linked_hash_map.specs.Retains.{IsSublist};
-ghost use Rattle.lru_cache.specs.Cache.{newest, Keeps, IsValidCache};
+ghost use Rattle.linked_hash_map.specs.Updates.{Updates, UpdatesBy};
+ghost use Rattle.lru_cache.specs.Cache.{newest, Keeps, SameOrNone, IsValidCache};
 
 use super::LruCache;
 use linked_hash_map::{Drain, Equivalent};
@@ -32,6 +33,10 @@ impl<K: Eq + Hash, V, S: BuildHasher> LruCache<K, V, S> {
         ensures value { result ≡ value_at Q.equivalent self.old.pairs key }
         ensures pairs { self.new.pairs ≡ without Q.equivalent self.old.pairs key }
         ensures keeps { Keeps self.old self.new }
+        ensures valid { IsValidCache K.eq self.old }
+        ensures stays_valid { IsValidCache K.eq self.new }
+        // A consequence of `pairs`, for the proofs of callers.
+        ensures updates { UpdatesBy K.eq self.old.pairs self.new.pairs (Q.equivalent key) None }
     {
         self.map.remove(key)
     }
@@ -51,6 +56,12 @@ impl<K: Eq + Hash, V, S: BuildHasher> LruCache<K, V, S> {
         ensures pair { result ≡ first self.old.pairs }
         ensures pairs { self.new.pairs ≡ without_first self.old.pairs }
         ensures keeps { Keeps self.old self.new }
+        ensures valid { IsValidCache K.eq self.old }
+        ensures stays_valid { IsValidCache K.eq self.new }
+        // Consequences of `pair` and `pairs`, for the proofs of callers.
+        ensures updates { IfSome result (λ pair.
+            Updates K.eq self.old.pairs self.new.pairs pair.0 None) }
+        ensures finds { (q : K) → SameOrNone K.eq self.old.pairs self.new.pairs q }
     {
         self.map.pop_front()
     }
@@ -66,7 +77,7 @@ impl<K: Eq + Hash, V, S: BuildHasher> LruCache<K, V, S> {
     /// cache.set_capacity(1);
     /// assert_eq!(rt; (cache.len(), cache.peek(&'z')), (1, Some(&3)));
     /// ```
-    #[tactic(auto, using(crate::proofs::Newest::newest_first))]
+    #[tactic(auto, using(crate::proofs::Newest::newest_first, crate::proofs::Insertions::removals))]
     pub fn set_capacity(&mut self, capacity: usize)
     where
         K: Drop,
@@ -75,7 +86,12 @@ impl<K: Eq + Hash, V, S: BuildHasher> LruCache<K, V, S> {
         ensures limit { self.new.limit ≡ capacity }
         ensures room { self.new.room ≡ self.old.room }
         ensures hasher { self.new.hasher ≡ self.old.hasher }
+        ensures valid { IsValidCache K.eq self.old }
+        ensures stays_valid { IsValidCache K.eq self.new }
+        // A consequence of `pairs`, for the proofs of callers.
+        ensures finds { (q : K) → SameOrNone K.eq self.old.pairs self.new.pairs q }
     {
+        #[tactic(auto, using(crate::proofs::Newest::newest_first))]
         while self.map.len() > capacity {
             let _first = self.map.pop_front();
         }
@@ -98,6 +114,8 @@ impl<K: Eq + Hash, V, S: BuildHasher> LruCache<K, V, S> {
         V: Drop,
         ensures pairs { self.new.pairs ≡ [] }
         ensures keeps { Keeps self.old self.new }
+        ensures valid { IsValidCache K.eq self.old }
+        ensures stays_valid { IsValidCache K.eq self.new }
     {
         self.map.clear();
     }
@@ -123,6 +141,7 @@ impl<K: Eq + Hash, V, S: BuildHasher> LruCache<K, V, S> {
             self.entry (drain_name result)) }
         ensures rest { drain_rest result ≡ self.old.pairs }
         ensures valid { IsValidCache K.eq self.old }
+        ensures stays_valid { IsValidCache K.eq (record self.old { pairs = [] }) }
         // Laws of iterators, for the proofs of callers.
         ensures runs { YieldsInOrder (DrainSteps {K = K} {V = V}) drain_rest }
         ensures runs_back { YieldsInReverse (DrainStepsBack {K = K} {V = V}) drain_rest }
@@ -147,6 +166,7 @@ impl<K: Eq + Hash, V, S: BuildHasher> LruCache<K, V, S> {
     /// cache.retain(|_key, value| *value > 1);
     /// assert_eq!(rt; (cache.len(), cache.peek(&'y')), (1, Some(&2)));
     /// ```
+    #[tactic(auto, using(crate::proofs::Retained::retained))]
     pub fn retain<F: FnMut(&K, &mut V) -> bool>(&mut self, keep: F)
     where
         K: Drop,
@@ -157,6 +177,11 @@ impl<K: Eq + Hash, V, S: BuildHasher> LruCache<K, V, S> {
         ensures keys { IsSublist (keys_of self.new.pairs) (keys_of self.old.pairs) }
         ensures len { length self.new.pairs ≤ length self.old.pairs }
         ensures keeps { Keeps self.old self.new }
+        ensures valid { IsValidCache K.eq self.old }
+        ensures stays_valid { IsValidCache K.eq self.new }
+        // A consequence of `keys`, for the proofs of callers.
+        ensures absent { (q : K) → find K.eq self.old.pairs q ≡ None
+            → find K.eq self.new.pairs q ≡ None }
     {
         self.map.retain(keep);
     }

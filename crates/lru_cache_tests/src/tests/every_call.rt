@@ -2,7 +2,7 @@
 
 use super::support::calls::{
     Cache, assert_cache, check_contains, check_get, check_get_mut, check_insert, check_put,
-    check_remove, check_remove_lru, check_reserve, write, write_unused,
+    check_remove, check_remove_lru, check_reserve, check_room, write, write_unused,
 };
 use super::support::checks::{check_eq, given};
 use lru_cache::{LruCache, ReserveError};
@@ -180,6 +180,30 @@ fn reserves_room_up_to_a_limit(rt: HostRuntime) {
     check_reserve(&rt, &mut cache, 1);
     check_eq!(rt; cache.reserve(usize::MAX), Err(ReserveError::TooLarge));
     assert_cache(&rt, &cache, &[(1, 10), (2, 20)], 2);
+}
+
+#[test]
+fn insertions_make_room_for_one_pair_more(rt: HostRuntime) {
+    let mut cache = cache_of_two(&rt, rt.alloc());
+    check_room(&rt, &cache, 2);
+    check_insert(&rt, &mut cache, 1, 11, Some(10));
+    check_put(&rt, &mut cache, 2, 21, Some((2, 20)));
+    check_room(&rt, &cache, 2);
+    check_insert(&rt, &mut cache, 3, 30, None);
+    check_room(&rt, &cache, 3);
+    check_put(&rt, &mut cache, 4, 40, Some((2, 21)));
+    check_room(&rt, &cache, 3);
+}
+
+#[test]
+fn no_call_gives_room_back(rt: HostRuntime) {
+    let mut cache = cache_of_two(&rt, rt.alloc());
+    check_reserve(&rt, &mut cache, 3);
+    check_room(&rt, &cache, 5);
+    check_remove(&rt, &mut cache, 1, Some(10));
+    cache.set_capacity(0);
+    cache.clear();
+    check_room(&rt, &cache, 5);
 }
 
 #[test]

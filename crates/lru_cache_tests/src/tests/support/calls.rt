@@ -55,6 +55,11 @@ pub fn check_reserve(rt: &impl Abort, cache: &mut Cache, additional: usize) {
     check_eq!(rt; cache.reserve(additional), Ok(()));
 }
 
+/// Checks for how many pairs there is memory.
+pub fn check_room(rt: &impl Abort, cache: &Cache, room: usize) {
+    check_eq!(rt; cache.room(), room);
+}
+
 /// Replaces the value of a key, if present.
 pub fn write(cache: &mut Cache, key: u64, value: u64) {
     if let Some(lent) = cache.get_mut(&key) {

@@ -10,7 +10,7 @@ returns g c =
         writes_back = tt;
         keeps = m.keeps;
         rest = m.rest;
-        valid = record { distinct = v.valid.distinct; within = v.within; within_room = v.valid.within };
+        valid = record { distinct = v.valid.distinct; within = v.within; within_room = v.valid.within; room_limit = v.valid.limit };
         runs = m.runs;
         runs_back = m.runs_back;
       },
