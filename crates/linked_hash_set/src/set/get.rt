@@ -1,6 +1,6 @@
 //! Lookups.
 
-ghost use Rattle.std.specs.Prelude.{◌≡◌, option_copied};
+ghost use Rattle.std.specs.Prelude.{◌≡◌, true, option_copied, IfSome};
 ghost use Rattle.linked_hash_map.specs.Pairs.{first, last};
 ghost use Rattle.linked_hash_set.specs.Items.{contains, find};
 
@@ -55,6 +55,8 @@ impl<T: Eq + Hash, S: BuildHasher> LinkedHashSet<T, S> {
     /// ```
     pub fn front(&self) -> Option<&T>
         ensures item { option_copied result ≡ first self.now.items }
+        // A law of lists, for the proofs of callers.
+        ensures found { IfSome result (λ item. contains T.eq self.now.items item.now ≡ true) }
     {
         let (item, _unit) = self.map.front()?;
         Some(item)
@@ -71,6 +73,8 @@ impl<T: Eq + Hash, S: BuildHasher> LinkedHashSet<T, S> {
     /// ```
     pub fn back(&self) -> Option<&T>
         ensures item { option_copied result ≡ last self.now.items }
+        // A law of lists, for the proofs of callers.
+        ensures found { IfSome result (λ item. contains T.eq self.now.items item.now ≡ true) }
     {
         let (item, _unit) = self.map.back()?;
         Some(item)

@@ -4,6 +4,7 @@ ghost use Rattle.std.specs.Prelude.{◌≡◌, ◌+◌, ◌++◌, ◌∷◌, [],
 ghost use Rattle.linked_hash_map.specs.Pairs.{last};
 ghost use Rattle.linked_hash_set.specs.Inserts.{inserted, refreshed};
 ghost use Rattle.linked_hash_set.specs.Items.{contains, find, to_back, push_if_absent, set_or_push};
+ghost use Rattle.linked_hash_set.specs.Updates.{Updates};
 ghost use Rattle.linked_hash_set.specs.Validity.{IsValid};
 
 use super::LinkedHashSet;
@@ -38,6 +39,10 @@ impl<T: Eq + Hash, S: BuildHasher> LinkedHashSet<T, S> {
         ensures hasher { self.new.hasher ≡ self.old.hasher }
         ensures stays_valid { IsValid T.eq self.new }
         // Consequences of `new` and `items`, for the proofs of callers.
+        ensures updates { OnOk result
+            (Updates T.eq self.old.items self.new.items (T.eq item) true) }
+        ensures last { OnOk result (last self.new.items
+            ≡ Some (unwrap_or (find T.eq self.old.items item) item)) }
         ensures pushed { IfOk result (λ new. IsTrue new
             → self.new.items ≡ self.old.items ++ item ∷ []) }
         ensures len { IfOk result (λ new.
@@ -79,6 +84,9 @@ impl<T: Eq + Hash, S: BuildHasher> LinkedHashSet<T, S> {
         ensures hasher { self.new.hasher ≡ self.old.hasher }
         ensures stays_valid { IsValid T.eq self.new }
         // Consequences of `new` and `items`, for the proofs of callers.
+        ensures updates { OnOk result
+            (Updates T.eq self.old.items self.new.items (T.eq item) true) }
+        ensures last { IfOk result (λ new. IsTrue new → last self.new.items ≡ Some item) }
         ensures pushed { IfOk result (λ new. IsTrue new
             → self.new.items ≡ self.old.items ++ item ∷ []) }
         ensures len { IfOk result (λ new.
@@ -123,6 +131,9 @@ impl<T: Eq + Hash, S: BuildHasher> LinkedHashSet<T, S> {
             (self.new.capacity ≡ max self.old.capacity (length self.new.items)) }
         ensures hasher { self.new.hasher ≡ self.old.hasher }
         ensures stays_valid { IsValid T.eq self.new }
+        // A consequence of `items`, for the proofs of callers.
+        ensures updates { OnOk result
+            (Updates T.eq self.old.items self.new.items (T.eq item) true) }
 
         ensures item_back { IfErr result (λ refused. refused.item ≡ item) }
         ensures unchanged { OnErr result (self.new ≡ self.old) }
@@ -205,8 +216,8 @@ impl<T: Eq + Hash, S: BuildHasher> LinkedHashSet<T, S> {
     /// Moves the stored item that is the same as a given one to the back. If it is absent, an item
     /// is made of the given one, and inserted.
     ///
-    /// No clause of a call that lends an item, and whose error has one, can say what the set is
-    /// afterwards. So this call, which changes it and lends nothing, says so.
+    /// Rattle finds no proof of a clause about the set after a call that lends an item and whose
+    /// error has one. So this call, which changes the set and lends nothing, says so.
     fn to_back_or_insert<Q: Equivalent<T>, F: FnOnce(Q) -> T>(
         &mut self,
         item: Q,

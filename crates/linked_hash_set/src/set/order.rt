@@ -1,7 +1,7 @@
 //! The order of the items: moves to the ends.
 
 ghost use Rattle.std.specs.Prelude.{◌≡◌, length, IsFalse};
-ghost use Rattle.linked_hash_set.specs.Items.{contains, to_back_as_is, to_front};
+ghost use Rattle.linked_hash_set.specs.Items.{contains, find, to_back_as_is, to_front};
 ghost use Rattle.linked_hash_set.specs.LinkedSet.{Keeps};
 ghost use Rattle.linked_hash_set.specs.Validity.{IsValid};
 
@@ -29,8 +29,11 @@ impl<T: Eq + Hash, S: BuildHasher> LinkedHashSet<T, S> {
         ensures keeps { Keeps self.old self.new }
         ensures unchanged { IsFalse result → self.new ≡ self.old }
         ensures stays_valid { IsValid T.eq self.new }
-        // A consequence of `items`, for the proofs of callers.
+        // Consequences of `items`, for the proofs of callers.
         ensures len { length self.new.items ≡ length self.old.items }
+        ensures finds { (q : T) → find T.eq self.new.items q ≡ find T.eq self.old.items q }
+        ensures contains { (q : T)
+            → contains T.eq self.new.items q ≡ contains T.eq self.old.items q }
     {
         self.map.move_to_back(item)
     }
@@ -54,8 +57,11 @@ impl<T: Eq + Hash, S: BuildHasher> LinkedHashSet<T, S> {
         ensures keeps { Keeps self.old self.new }
         ensures unchanged { IsFalse result → self.new ≡ self.old }
         ensures stays_valid { IsValid T.eq self.new }
-        // A consequence of `items`, for the proofs of callers.
+        // Consequences of `items`, for the proofs of callers.
         ensures len { length self.new.items ≡ length self.old.items }
+        ensures finds { (q : T) → find T.eq self.new.items q ≡ find T.eq self.old.items q }
+        ensures contains { (q : T)
+            → contains T.eq self.new.items q ≡ contains T.eq self.old.items q }
     {
         self.to_back(item)
     }
@@ -79,8 +85,11 @@ impl<T: Eq + Hash, S: BuildHasher> LinkedHashSet<T, S> {
         ensures keeps { Keeps self.old self.new }
         ensures unchanged { IsFalse result → self.new ≡ self.old }
         ensures stays_valid { IsValid T.eq self.new }
-        // A consequence of `items`, for the proofs of callers.
+        // Consequences of `items`, for the proofs of callers.
         ensures len { length self.new.items ≡ length self.old.items }
+        ensures finds { (q : T) → find T.eq self.new.items q ≡ find T.eq self.old.items q }
+        ensures contains { (q : T)
+            → contains T.eq self.new.items q ≡ contains T.eq self.old.items q }
     {
         self.map.move_to_front(item)
     }
