@@ -76,6 +76,8 @@ end_if_failed
 
 run_part refused-growths nice -n 19 scripts/refused-growths &
 run_part wrong-bodies-self-test nice -n 19 scripts/wrong-bodies --self-test &
+run_part doc-tests nice -n 19 scripts/doc-tests &
+run_part doc-tests-self-test nice -n 19 scripts/doc-tests --self-test &
 
 echo "$(date +%H:%M) gate begins"
 (
@@ -87,6 +89,8 @@ wait
 judge_part gate "must-fail edits: $(ls crates/*/must-fail/*.edit | wc -l) refused; "
 show_part refused-growths '^refusal_tests: [1-9]'
 show_part wrong-bodies-self-test '^wrong-bodies passes good files, and fails on each of [1-9]'
+show_part doc-tests '^doc-tests: [2-9][0-9][0-9] examples of [1-9][0-9]* files passed, '
+show_part doc-tests-self-test '^doc-tests finds each of [1-9][0-9]* planted faults$'
 end_if_failed
 
 run_part programs scripts/programs

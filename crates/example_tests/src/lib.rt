@@ -1,4 +1,4 @@
-//! The examples of the library's documentation, run, and each program of `uses`, run once.
+//! Each program of `uses`, run once.
 #![tactic(auto)]
 
 #[cfg(test)]

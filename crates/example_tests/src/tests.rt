@@ -1,7 +1,6 @@
-//! The examples of the documentation, and the programs of `uses`.
+//! The programs of `uses`.
 
 mod caches;
-mod documentation;
 mod programs;
 mod replays;
 mod support;

@@ -1,7 +1,6 @@
 //! Calls of the set.
 
 mod comparisons;
-mod documentation;
 mod drops;
 mod insertions;
 mod iterators;

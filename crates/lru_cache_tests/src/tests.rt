@@ -1,8 +1,6 @@
-//! Each public call with ample memory, what calls drop, growths refused in turn, and the examples
-//! of the documentation.
+//! Each public call with ample memory, what calls drop, and growths refused in turn.
 
 mod borrowed;
-mod documentation;
 mod drops;
 mod every_call;
 mod refused;

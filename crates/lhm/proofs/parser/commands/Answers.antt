@@ -33,7 +33,7 @@ loop-rest-preserved c =
           let command = c.in-Ok-Some.command in
           let more = AreCommandsOf-said c.split_line.result.0.now (lines_of c.split_line.result.1.now) command cs says said in
           let whole = c.loop-rest.invariant.said (command ∷ cs) (rw c.split_line.ensures.lines more) in
-          rw (c.in_ok-push-in-Ok-Some.ensures.items, append_assoc, c.in-Ok-Some.field-0-is) whole;
+          rw (c.in_ok-push-in-Ok-Some.ensures.items, append_assoc) whole;
       first_invalid = λ (n : ℕ) (line : List ℕ) (first : IsFirstInvalid (lines_of c.split_line.result.1.now) n line).
           rw add_assoc (c.loop-rest.invariant.first_invalid (1 + n) line
           (rw c.split_line.ensures.lines (IsFirstInvalid-add c.split_line.result.0.now _ n line (inr (c.in-Ok-Some.command, says)) first)));
