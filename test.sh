@@ -76,8 +76,8 @@ end_if_failed
 
 run_part refused-growths nice -n 19 scripts/refused-growths &
 run_part wrong-bodies-self-test nice -n 19 scripts/wrong-bodies --self-test &
-run_part doc-tests nice -n 19 scripts/doc-tests &
-run_part doc-tests-self-test nice -n 19 scripts/doc-tests --self-test &
+run_part doc-tests scripts/doc-tests &
+run_part doc-tests-self-test scripts/doc-tests --self-test &
 
 echo "$(date +%H:%M) gate begins"
 (
