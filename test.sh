@@ -4,8 +4,8 @@
 #
 # The parts are the scripts in scripts/, each of which runs by itself too, their self-tests, and the
 # gate, `rt ci`. A part fails too if no line of it has its words. What needs no proof runs beside
-# the gate, on what it leaves of the processors. RT_CI is empty, or `--anew` for `rt ci` to prove all
-# once more. The last line is that of the gate, or says what failed.
+# the gate. RT_CI is empty, or `--anew` for `rt ci` to prove all once more. The last line is that of
+# the gate, or says what failed.
 set -u
 cd "$(dirname "$0")" || exit 2
 case ${RT_CI:-} in
