@@ -1,8 +1,9 @@
 -- An insertion, a refresh, and insertions one after another, of what an iterator gives.
-use Rattle.std.specs.Prelude.{◌≡◌, Bool, List, fold, length, max, Option}
+use Rattle.std.specs.Prelude.{◌≡◌, Bool, List, [], fold, length, max, Option}
 use Rattle.linked_hash_map.specs.Inserts.{GivesAll, GivesThen}
 use Rattle.linked_hash_set.specs.Items.{to_back, to_back_as_is}
 use Rattle.linked_hash_set.specs.LinkedSet.{LinkedSet}
+use Rattle.linked_hash_set.specs.Validity.{IsValid}
 
 -- the set with x at the back, which is the stored item, or x if there is none, and room for it
 abbrev pub inserted : {T S : Type 0} → (T → T → Bool) → LinkedSet T S → T → LinkedSet T S
@@ -17,6 +18,18 @@ refreshed eq s x = record s { items = to_back_as_is eq s.items x }
 -- the items once others went in one by one
 abbrev pub insert_each : {T : Type 0} → (T → T → Bool) → List T → List T → List T
 insert_each eq items given = fold (to_back eq) items given
+
+-- a set is empty, and has no room
+pub record IsNew {T S : Type 0} (eq : T → T → Bool) (s : LinkedSet T S) : Type 0 where
+  pub items : s.items ≡ []
+  pub capacity : s.capacity ≡ 0
+  pub valid : IsValid eq s
+
+-- a new set has the default hasher of its type
+pub record IsNewDefault {T S : Type 0} (eq : T → T → Bool) (IsDefault : S → Type 0)
+    (s : LinkedSet T S) : Type 0 where
+  pub is_new : IsNew eq s
+  pub hasher : IsDefault s.hasher
 
 -- given what becomes an iterator, and the steps of that iterator
 module _ {U I T : Type 0} (becomes : U → I → Type 0) (steps : I → Option T → I → Type 0)

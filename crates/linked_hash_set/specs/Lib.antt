@@ -5,5 +5,6 @@ pub mod Items
 pub mod Lends
 pub mod LinkedSet
 pub mod Operations
+pub mod Retains
 pub mod Updates
 pub mod Validity

@@ -9,12 +9,11 @@ use std::iter::FusedIterator;
 
 /// A fused double-ended iterator over the items removed by `drain`. Its methods are O(1). Dropping
 /// it drops the items left, in O(n); forgetting it leaks them.
-#[derive(Drop)]
-pub struct Drain<'a, T: Drop> {
+pub struct Drain<'a, T> {
     pairs: map::Drain<'a, T, ()>,
 }
 
-impl<'a, T: Drop> Drain<'a, T> {
+impl<'a, T> Drain<'a, T> {
     ghost use Rattle.linked_hash_map.specs.Drains as of_map;
     ghost use Rattle.linked_hash_set.specs.Drains.{drain_rest, drain_name};
 
@@ -24,6 +23,14 @@ impl<'a, T: Drop> Drain<'a, T> {
         ensures name { drain_name result ≡ of_map.drain_name pairs.entry }
     {
         Drain { pairs }
+    }
+}
+
+/// Drops the items left.
+impl<'a, T: Drop> Drop for Drain<'a, T> {
+    fn drop(self) {
+        let Drain { pairs } = self;
+        drop(pairs);
     }
 }
 

@@ -45,8 +45,8 @@
 //!
 //! # The two originals
 //!
-//! hashlink's `insert` moves a present item to the back, and so does this one; that of
-//! linked-hash-set leaves it in its place, as `insert_if_absent` does. What linked-hash-set calls
+//! In both, `insert` moves a present item to the back, and so does this one. `insert_if_absent`,
+//! which leaves it in its place, is a call of linked-hash-set beside it. What linked-hash-set calls
 //! `refresh` is `to_back` in hashlink: both names are there.
 //!
 //! # Costs and refusals

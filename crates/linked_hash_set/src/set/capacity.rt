@@ -1,6 +1,7 @@
 //! Changes of the capacity.
 
 ghost use Rattle.std.specs.Prelude.{◌≡◌, ◌+◌, ◌<◌, ◌≤◌, length, max, IsErrOf, ◌↔◌, OnOk, OnErr};
+ghost use Rattle.linked_hash_map.specs.Counts.{buckets};
 ghost use Rattle.linked_hash_set.specs.Validity.{IsValid};
 
 use super::LinkedHashSet;
@@ -63,6 +64,8 @@ impl<T: Eq + Hash, S: BuildHasher> LinkedHashSet<T, S> {
         ensures unchanged { OnErr result (self.new ≡ self.old) }
         ensures some { OnErr result (0 < length self.old.items) }
         ensures spare { OnErr result (length self.old.items < self.old.capacity) }
+        ensures falls { OnErr result
+            (buckets (length self.old.items) < buckets self.old.capacity) }
     {
         self.map.shrink_to_fit()
     }

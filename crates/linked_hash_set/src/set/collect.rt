@@ -3,13 +3,13 @@
 ghost use Rattle.std.specs.Prelude.{◌≡◌, [], List, false, length, max, IfOk, IfErr, OnOk, OnErr};
 ghost use Rattle.std.specs.Iterator.{IsFiniteIterable};
 ghost use Rattle.linked_hash_map.specs.Inserts.{GivesThen};
-ghost use Rattle.linked_hash_set.specs.Inserts.{InsertsAll, InsertsUntil};
+ghost use Rattle.linked_hash_set.specs.Inserts.{InsertsAll, InsertsUntil, IsNew, IsNewDefault};
 ghost use Rattle.linked_hash_set.specs.Items.{contains};
 ghost use Rattle.linked_hash_set.specs.Validity.{IsValid};
 
 use super::LinkedHashSet;
 use crate::error::Refused;
-use linked_hash_map::{LinkedHashMap, Mode};
+use linked_hash_map::LinkedHashMap;
 use std::alloc::{AllocError, Global};
 use std::default::{Emptied, MadeWith};
 use std::hash::{BuildHasher, Hash};
@@ -94,7 +94,10 @@ impl<T: Eq + Hash, S: BuildHasher> LinkedHashSet<T, S> {
     }
 }
 
-/// Makes an empty set with a clone of the hasher, as `try_take` asks for.
+/// Makes an empty set with a clone of the hasher, as `try_take` asks for. It has the capacity 0 and
+/// takes no memory.
+///
+/// No clause says that the hasher is a clone, since the clause of the trait is of the new set alone.
 ///
 /// # Examples
 ///
@@ -107,17 +110,17 @@ impl<T: Eq + Hash, S: BuildHasher> LinkedHashSet<T, S> {
 /// assert_eq!(rt; (taken.len(), set.len()), (1, 0));
 /// ```
 impl<T: Eq + Hash, S: BuildHasher + Clone> Emptied for LinkedHashSet<T, S> {
-    ghost is_emptied = { λ set. (set.items ≡ []) × IsValid T.eq set };
+    ghost is_emptied = { IsNew T.eq };
 
     fn emptied(like: &Self) -> Result<Self, AllocError> {
-        let mut map = LinkedHashMap::emptied(&like.map)?;
-        map.set_mode(Mode::Touch);
-        Ok(LinkedHashSet { map })
+        Ok(LinkedHashSet {
+            map: LinkedHashMap::emptied(&like.map)?,
+        })
     }
 }
 
 /// Makes an empty set with the default hasher of its type, as `or_default` of the maps of std asks
-/// for.
+/// for. It has the capacity 0 and takes no memory.
 ///
 /// # Examples
 ///
@@ -129,7 +132,7 @@ impl<T: Eq + Hash, S: BuildHasher + Clone> Emptied for LinkedHashSet<T, S> {
 /// assert_eq!(rt; sets.len(), 1);
 /// ```
 impl<T: Eq + Hash, S: BuildHasher + Default> MadeWith<Global> for LinkedHashSet<T, S> {
-    ghost is_made_with = { λ set. (set.items ≡ []) × IsValid T.eq set };
+    ghost is_made_with = { IsNewDefault T.eq S.is_default };
 
     fn made_with(alloc: Global) -> Self {
         LinkedHashSet::with_hasher(alloc, S::default())

@@ -2,12 +2,13 @@
 
 ghost use Rattle.std.specs.Prelude.{◌≡◌, ◌+◌, ◌≤◌, [], length, true, false, IfNone, IfSome, OnSome, IsTrue, IsFalse};
 ghost use Rattle.std.specs.Borrow.{sem};
-ghost use Rattle.std.specs.Fn.{CalledAt};
+ghost use Rattle.std.specs.Fn.{CalledAt, TakesAt};
 ghost use Rattle.std.specs.List.Retain.{IsFiltered};
 ghost use Rattle.linked_hash_map.specs.Pairs.{first, last, without_first, without_last};
 ghost use Rattle.linked_hash_map.specs.Retains.{IsSublist};
 ghost use Rattle.linked_hash_set.specs.Items.{contains, find, without};
 ghost use Rattle.linked_hash_set.specs.LinkedSet.{Keeps};
+ghost use Rattle.linked_hash_set.specs.Retains.{CallableOnEach};
 ghost use Rattle.linked_hash_set.specs.Updates.{Updates};
 ghost use Rattle.linked_hash_set.specs.Validity.{IsValid};
 
@@ -17,7 +18,8 @@ use linked_hash_map::Equivalent;
 use std::hash::{BuildHasher, Hash};
 
 impl<T: Eq + Hash, S: BuildHasher> LinkedHashSet<T, S> {
-    ghost use Rattle.linked_hash_set.specs.Drains.{drain_rest, drain_name};
+    ghost use Rattle.linked_hash_set.specs.Drains.{drain_rest, drain_name, DrainSteps, DrainStepsBack, DrainKeepsAlong};
+    ghost use Rattle.std.specs.Iterator.Runs.{YieldsInOrder, YieldsInReverse};
     ghost use Rattle.linked_hash_set.specs.Lends.{lends_drained};
 
     /// Removes and drops an item, and returns whether it was present, in O(1). The others keep
@@ -138,7 +140,7 @@ impl<T: Eq + Hash, S: BuildHasher> LinkedHashSet<T, S> {
     pub fn retain<F: FnMut(&T) -> bool>(&mut self, mut keep: F)
     where
         T: Drop,
-        requires { F.IsAlwaysCallable keep }
+        requires { CallableOnEach (CalledAt F.FnMut) (TakesAt F.FnMut) keep self.old.items }
         ensures items { IsFiltered (CalledAt F.FnMut) keep self.old.items self.new.items }
         ensures kept { IsSublist self.new.items self.old.items }
         ensures len { length self.new.items ≤ length self.old.items }
@@ -147,7 +149,7 @@ impl<T: Eq + Hash, S: BuildHasher> LinkedHashSet<T, S> {
     {
         self.map.retain(
             |item: &T, _unit: &mut ()|
-                requires { F.IsAlwaysCallable keep }
+                requires { TakesAt F.FnMut keep item.now }
                 ensures called { CalledAt F.FnMut keep.entry item.now result keep.exit }
             { keep(item) },
         );
@@ -189,13 +191,16 @@ impl<T: Eq + Hash, S: BuildHasher> LinkedHashSet<T, S> {
     /// assert_eq!(rt; (set.len(), set.capacity()), (0, 2));
     /// ```
     pub fn drain(&mut self) -> Drain<'_, T>
-    where
-        T: Drop,
         ensures* writes_back { sem 𝓛
             (lends_drained T.row S.row S.Hasher.row T.Hash S.BuildHasher S.Hasher.Hasher self.entry
             (drain_name result)) }
         ensures rest { drain_rest result ≡ self.old.items }
         ensures valid { IsValid T.eq self.old }
+        // Laws of iterators, for the proofs of callers.
+        ensures runs { YieldsInOrder (DrainSteps {T = T}) drain_rest }
+        ensures runs_back { YieldsInReverse (DrainStepsBack {T = T}) drain_rest }
+        ensures stays { DrainKeepsAlong DrainSteps result }
+        ensures stays_back { DrainKeepsAlong DrainStepsBack result }
     {
         Drain::new(self.map.drain())
     }
