@@ -15,12 +15,17 @@ pub struct Drain<'a, T> {
 
 impl<'a, T> Drain<'a, T> {
     ghost use Rattle.linked_hash_map.specs.Drains as of_map;
-    ghost use Rattle.linked_hash_set.specs.Drains.{drain_rest, drain_name};
+    ghost use Rattle.linked_hash_set.specs.Drains.{drain_rest, drain_name, DrainSteps, DrainStepsBack, DrainKeepsAlong};
+    ghost use Rattle.std.specs.Iterator.Runs.{YieldsInOrder, YieldsInReverse};
 
     /// Returns an iterator over the keys of the pairs.
     pub(crate) fn new(pairs: map::Drain<'a, T, ()>) -> Self
         ensures rest { drain_rest result ≡ keys_of (of_map.drain_rest pairs.entry) }
         ensures name { drain_name result ≡ of_map.drain_name pairs.entry }
+        ensures runs { YieldsInOrder (DrainSteps {T = T}) drain_rest }
+        ensures runs_back { YieldsInReverse (DrainStepsBack {T = T}) drain_rest }
+        ensures stays { DrainKeepsAlong DrainSteps result }
+        ensures stays_back { DrainKeepsAlong DrainStepsBack result }
     {
         Drain { pairs }
     }

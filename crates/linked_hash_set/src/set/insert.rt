@@ -1,7 +1,6 @@
 //! Insertion.
 
 ghost use Rattle.std.specs.Prelude.{◌≡◌, ◌+◌, ◌++◌, ◌∷◌, [], length, max, not, true, false, unwrap_or, Some, IsSome, IsTrue, IfOk, IfErr, OnOk, OnErr, if◌then◌else◌};
-ghost use Rattle.std.specs.Borrow.{sem};
 ghost use Rattle.linked_hash_map.specs.Pairs.{last};
 ghost use Rattle.linked_hash_set.specs.Inserts.{inserted, refreshed};
 ghost use Rattle.linked_hash_set.specs.Items.{contains, find, to_back, push_if_absent, set_or_push};
@@ -14,8 +13,6 @@ use linked_hash_map::{Equivalent, Mode};
 use std::hash::{BuildHasher, Hash};
 
 impl<T: Eq + Hash, S: BuildHasher> LinkedHashSet<T, S> {
-    ghost use Rattle.linked_hash_set.specs.Lends.{shows_inserted};
-
     /// Inserts an item at the back, and returns whether it is new. If it is present, the stored
     /// item moves to the back, and `item` is dropped. Hashes the item once.
     ///
@@ -170,9 +167,6 @@ impl<T: Eq + Hash, S: BuildHasher> LinkedHashSet<T, S> {
     pub fn get_or_insert(&mut self, item: T) -> Result<&T, Refused<T>>
     where
         T: Drop,
-        ensures* shows { sem 𝓛
-            (shows_inserted T.row S.row S.Hasher.row T.Hash S.BuildHasher S.Hasher.Hasher self.entry
-            item result) }
         ensures stored { IfOk result (λ stored.
             stored.now ≡ unwrap_or (find T.eq self.old.items item) item) }
 
@@ -180,10 +174,7 @@ impl<T: Eq + Hash, S: BuildHasher> LinkedHashSet<T, S> {
         ensures absent { OnErr result (contains T.eq self.old.items item ≡ false) }
         ensures full { OnErr result (length self.old.items ≡ self.old.capacity) }
     {
-        match self.insert(item) {
-            Ok(_new) => {}
-            Err(refused) => return Err(refused),
-        }
+        self.insert(item)?;
         Ok(self.last_item())
     }
 

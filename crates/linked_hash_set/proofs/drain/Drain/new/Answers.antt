@@ -1,5 +1,5 @@
 use Rattle.linked_hash_set.proofs.Drained.{drains_in_order, drains_in_reverse, stays, stays_back}
-use Rattle.linked_hash_set.proofs.set.LinkedHashSet.drain.Goals as goal
+use Rattle.linked_hash_set.proofs.drain.Drain.new.Goals as goal
 
 pub returns-clause-runs : goal.returns-clause-runs
 returns-clause-runs g c = drains_in_order
