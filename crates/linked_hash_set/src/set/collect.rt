@@ -97,7 +97,7 @@ impl<T: Eq + Hash, S: BuildHasher> LinkedHashSet<T, S> {
 /// Makes an empty set with a clone of the hasher, as `try_take` asks for. It has the capacity 0 and
 /// takes no memory.
 ///
-/// No clause says that the hasher is a clone, since the clause of the trait is of the new set alone.
+/// No clause says that the hasher is a clone: the clause of the trait speaks of the new set alone.
 ///
 /// # Examples
 ///

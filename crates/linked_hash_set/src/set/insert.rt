@@ -216,8 +216,8 @@ impl<T: Eq + Hash, S: BuildHasher> LinkedHashSet<T, S> {
     /// Moves the stored item that is the same as a given one to the back. If it is absent, an item
     /// is made of the given one, and inserted.
     ///
-    /// No clause of a call that lends an item, and whose error has one, can say what the set is
-    /// afterwards. So this call, which changes it and lends nothing, says so.
+    /// Rattle finds no proof of a clause about the set after a call that lends an item and whose
+    /// error has one. So this call, which changes the set and lends nothing, says so.
     fn to_back_or_insert<Q: Equivalent<T>, F: FnOnce(Q) -> T>(
         &mut self,
         item: Q,

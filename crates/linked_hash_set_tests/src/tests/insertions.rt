@@ -25,6 +25,22 @@ fn insertion_if_absent_keeps_the_place_of_a_present_item(rt: HostRuntime) {
 }
 
 #[test]
+fn getting_or_inserting_leaves_the_others(rt: HostRuntime) {
+    let mut set = set_of(&rt, rt.alloc(), &[1, 2, 3]);
+    check_eq!(rt; set.get_or_insert(2), Ok(&2));
+    assert_set(&rt, &set, &[1, 3, 2], 3);
+    check_eq!(rt; set.get_or_insert(4), Ok(&4));
+    assert_set(&rt, &set, &[1, 3, 2, 4], 4);
+    check_eq!(rt; set.get_or_insert_with(&1, |item| *item), Ok(&1));
+    assert_set(&rt, &set, &[3, 2, 4, 1], 4);
+    check_eq!(rt; set.get_or_insert_with(&5, |item| *item), Ok(&5));
+    assert_set(&rt, &set, &[3, 2, 4, 1, 5], 5);
+    // The item made is present, and moves to the back.
+    check_eq!(rt; set.get_or_insert_with(&6, |_item| 3), Ok(&3));
+    assert_set(&rt, &set, &[2, 4, 1, 5, 3], 5);
+}
+
+#[test]
 fn moves_to_the_back_and_to_the_front(rt: HostRuntime) {
     let mut set = set_of(&rt, rt.alloc(), &[1, 2, 3]);
     check_eq!(rt; (set.to_back(&1), set.to_back(&4)), (true, false));
