@@ -1,3 +1,5 @@
+-- `get_or_insert` inserts by `put`, lends the set to `lent_back` for good, and makes the result by
+-- `found`. By hand, since the borrow checker proves no loan whose result may own memory.
 use mathlib.Core.Option as maybe
 use mathlib.Core.Path.{subst}
 use mathlib.Core.List.{◌++◌}
@@ -45,7 +47,8 @@ use Rattle.std.proofs.Common.{◌≡◌, List, [], ◌∷◌, ◌∙◌, refl, s
 use Rattle.std.proofs.option.Option.TheLaws.{the_row_laws as option_laws}
 use Rattle.std.proofs.result.Result.TheLaws.{the_row_laws as result_laws}
 use Rattle.std.proofs.raw_atomic.Walks.{proved_at}
-use Rattle.std.specs.Prelude.{⊤, Bool, false, unwrap_or, OnErr, Option, Some, None, Result, Ok, Err, IfSome, IfNone, IfOk, IfErr, IsSome, MatchResult, length, option_copied}
+use Rattle.std.specs.Prelude.{⊤, Bool, false, unwrap_or, OnErr, Option, Some, None, Result}
+use Rattle.std.specs.Prelude.{Ok, Err, IfSome, IfNone, IfOk, IfErr, IsSome, MatchResult, length, option_copied}
 use Rattle.std.specs.contracts.option.Option as option
 use Rattle.std.specs.contracts.result.Result as result
 use Rattle.std.specs.HashMap.Lent.{HashMembers}
@@ -83,7 +86,8 @@ weaker : {M : Type 1} {𝓤 : Ura M} (𝓛 : Logic 𝓤) (R : RattleType) (γ : 
     → ent 𝓤 (sem 𝓛 (follows_if R R γ maybe.none (λ w. w) v)) (sem 𝓛 (follows_so R R γ maybe.none (λ _ _. ⊤) P))
 unfolding such_by
 weaker {𝓤 = 𝓤} 𝓛 R γ v P holds =
-    ex_i 𝓤 (λ (y : (p : (R.Denot → R.Denot) × R.Denot) × ((z : R.Denot) → ⊤) × P p.1). sem 𝓛 (follows_if R R γ maybe.none y.0.0 y.0.1)) (((λ w. w), v), (λ w. tt), holds)
+    ex_i 𝓤 (λ (y : (p : (R.Denot → R.Denot) × R.Denot) × ((z : R.Denot)
+    → ⊤) × P p.1). sem 𝓛 (follows_if R R γ maybe.none y.0.0 y.0.1)) (((λ w. w), v), (λ w. tt), holds)
 
 module _ {X S : Type 0} (eq : X → X → Bool) (e : Option X) (item : X) (old new : LinkedSet X S) where
   -- what `put` says of the item that it hands back
@@ -169,7 +173,11 @@ get_or_insert_spec 𝓤 𝓛 𝓜 𝓡 wired X S H LX LS LH b₀ d₀ b₁ d₁ 
     let named_args : Args = args X S H b₀ d₀ b₁ d₁ b₂ d₂ b₃ d₃ b₄ d₄ d₅ d₆ in let fn : Fn = inst_fn named_args code.function in
     let P : RattleType = param 0 X in let Whole : RattleType = Set X S H b₀ d₀ b₁ d₁ b₂ d₂ b₃ d₃ b₄ d₄ d₅ d₆ in
     let members : HashMembers X.Denot = record { eq = b₁.eq; hash_input = b₂.hash_input } in
-    proved_at 𝓛 En hs c 𝓜 𝓡 (Goes-spent_ref 𝓛 4 (0 ∷ []) tt (plain (λ _. Whole)), (Goes-dropped 𝓛 4 (plain (λ _. P)) no (λ κs x w. refl), tt))
+    proved_at 𝓛 En hs c 𝓜 𝓡 (
+      Goes-spent_ref 𝓛 4 (0
+          ∷ []) tt (plain (λ _. Whole)),
+      (Goes-dropped 𝓛 4 (plain (λ _. P)) no (λ κs x w. refl), tt),
+    )
     (f.Key.name named_args) fn (code.unfolded 𝓤 𝓛.H 𝓜 𝓡 wired (X, (S, (H, tt))) d₀ d₁ d₂ d₃ d₄ d₅ d₆) (λ y are.
     let κs = y.0.0 in let qs = y.0.1 in let bounds = y.0.2 in let a = y.0.3 in let vss = y.0.4 in
     let κ = κs.0 in let κX = κs.1.0 in let κS = κs.1.1.0 in let κH = κs.1.1.1.0 in
@@ -178,13 +186,16 @@ get_or_insert_spec 𝓤 𝓛 𝓜 𝓡 wired X S H LX LS LH b₀ d₀ b₁ d₁ 
     let vs = mut_vals s in let u : Val = only vss.1.0 in
     let at : vss.0 ≡ vs = mut_Tells (named 0) κ Whole s vss.0 are.0 in
     let is : vss.1.0 ≡ u ∷ [] = Lone-is vss.1.0 ((param_laws 0 X LX).single item vss.1.0 are.1.0) in
-    let tu : T (has_ty (layout X) u) × WT u = (subst (Typed (layout X ∷ [])) is (((param_laws 0 X LX).lawful 𝓛).typed item vss.1.0 are.1.0)).0 in
+    let tu : T (has_ty (layout X) u) × WT u = (subst (Typed (layout X
+    ∷ [])) is (((param_laws 0 X LX).lawful 𝓛).typed item vss.1.0 are.1.0)).0 in
     let At : List Val → List Val → W.Ghost = λ us ws. ((κs, qs, bounds, a, (us, (ws, tt))), y.1) in
-    let Goes : List Val → List Val → Type 1 = λ us ws. ent 𝓤 (W.pre (At us ws)) (WpFn 𝓤 𝓛.H 𝓣.C 𝓣.Λ fn (us ++ (ws ++ [])) (W.post (At us ws))) in
+    let Goes : List Val → List Val → Type 1 = λ us ws. ent 𝓤 (W.pre (At us ws)) (WpFn 𝓤 𝓛.H 𝓣.C 𝓣.Λ fn (us ++ (ws ++ []))
+    (W.post (At us ws))) in
     let x-lives = κX ⊑ X.lives in let s-lives = κS ⊑ S.lives in let h-lives = κH ⊑ H.lives in
     let Ref = λ (κ' : Lft) (x : MutBor Whole.Denot). (MutRef (named 0) κ' Whole).own_val x vs in
     let walk : Goes vs (u ∷ []) =
-    qed 𝓛 (((‵ (flft κ q) ⊛ ‵ (flft κX qX) ⊛ ‵ (flft κS qS) ⊛ ‵ (flft κH qH) ⊛ ‵ ftrue) ⊛ ‵ (Ref κ s) ⊛ ‵ (P.own_val item (u ∷ [])) ⊛ ‵ ftrue)
+    qed 𝓛 (((‵ (flft κ q) ⊛ ‵ (flft κX qX) ⊛ ‵ (flft κS qS) ⊛ ‵ (flft κH qH) ⊛ ‵ ftrue) ⊛ ‵ (Ref κ s) ⊛ ‵ (P.own_val item (u ∷ []))
+    ⊛ ‵ ftrue)
     ∷ (raw (fact 𝓤 x-lives) ⊛ raw (fact 𝓤 s-lives) ⊛ raw (fact 𝓤 h-lives) ⊛ ‵ ftrue) ∷ []) ∵
     move ! (1 ∷ []) $ split ! $ heard ! _ (λ x-within. split ! $ heard ! _ (λ s-within. split ! $ heard ! _ (λ h-within. drop ! $
     split ! $ split ! $ move ! (2 ∷ []) $ split ! $ move ! (1 ∷ []) $ split ! $ move ! (1 ∷ []) $ drop ! $
@@ -195,12 +206,15 @@ get_or_insert_spec 𝓤 𝓛 𝓜 𝓡 wired X S H LX LS LH b₀ d₀ b₁ d₁ 
     lft_new ! tt (λ α. let μ : Lft = α ∷ κ in let r = (common full_share (Share.right q)).0 in
     let Tokens = sep 𝓤 (𝓛.A.lft (α ∷ []) full_share) (𝓛.A.lft κ (Share.right q)) in
     move ! (3 ∷ []) $ use1 𝓛 (‵ (flft κ (Share.left q)) ⊛ ‵ (flft κ (Share.right q))) (𝓛.lfts.lft_split κ q) $ split ! $
-    move ! (2 ∷ 1 ∷ []) $ use2 𝓛 (‵ (flft μ r) ⊛ raw (wand 𝓤 (𝓛.A.lft μ r) Tokens)) (lft-common 𝓛 (α ∷ []) κ full_share (Share.right q)) $ split ! $
+    move ! (2 ∷ 1 ∷ []) $ use2 𝓛 (‵ (flft μ r) ⊛ raw (wand 𝓤 (𝓛.A.lft μ r) Tokens))
+    (lft-common 𝓛 (α ∷ []) κ full_share (Share.right q)) $ split ! $
     -- [the token of μ; the way back; half a token of κ; item; the reference; the other tokens]
-    move ! (4 ∷ 2 ∷ []) $ use2 𝓛 (later (some (λ (δ : GName). ‵ (Ref μ (record s { ghost_name = δ })) ⊛ ‵ (LentAgain Whole κ μ (Share.left q) γ b o δ s.now))))
+    move ! (4 ∷ 2 ∷ []) $ use2 𝓛 (later (some (λ (δ : GName). ‵ (Ref μ (record s { ghost_name = δ }))
+    ⊛ ‵ (LentAgain Whole κ μ (Share.left q) γ b o δ s.now))))
     (lends_again 𝓛 Whole (named 0) κ μ (Share.left q) γ b o (named 0) s.now) $ await ! tt $ pick ! (λ δ. split ! $
     -- [the loan; what the lender keeps; the token of μ; the way back; item; the other tokens]
-    let G = triple_of 𝓛 (g.ended X S H b₀ d₀ b₁ d₁ b₂ d₂ b₃ d₃ b₄ d₄ d₅ d₆).signature (g.spec X S H b₀ d₀ b₁ d₁ b₂ d₂ b₃ d₃ b₄ d₄ d₅ d₆ 𝓛 𝓜.mem 𝓡.returns) in
+    let G = triple_of 𝓛 (g.ended X S H b₀ d₀ b₁ d₁ b₂ d₂ b₃ d₃ b₄ d₄ d₅ d₆).signature
+    (g.spec X S H b₀ d₀ b₁ d₁ b₂ d₂ b₃ d₃ b₄ d₄ d₅ d₆ 𝓛 𝓜.mem 𝓡.returns) in
     let up = meet_⊑_right (α ∷ []) κ in
     let z : G.Ghost = (
       (
@@ -225,7 +239,8 @@ get_or_insert_spec 𝓤 𝓛 𝓜 𝓡 wired X S H LX LS LH b₀ d₀ b₁ d₁ 
     ((‵ (flft μ r) ⊛ ‵ (flft κX qX) ⊛ ‵ (flft κS qS) ⊛ ‵ (flft κH qH) ⊛ ‵ ftrue) ⊛ ‵ (Handed.own_val e (v ∷ []))) ⊛
     some (λ (ws : Lasts (g.ended X S H b₀ d₀ b₁ d₁ b₂ d₂ b₃ d₃ b₄ d₄ d₅ d₆) z.0.0 z.0.3).
     ‵ (lasts (g.ended X S H b₀ d₀ b₁ d₁ b₂ d₂ b₃ d₃ b₄ d₄ d₅ d₆) z.0.0 z.0.3 ws)
-    ⊛ (raw (fact 𝓤 (Put b₁.eq e item s.now ws.0)) ⊛ raw (fact 𝓤 (Last b₁.eq e item s.now ws.0)) ⊛ raw (fact 𝓤 (Back b₁.eq e item s.now ws.0))))))) (id⊢ 𝓤 _) $
+    ⊛ (raw (fact 𝓤 (Put b₁.eq e item s.now ws.0)) ⊛ raw (fact 𝓤 (Last b₁.eq e item s.now ws.0))
+    ⊛ raw (fact 𝓤 (Back b₁.eq e item s.now ws.0))))))) (id⊢ 𝓤 _) $
     await ! tt $ pick ! (λ e. split ! $ split ! $
     -- [the tokens; the item handed back; what was ensured; what the lender keeps; the way back]
     move ! (1 ∷ []) $ peeks ! Handed (Is Handed) (shows 𝓛 Handed) e (v ∷ []) (λ e-is.
@@ -242,7 +257,8 @@ get_or_insert_spec 𝓤 𝓛 𝓜 𝓡 wired X S H LX LS LH b₀ d₀ b₁ d₁ 
     move ! (1 ∷ 2 ∷ []) $ use2 𝓛 (‵ (flft κ q)) (𝓛.lfts.lft_join κ q) $
     -- [the token of κ; the reference; the other tokens; the loan's borrow; nothing; the item handed back]
     sets ! (addr ! (through ! refl (stop !))) refl (tt, tt) $
-    let N = triple_of 𝓛 (h.ended X S H b₀ d₀ b₁ d₁ b₂ d₂ b₃ d₃ b₄ d₄ d₅).signature (h.spec X S H b₀ d₀ b₁ d₁ b₂ d₂ b₃ d₃ b₄ d₄ d₅ 𝓛 𝓜.mem 𝓡.returns) in
+    let N = triple_of 𝓛 (h.ended X S H b₀ d₀ b₁ d₁ b₂ d₂ b₃ d₃ b₄ d₄ d₅).signature
+    (h.spec X S H b₀ d₀ b₁ d₁ b₂ d₂ b₃ d₃ b₄ d₄ d₅ 𝓛 𝓜.mem 𝓡.returns) in
     let z₂ : N.Ghost = ((κs, qs, bounds, (s', tt), (vs, tt)), tt) in
     move ! (0 ∷ 2 ∷ []) $ join ! $ nothing ! $ move ! (2 ∷ 0 ∷ []) $ join ! $ move ! (1 ∷ 0 ∷ []) $ join ! $
     nothing ! $ use0 𝓛 (raw (fact 𝓤 h-lives)) (fact_i 𝓤 h-lives (emp 𝓤) h-within) $ join ! $
@@ -254,7 +270,8 @@ get_or_insert_spec 𝓤 𝓛 𝓜 𝓡 wired X S H LX LS LH b₀ d₀ b₁ d₁ 
     (and_then ! (get ! refl) (no_more !)) (λ w.
     let One : RattleType = ShrRef (named 0) κ P in let Lent : RattleType = option.the_row One in
     let at-κ : NamedLft = record { mir = named 0; lft = κ } in
-    let one-laws = of_field (shr_ref_field at-κ P tt) (shr_ref_laws at-κ P tt) refl (copy_shared (shr_ref_field at-κ P tt) (shr_ref_copy at-κ P tt (param_laws 0 X LX).shr_laws)) in
+    let one-laws = of_field (shr_ref_field at-κ P tt) (shr_ref_laws at-κ P tt) refl (copy_shared (shr_ref_field at-κ P tt)
+    (shr_ref_copy at-κ P tt (param_laws 0 X LX).shr_laws)) in
     use1 𝓛 (later (some (λ (m : Lent.Denot).
     ((‵ (flft κ q) ⊛ ‵ (flft κX qX) ⊛ ‵ (flft κS qS) ⊛ ‵ (flft κH qH) ⊛ ‵ ftrue) ⊛ ‵ (Lent.own_val m (w ∷ []))) ⊛
     some (λ (ws' : Lasts (h.ended X S H b₀ d₀ b₁ d₁ b₂ d₂ b₃ d₃ b₄ d₄ d₅) κs (s', tt)).
@@ -285,7 +302,8 @@ get_or_insert_spec 𝓤 𝓛 𝓜 𝓡 wired X S H LX LS LH b₀ d₀ b₁ d₁ 
     ⊛ (raw (fact 𝓤 (Found e x m)) ⊛ raw (fact 𝓤 (Kept e x))))))) (id⊢ 𝓤 _) $
     await ! tt $ pick ! (λ x. split ! $ split ! $
     move ! (1 ∷ []) $ peeks ! Out (Is Out) (shows 𝓛 Out) x (t ∷ []) (λ x-is.
-    lands_as ! refl refl (((result_laws One (refused.the_row P) one-laws (refused_laws P (param_laws 0 X LX))).lawful 𝓛).typed x (t ∷ []) x-is).0 $
+    lands_as ! refl refl (((result_laws One (refused.the_row P) one-laws (refused_laws P (param_laws 0 X LX))).lawful 𝓛).typed x (t
+    ∷ []) x-is).0 $
     move ! (2 ∷ []) $ pick ! (λ ws₃. split ! $ drop ! $ split ! $ heard ! _ (λ ok. heard ! _ (λ err.
     -- [the result; two tokens; the last tokens; where it rests; the loan's borrow; nothing]
     returns ! (look_at ! 0 refl) $ free_all ! refl $
@@ -294,11 +312,15 @@ get_or_insert_spec 𝓤 𝓛 𝓜 𝓡 wired X S H LX LS LH b₀ d₀ b₁ d₁ 
     move ! (0 ∷ 3 ∷ []) $ join ! $ move ! (1 ∷ 0 ∷ []) $ join ! $
     -- [the tokens; the result; where it rests; the loan's borrow; nothing]
     move ! (2 ∷ []) $ use1 𝓛 (‵ (ends_inserted P (param 1 S) (param 2 H) members b₃ b₄ s item x))
-    (weaker 𝓛 Whole γ n (λ last. MatchResult x (λ _. last ≡ inserted b₁.eq s.now item) (λ _. last ≡ s.now)) (ends_as b₁.eq e m x item s.now n did back ok err)) $
+    (weaker 𝓛 Whole γ n (λ last. MatchResult x (λ _. last ≡ inserted b₁.eq s.now item) (λ _. last ≡ s.now))
+    (ends_as b₁.eq e m x item s.now n did back ok err)) $
     nothing ! $ nothing ! $ fjoin ! $ nothing ! $ fjoin ! $
     keep ! (2 ∷ 0 ∷ 3 ∷ 1 ∷ []) $ group ! 3 $ frame ! $ frame ! $
-    use0 𝓛 (raw (fact 𝓤 (IfOk x (λ stored. stored.now ≡ unwrap_or (find b₁.eq s.now.items item) item)))) (fact_i 𝓤 _ (emp 𝓤) (is_stored b₁.eq e m x item s.now n said value ok)) $ frame ! $
-    use0 𝓛 (raw (fact 𝓤 (IfErr x (λ refused. refused.item ≡ item)))) (fact_i 𝓤 _ (emp 𝓤) (is_item b₁.eq e x item s.now n back err)) $ frame ! $
-    use0 𝓛 (raw (fact 𝓤 (OnErr x (contains b₁.eq s.now.items item ≡ false)))) (fact_i 𝓤 _ (emp 𝓤) (is_absent b₁.eq e x item s.now n back err)) $ frame ! $
+    use0 𝓛 (raw (fact 𝓤 (IfOk x (λ stored. stored.now ≡ unwrap_or (find b₁.eq s.now.items item) item)))) (fact_i 𝓤 _ (emp 𝓤)
+    (is_stored b₁.eq e m x item s.now n said value ok)) $ frame ! $
+    use0 𝓛 (raw (fact 𝓤 (IfErr x (λ refused. refused.item ≡ item)))) (fact_i 𝓤 _ (emp 𝓤) (is_item b₁.eq e x item s.now n back err)) $
+    frame ! $
+    use0 𝓛 (raw (fact 𝓤 (OnErr x (contains b₁.eq s.now.items item ≡ false)))) (fact_i 𝓤 _ (emp 𝓤)
+    (is_absent b₁.eq e x item s.now n back err)) $ frame ! $
     by ! (fact_i 𝓤 _ _ (is_full b₁.eq e x item s.now n back err)))))))))))))))))))))))))) in
     subst (λ (us : List Val). Goes us vss.1.0) (sym at) (subst (Goes vs) (sym is) walk))
