@@ -1,5 +1,5 @@
 -- Runs of a `Drain`.
-use Rattle.std.proofs.Common.{◌≡◌, List, [], ◌∷◌, length, Option, sym, ap, ◌∙◌}
+use Rattle.std.proofs.Common.{◌≡◌, [], ◌∷◌, length, Option, sym, ap, ◌∙◌}
 use Rattle.std.specs.Iterator.Runs.{YieldsInOrder, YieldsInReverse}
 use Rattle.std.proofs.iter.runs.Sources.{from_front, from_back, as_is, as_is_back}
 use Rattle.linked_hash_set.specs.Drains.{drain_rest, drain_name, DrainSteps, DrainStepsBack, DrainKeepsAlong}

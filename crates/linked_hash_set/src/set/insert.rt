@@ -1,6 +1,6 @@
 //! Insertion.
 
-ghost use Rattle.std.specs.Prelude.{◌≡◌, ◌+◌, ◌++◌, ◌∷◌, [], length, max, not, true, false, unwrap_or, Some, IsSome, IsTrue, IfOk, IfErr, OnOk, OnErr, if◌then◌else◌};
+ghost use Rattle.std.specs.Prelude.{◌≡◌, ◌+◌, ◌++◌, ◌∷◌, [], length, max, not, true, false, unwrap_or, None, Some, IsSome, IfSome, IfNone, option_copied, IsTrue, IfOk, IfErr, OnOk, OnErr, if◌then◌else◌};
 ghost use Rattle.linked_hash_map.specs.Pairs.{last};
 ghost use Rattle.linked_hash_set.specs.Inserts.{inserted, refreshed};
 ghost use Rattle.linked_hash_set.specs.Items.{contains, find, to_back, push_if_absent, set_or_push};
@@ -13,6 +13,9 @@ use linked_hash_map::{Equivalent, Mode};
 use std::hash::{BuildHasher, Hash};
 
 impl<T: Eq + Hash, S: BuildHasher> LinkedHashSet<T, S> {
+    ghost use Rattle.std.specs.Borrow.{sem};
+    ghost use Rattle.linked_hash_set.specs.Lends.{ends_inserted, rests};
+
     /// Inserts an item at the back, and returns whether it is new. If it is present, the stored
     /// item moves to the back, and `item` is dropped. Hashes the item once.
     ///
@@ -167,6 +170,9 @@ impl<T: Eq + Hash, S: BuildHasher> LinkedHashSet<T, S> {
     pub fn get_or_insert(&mut self, item: T) -> Result<&T, Refused<T>>
     where
         T: Drop,
+        ensures* inserts { sem 𝓛
+            (ends_inserted T.row S.row S.Hasher.row T.Hash S.BuildHasher S.Hasher.Hasher self.entry
+            item result) }
         ensures stored { IfOk result (λ stored.
             stored.now ≡ unwrap_or (find T.eq self.old.items item) item) }
 
@@ -174,8 +180,9 @@ impl<T: Eq + Hash, S: BuildHasher> LinkedHashSet<T, S> {
         ensures absent { OnErr result (contains T.eq self.old.items item ≡ false) }
         ensures full { OnErr result (length self.old.items ≡ self.old.capacity) }
     {
-        self.insert(item)?;
-        Ok(self.last_item())
+        let refused = self.put(item);
+        let back = self.lent_back();
+        found(back, refused)
     }
 
     /// Moves the stored item that is the same as a given one to the back, and returns it. If it is
@@ -246,6 +253,35 @@ impl<T: Eq + Hash, S: BuildHasher> LinkedHashSet<T, S> {
         Ok(())
     }
 
+    /// Inserts an item, and hands it back if it is refused.
+    fn put(&mut self, item: T) -> Option<T>
+    where
+        T: Drop,
+        ensures put { IfNone result (self.new ≡ inserted T.eq self.old item) }
+        ensures last { IfNone result (last self.new.items
+            ≡ Some (unwrap_or (find T.eq self.old.items item) item)) }
+        ensures refused { IfSome result (λ refused. (refused ≡ item) × (self.new ≡ self.old)
+            × (contains T.eq self.old.items item ≡ false)
+            × (length self.old.items ≡ self.old.capacity)) }
+    {
+        match self.insert(item) {
+            Ok(_new) => None,
+            Err(refused) => Some(refused.item),
+        }
+    }
+
+    /// Returns the back item, lent for as long as the set is.
+    fn lent_back(&mut self) -> Option<&T>
+        ensures* rests { sem 𝓛
+            (rests T.row S.row S.Hasher.row T.Hash S.BuildHasher S.Hasher.Hasher self.entry) }
+        ensures value { option_copied result ≡ last self.old.items }
+    {
+        match self.map.back() {
+            Some((item, _unit)) => Some(item),
+            None => None,
+        }
+    }
+
     /// Returns the back item of a set that has one.
     fn last_item(&self) -> &T
         requires { IsSome (last self.now.items) }
@@ -255,5 +291,19 @@ impl<T: Eq + Hash, S: BuildHasher> LinkedHashSet<T, S> {
             Some((item, _unit)) => item,
             None => unreachable!(),
         }
+    }
+}
+
+/// Returns the item at the back, or the one that was refused.
+fn found<T>(back: Option<&T>, refused: Option<T>) -> Result<&T, Refused<T>>
+    requires { refused ≡ None → IsSome back }
+    ensures ok { IfOk result (λ stored. (refused ≡ None)
+        × (option_copied back.entry ≡ Some stored.now)) }
+    ensures err { IfErr result (λ error. refused ≡ Some error.item) }
+{
+    match (back, refused) {
+        (_back, Some(item)) => Err(Refused { item }),
+        (Some(stored), None) => Ok(stored),
+        (None, None) => unreachable!(),
     }
 }
