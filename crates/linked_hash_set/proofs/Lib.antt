@@ -1,2 +1,3 @@
 pub mod Drained
 pub mod Kept
+pub mod LentBack

@@ -1,7 +1,7 @@
 -- An insertion, a refresh, and insertions one after another, of what an iterator gives.
-use Rattle.std.specs.Prelude.{◌≡◌, Bool, List, [], fold, length, max, Option}
+use Rattle.std.specs.Prelude.{◌≡◌, Bool, true, false, List, [], fold, length, max, Option}
 use Rattle.linked_hash_map.specs.Inserts.{GivesAll, GivesThen}
-use Rattle.linked_hash_set.specs.Items.{to_back, to_back_as_is}
+use Rattle.linked_hash_set.specs.Items.{contains, to_back, to_back_as_is}
 use Rattle.linked_hash_set.specs.LinkedSet.{LinkedSet}
 use Rattle.linked_hash_set.specs.Validity.{IsValid}
 
@@ -14,6 +14,15 @@ inserted eq s x =
 -- the set with the item that x looks up at the back, if there is one
 abbrev pub refreshed : {A T S : Type 0} → (A → T → Bool) → LinkedSet T S → A → LinkedSet T S
 refreshed eq s x = record s { items = to_back_as_is eq s.items x }
+
+-- the item that x looks up is at the back, or if there is none, one made of x went in
+module _ {A T S : Type 0} (looks_up : A → T → Bool) (eq : T → T → Bool) (IsMade : T → Type 0)
+    (x : A) (old new : LinkedSet T S) where
+  abbrev pub RefreshedOrMade : Type 0
+  RefreshedOrMade =
+      (contains looks_up old.items x ≡ true → new ≡ refreshed looks_up old x)
+      × (contains looks_up old.items x ≡ false
+      → (made : T) × IsMade made × (new ≡ inserted eq old made))
 
 -- the items once others went in one by one
 abbrev pub insert_each : {T : Type 0} → (T → T → Bool) → List T → List T → List T

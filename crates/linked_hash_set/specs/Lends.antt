@@ -21,11 +21,15 @@ module _ (T S H : RattleType) (item : HashMembers T.Denot) (build : builder.Ghos
     abbrev pub lends_drained : GName → Fml
     lends_drained name = follows set_row (Array u8 0) s.ghost_name name (λ _. record s.now { items = [] })
 
+    -- the set is as Now says, and at an error it is as it was
+    abbrev pub ends_so : {R E : Type 0} → (LinkedSet T.Denot S.Denot → Type 0) → Result R E → Fml
+    ends_so Now r =
+        follows_so set_row set_row s.ghost_name none (λ _ _. ⊤) (λ last.
+        MatchResult r (λ _. Now last) (λ _. last ≡ s.now))
+
     -- the set has x at the back, as after an insertion, and at an error it is as it was
     abbrev pub ends_inserted : {R E : Type 0} → T.Denot → Result R E → Fml
-    ends_inserted x r =
-        follows_so set_row set_row s.ghost_name none (λ _ _. ⊤) (λ last.
-        MatchResult r (λ _. last ≡ inserted item.eq s.now x) (λ _. last ≡ s.now))
+    ends_inserted x = ends_so (λ last. last ≡ inserted item.eq s.now x)
 
     -- the set ends as it is
     abbrev pub rests : Fml

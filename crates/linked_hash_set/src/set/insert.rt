@@ -2,7 +2,7 @@
 
 ghost use Rattle.std.specs.Prelude.{◌≡◌, ◌+◌, ◌++◌, ◌∷◌, [], length, max, not, true, false, unwrap_or, None, Some, IsSome, IfSome, IfNone, option_copied, IsTrue, IfOk, IfErr, OnOk, OnErr, if◌then◌else◌};
 ghost use Rattle.linked_hash_map.specs.Pairs.{last};
-ghost use Rattle.linked_hash_set.specs.Inserts.{inserted, refreshed};
+ghost use Rattle.linked_hash_set.specs.Inserts.{inserted, RefreshedOrMade};
 ghost use Rattle.linked_hash_set.specs.Items.{contains, find, to_back, push_if_absent, set_or_push};
 ghost use Rattle.linked_hash_set.specs.Updates.{Updates};
 ghost use Rattle.linked_hash_set.specs.Validity.{IsValid};
@@ -14,7 +14,7 @@ use std::hash::{BuildHasher, Hash};
 
 impl<T: Eq + Hash, S: BuildHasher> LinkedHashSet<T, S> {
     ghost use Rattle.std.specs.Borrow.{sem};
-    ghost use Rattle.linked_hash_set.specs.Lends.{ends_inserted, rests};
+    ghost use Rattle.linked_hash_set.specs.Lends.{ends_inserted, ends_so, rests};
 
     /// Inserts an item at the back, and returns whether it is new. If it is present, the stored
     /// item moves to the back, and `item` is dropped. Hashes the item once.
@@ -206,6 +206,9 @@ impl<T: Eq + Hash, S: BuildHasher> LinkedHashSet<T, S> {
     where
         T: Drop,
         requires { contains Q.equivalent self.old.items item ≡ false → F.pre make item }
+        ensures* inserts { sem 𝓛
+            (ends_so T.row S.row S.Hasher.row T.Hash S.BuildHasher S.Hasher.Hasher self.entry
+            (RefreshedOrMade Q.equivalent T.eq (F.post make item) item self.old) result) }
         ensures stored { IfOk result (λ stored. contains Q.equivalent self.old.items item ≡ true
             → find Q.equivalent self.old.items item ≡ Some stored.now) }
         ensures made { IfOk result (λ stored. contains Q.equivalent self.old.items item ≡ false
@@ -216,41 +219,33 @@ impl<T: Eq + Hash, S: BuildHasher> LinkedHashSet<T, S> {
         ensures absent { OnErr result (contains Q.equivalent self.old.items item ≡ false) }
         ensures full { OnErr result (length self.old.items ≡ self.old.capacity) }
     {
-        self.to_back_or_insert(item, make)?;
-        Ok(self.last_item())
+        let refused = self.put_with(item, make);
+        let back = self.lent_back();
+        found(back, refused)
     }
 
     /// Moves the stored item that is the same as a given one to the back. If it is absent, an item
-    /// is made of the given one, and inserted.
-    ///
-    /// Rattle finds no proof of a clause about the set after a call that lends an item and whose
-    /// error has one. So this call, which changes the set and lends nothing, says so.
-    fn to_back_or_insert<Q: Equivalent<T>, F: FnOnce(Q) -> T>(
-        &mut self,
-        item: Q,
-        make: F,
-    ) -> Result<(), Refused<T>>
+    /// is made of the given one, inserted, and handed back if it is refused.
+    fn put_with<Q: Equivalent<T>, F: FnOnce(Q) -> T>(&mut self, item: Q, make: F) -> Option<T>
     where
         T: Drop,
         requires { contains Q.equivalent self.old.items item ≡ false → F.pre make item }
-        ensures present { contains Q.equivalent self.old.items item ≡ true
-            → self.new ≡ refreshed Q.equivalent self.old item }
-        ensures made { OnOk result (contains Q.equivalent self.old.items item ≡ false
-            → (made : T) × F.post make item made × (self.new ≡ inserted T.eq self.old made)) }
-        ensures stays_valid { IsValid T.eq self.new }
-        // A consequence of `present` and `made`, for the proof of the caller.
-        ensures some { OnOk result (IsSome (last self.new.items)) }
-
-        ensures item_back { IfErr result (λ refused. F.post make item refused.item) }
-        ensures unchanged { OnErr result (self.new ≡ self.old) }
-        ensures absent { OnErr result (contains Q.equivalent self.old.items item ≡ false) }
-        ensures full { OnErr result (length self.old.items ≡ self.old.capacity) }
+        ensures put { IfNone result
+            (RefreshedOrMade Q.equivalent T.eq (F.post make item) item self.old self.new) }
+        ensures some { IfNone result (IsSome (last self.new.items)) }
+        ensures found { IfNone result (contains Q.equivalent self.old.items item ≡ true
+            → find Q.equivalent self.old.items item ≡ last self.new.items) }
+        ensures made { IfNone result (contains Q.equivalent self.old.items item ≡ false
+            → (made : T) × F.post make item made
+            × (last self.new.items ≡ Some (unwrap_or (find T.eq self.old.items made) made))) }
+        ensures refused { IfSome result (λ refused. F.post make item refused × (self.new ≡ self.old)
+            × (contains Q.equivalent self.old.items item ≡ false)
+            × (length self.old.items ≡ self.old.capacity)) }
     {
         if self.to_back(item) {
-            return Ok(());
+            return None;
         }
-        self.insert(make(item))?;
-        Ok(())
+        self.put(make(item))
     }
 
     /// Inserts an item, and hands it back if it is refused.
@@ -279,17 +274,6 @@ impl<T: Eq + Hash, S: BuildHasher> LinkedHashSet<T, S> {
         match self.map.back() {
             Some((item, _unit)) => Some(item),
             None => None,
-        }
-    }
-
-    /// Returns the back item of a set that has one.
-    fn last_item(&self) -> &T
-        requires { IsSome (last self.now.items) }
-        ensures { last self.now.items ≡ Some result.now }
-    {
-        match self.map.back() {
-            Some((item, _unit)) => item,
-            None => unreachable!(),
         }
     }
 }

@@ -1,14 +1,12 @@
 -- `get_or_insert` inserts by `put`, lends the set to `lent_back` for good, and makes the result by
 -- `found`. By hand, since the borrow checker proves no loan whose result may own memory.
-use mathlib.Core.Option as maybe
 use mathlib.Core.Path.{subst}
 use mathlib.Core.List.{◌++◌}
-use seplogic.Ra.Ura.{Ura}
 use base.Fml.{Incl-trans, Lft, GName, ftrue, flft, fdead}
 use base.Fraction.{full_share}
 use base.Share
 use base.FractionLaws.{common}
-use base.Logic.{ent, sep, emp, wand, id⊢, apply∗, ex_i}
+use base.Logic.{ent, sep, emp, wand, id⊢, apply∗}
 use contract.BorrowLft.{◌⊑◌, meet_⊑_left, meet_⊑_right}
 use contract.Fact.{fact_i}
 use contract.Monad.{fact}
@@ -18,14 +16,12 @@ use mir.Syntax.{Args, Dict, Fn, a_type, dcons, dnil, named}
 use mir.Val.{Val, has_ty, WT}
 use lib.Dec.{T}
 use prog.Wp.{WpFn}
-use types.Logic.{Logic, sem}
 use types.Tokens.{lft_new, lft_end, lft-common}
 use types.Kit.{‵, raw, ◌⊛◌, some, later, ◌$◌, ◌∵◌, !, qed, move, keep, drop, use0, use1, use2, use3, split, fsplit, fjoin}
 use types.Kit.{join, pick, await, suffices, frame, group, by}
 use types.Run.{enter, addr, stop, no_more, and_then, returns, of_opd}
 use types.ByLocal.{alloc_all, pass_all, free_all, look_at, get, through, sets, lands_as}
 use denote.Exit.{no}
-use denote.Follow.{follows_so, follows_if, such_by}
 use denote.Laws.{Is, Typed, shows}
 use denote.Lend.{lends_again, comes_back, LentAgain}
 use denote.Param.{bounded, layout, param}
@@ -37,18 +33,17 @@ use denote.Signature.{mut_ref_to, plain}
 use denote.Steps.{nothing, heard, peeks, only}
 use denote.Struct.Field.{shr_ref_field}
 use denote.Struct.Laws.{shr_ref_laws, shr_ref_copy}
-use denote.Struct.Members.{Lone}
 use denote.Triple.Call.{calls_at}
 use denote.Triple.Clauses.{Ended, Lasts, lasts}
 use denote.Triple.Spec.{triple_of}
 use denote.Triple.Table.{framed}
 use denote.Triple.Walked.{Stays, walk_of, stay_dropped, Goes-dropped, Goes-spent_ref, ends_at}
-use Rattle.std.proofs.Common.{◌≡◌, List, [], ◌∷◌, ◌∙◌, refl, sym, ap, rules}
+use Rattle.std.proofs.Common.{◌≡◌, List, [], ◌∷◌, refl, sym}
 use Rattle.std.proofs.option.Option.TheLaws.{the_row_laws as option_laws}
 use Rattle.std.proofs.result.Result.TheLaws.{the_row_laws as result_laws}
 use Rattle.std.proofs.raw_atomic.Walks.{proved_at}
-use Rattle.std.specs.Prelude.{⊤, Bool, false, unwrap_or, OnErr, Option, Some, None, Result}
-use Rattle.std.specs.Prelude.{Ok, Err, IfSome, IfNone, IfOk, IfErr, IsSome, MatchResult, length, option_copied}
+use Rattle.std.specs.Prelude.{false, unwrap_or, OnErr, Option, Some, None, Result}
+use Rattle.std.specs.Prelude.{Ok, Err, IfNone, IfOk, IfErr, IsSome, MatchResult, option_copied}
 use Rattle.std.specs.contracts.option.Option as option
 use Rattle.std.specs.contracts.result.Result as result
 use Rattle.std.specs.HashMap.Lent.{HashMembers}
@@ -61,7 +56,6 @@ use Rattle.linked_hash_map.specs.Pairs.{last}
 use Rattle.linked_hash_set.specs.Inserts.{inserted}
 use Rattle.linked_hash_set.specs.Items.{contains, find}
 use Rattle.linked_hash_set.specs.Lends.{rests, ends_inserted}
-use Rattle.linked_hash_set.specs.LinkedSet.{LinkedSet}
 use Rattle.linked_hash_set.specs.declared.error.Refused.{Refused}
 use Rattle.linked_hash_set.specs.contracts.set.LinkedHashSet as set
 use Rattle.linked_hash_set.specs.contracts.error.Refused as refused
@@ -69,6 +63,8 @@ use Rattle.linked_hash_set.specs.contracts.set.LinkedHashSet.get_or_insert as f
 use Rattle.linked_hash_set.specs.contracts.set.LinkedHashSet.put as g
 use Rattle.linked_hash_set.specs.contracts.set.LinkedHashSet.lent_back as h
 use Rattle.linked_hash_set.specs.contracts.set.insert.found as k
+use Rattle.linked_hash_set.proofs.LentBack.{Lone-is, weaker, Found, Kept, Back, ends_as, is_lent, is_stored, some-inj}
+use Rattle.linked_hash_set.proofs.LentBack.{is_item, is_absent, is_full}
 use Rattle.linked_hash_set.proofs.error.Refused.TheLaws.{the_row_laws as refused_laws}
 use Rattle.linked_hash_set.proofs.set.LinkedHashSet.put.Met as put
 use Rattle.linked_hash_set.proofs.set.LinkedHashSet.lent_back.Met as lent_back
@@ -76,79 +72,13 @@ use Rattle.linked_hash_set.proofs.set.insert.found.Met as found
 use Rattle.linked_hash_set.proofs.set.LinkedHashSet.get_or_insert.Statement.{statement}
 use Rattle.linked_hash_set.proofs.set.LinkedHashSet.get_or_insert.Code as code
 
-Lone-is : (vs : List Val) → Lone vs → vs ≡ only vs ∷ []
-Lone-is [] l = absurd l
-Lone-is (v ∷ []) l = refl
-Lone-is (v ∷ u ∷ us) l = absurd l
+is_some : {X : Type 0} (e o : Option X) (y : X) → IfNone e (o ≡ Some y) → IfNone e (IsSome o)
+is_some None o y said = subst (λ z. IsSome z) (sym said) refl
+is_some (Some k) o y said = tt
 
--- a lender that ends at v ends so that P holds, if P holds of v
-weaker : {M : Type 1} {𝓤 : Ura M} (𝓛 : Logic 𝓤) (R : RattleType) (γ : GName) (v : R.Denot) (P : R.Denot → Type 0) → P v
-    → ent 𝓤 (sem 𝓛 (follows_if R R γ maybe.none (λ w. w) v)) (sem 𝓛 (follows_so R R γ maybe.none (λ _ _. ⊤) P))
-unfolding such_by
-weaker {𝓤 = 𝓤} 𝓛 R γ v P holds =
-    ex_i 𝓤 (λ (y : (p : (R.Denot → R.Denot) × R.Denot) × ((z : R.Denot)
-    → ⊤) × P p.1). sem 𝓛 (follows_if R R γ maybe.none y.0.0 y.0.1)) (((λ w. w), v), (λ w. tt), holds)
-
-module _ {X S : Type 0} (eq : X → X → Bool) (e : Option X) (item : X) (old new : LinkedSet X S) where
-  -- what `put` says of the item that it hands back
-  abbrev Put : Type 0
-  Put = IfNone e (new ≡ inserted eq old item)
-
-  abbrev Last : Type 0
-  Last = IfNone e (last new.items ≡ Some (unwrap_or (find eq old.items item) item))
-
-  abbrev Back : Type 0
-  Back = IfSome e (λ r. (r ≡ item) × (new ≡ old) × (contains eq old.items item ≡ false) × (length old.items ≡ old.capacity))
-
-module _ {X : Type 0} (e : Option X) (x : Result (Bor X) (Refused X)) where
-  -- what `found` says of its result
-  abbrev Found : Option (Bor X) → Type 0
-  Found m = IfOk x (λ stored. (e ≡ None) × (option_copied m ≡ Some stored.now))
-
-  abbrev Kept : Type 0
-  Kept = IfErr x (λ error. e ≡ Some error.item)
-
-is_lent : {X S : Type 0} (eq : X → X → Bool) (e : Option X) (m : Option (Bor X)) (item : X) (old new : LinkedSet X S)
-    → Last eq e item old new → option_copied m ≡ last new.items → e ≡ None → IsSome m
-is_lent eq None None item old new said value is = search rules
-is_lent eq None (Some r) item old new said value is = search rules
-is_lent eq (Some k) m item old new said value is = search rules
-
-ends_as : {X S : Type 0} (eq : X → X → Bool) (e : Option X) (m : Option (Bor X)) (x : Result (Bor X) (Refused X)) (item : X)
-    (old new : LinkedSet X S) → Put eq e item old new → Back eq e item old new → Found e x m → Kept e x
-    → MatchResult x (λ _. new ≡ inserted eq old item) (λ _. new ≡ old)
-ends_as eq None m (Ok r) item old new did back ok err = did
-ends_as eq None m (Err r) item old new did back ok err = search rules
-ends_as eq (Some k) m (Ok r) item old new did back ok err = search rules
-ends_as eq (Some k) m (Err r) item old new did back ok err = back.1
-
-some-inj : {X : Type 0} {x y : X} → Some x ≡ Some y → x ≡ y
-some-inj {x = x} e = ap (λ o. unwrap_or o x) e
-
-is_stored : {X S : Type 0} (eq : X → X → Bool) (e : Option X) (m : Option (Bor X)) (x : Result (Bor X) (Refused X)) (item : X)
-    (old new : LinkedSet X S) → Last eq e item old new → option_copied m ≡ last new.items → Found e x m
-    → IfOk x (λ stored. stored.now ≡ unwrap_or (find eq old.items item) item)
-is_stored eq None m (Ok r) item old new said value ok = some-inj (sym ok.1 ∙ value ∙ said)
-is_stored eq (Some k) m (Ok r) item old new said value ok = search rules
-is_stored eq e m (Err r) item old new said value ok = tt
-
-is_item : {X S : Type 0} (eq : X → X → Bool) (e : Option X) (x : Result (Bor X) (Refused X)) (item : X) (old new : LinkedSet X S)
-    → Back eq e item old new → Kept e x → IfErr x (λ refused. refused.item ≡ item)
-is_item eq e (Ok r) item old new back err = tt
-is_item eq None (Err r) item old new back err = search rules
-is_item eq (Some k) (Err r) item old new back err = some-inj (sym err) ∙ back.0
-
-is_absent : {X S : Type 0} (eq : X → X → Bool) (e : Option X) (x : Result (Bor X) (Refused X)) (item : X) (old new : LinkedSet X S)
-    → Back eq e item old new → Kept e x → OnErr x (contains eq old.items item ≡ false)
-is_absent eq e (Ok r) item old new back err = tt
-is_absent eq None (Err r) item old new back err = search rules
-is_absent eq (Some k) (Err r) item old new back err = back.2
-
-is_full : {X S : Type 0} (eq : X → X → Bool) (e : Option X) (x : Result (Bor X) (Refused X)) (item : X) (old new : LinkedSet X S)
-    → Back eq e item old new → Kept e x → OnErr x (length old.items ≡ old.capacity)
-is_full eq e (Ok r) item old new back err = tt
-is_full eq None (Err r) item old new back err = search rules
-is_full eq (Some k) (Err r) item old new back err = back.3
+is_value : {X : Type 0} (x : Result (Bor X) (Refused X)) (y : X) → IfOk x (λ r. Some r.now ≡ Some y) → IfOk x (λ r. r.now ≡ y)
+is_value (Ok r) y said = some-inj said
+is_value (Err r) y said = tt
 
 module _ (X S H : RattleType) (b₀ : total.Ghosts X.Denot) (d₀ : Dict) (b₁ : eq.Ghosts X.Denot) (d₁ : Dict) (b₂ : hash.Ghosts X.Denot)
     (d₂ : Dict) (b₃ : builder.Ghosts S.Denot H.Denot) (d₃ : Dict) (b₄ : hasher.Ghosts H.Denot) (d₄ d₅ d₆ : Dict) where
@@ -191,6 +121,9 @@ get_or_insert_spec 𝓤 𝓛 𝓜 𝓡 wired X S H LX LS LH b₀ d₀ b₁ d₁ 
     let At : List Val → List Val → W.Ghost = λ us ws. ((κs, qs, bounds, a, (us, (ws, tt))), y.1) in
     let Goes : List Val → List Val → Type 1 = λ us ws. ent 𝓤 (W.pre (At us ws)) (WpFn 𝓤 𝓛.H 𝓣.C 𝓣.Λ fn (us ++ (ws ++ []))
     (W.post (At us ws))) in
+    let stored : X.Denot = unwrap_or (find b₁.eq s.now.items item) item in
+    let Now = λ (last : Whole.Denot). last ≡ inserted b₁.eq s.now item in let Same = λ (r : X.Denot). r ≡ item in
+    let Absent : Type 0 = contains b₁.eq s.now.items item ≡ false in
     let x-lives = κX ⊑ X.lives in let s-lives = κS ⊑ S.lives in let h-lives = κH ⊑ H.lives in
     let Ref = λ (κ' : Lft) (x : MutBor Whole.Denot). (MutRef (named 0) κ' Whole).own_val x vs in
     let walk : Goes vs (u ∷ []) =
@@ -239,8 +172,8 @@ get_or_insert_spec 𝓤 𝓛 𝓜 𝓡 wired X S H LX LS LH b₀ d₀ b₁ d₁ 
     ((‵ (flft μ r) ⊛ ‵ (flft κX qX) ⊛ ‵ (flft κS qS) ⊛ ‵ (flft κH qH) ⊛ ‵ ftrue) ⊛ ‵ (Handed.own_val e (v ∷ []))) ⊛
     some (λ (ws : Lasts (g.ended X S H b₀ d₀ b₁ d₁ b₂ d₂ b₃ d₃ b₄ d₄ d₅ d₆) z.0.0 z.0.3).
     ‵ (lasts (g.ended X S H b₀ d₀ b₁ d₁ b₂ d₂ b₃ d₃ b₄ d₄ d₅ d₆) z.0.0 z.0.3 ws)
-    ⊛ (raw (fact 𝓤 (Put b₁.eq e item s.now ws.0)) ⊛ raw (fact 𝓤 (Last b₁.eq e item s.now ws.0))
-    ⊛ raw (fact 𝓤 (Back b₁.eq e item s.now ws.0))))))) (id⊢ 𝓤 _) $
+    ⊛ (raw (fact 𝓤 (IfNone e (Now ws.0))) ⊛ raw (fact 𝓤 (IfNone e (last ws.0.items ≡ Some stored)))
+    ⊛ raw (fact 𝓤 (Back e s.now ws.0 Same Absent))))))) (id⊢ 𝓤 _) $
     await ! tt $ pick ! (λ e. split ! $ split ! $
     -- [the tokens; the item handed back; what was ensured; what the lender keeps; the way back]
     move ! (1 ∷ []) $ peeks ! Handed (Is Handed) (shows 𝓛 Handed) e (v ∷ []) (λ e-is.
@@ -290,7 +223,7 @@ get_or_insert_spec 𝓤 𝓛 𝓜 𝓡 wired X S H LX LS LH b₀ d₀ b₁ d₁ 
     -- [the token of κX; the last tokens; that of κ; where it rests; the item lent; ..; ..; the item handed back]
     nothing ! $ move ! (1 ∷ 0 ∷ []) $ join ! $ move ! (2 ∷ 0 ∷ []) $ join ! $
     nothing ! $ move ! (7 ∷ 0 ∷ []) $ join ! $ move ! (4 ∷ 0 ∷ []) $ join ! $ move ! (1 ∷ 0 ∷ []) $ join ! $
-    use0 𝓛 (raw (fact 𝓤 (e ≡ None → IsSome m))) (fact_i 𝓤 _ (emp 𝓤) (is_lent b₁.eq e m item s.now n said value)) $
+    use0 𝓛 (raw (fact 𝓤 (e ≡ None → IsSome m))) (fact_i 𝓤 _ (emp 𝓤) (is_lent e m n (is_some e (last n.items) stored said) value)) $
     use0 𝓛 (raw (fact 𝓤 x-lives)) (fact_i 𝓤 x-lives (emp 𝓤) x-within) $ join ! $
     move ! (1 ∷ 0 ∷ []) $ use2 𝓛 (raw (O.pre z₃)) (id⊢ 𝓤 _) $
     calls_at ! (framed 𝓤 𝓛.H 𝓜 𝓣) O (found.met 𝓤 𝓛 𝓜 𝓡 (code.calls-linked_hash_set::set::insert::found 𝓡.env wired) X LX) z₃
@@ -312,15 +245,15 @@ get_or_insert_spec 𝓤 𝓛 𝓜 𝓡 wired X S H LX LS LH b₀ d₀ b₁ d₁ 
     move ! (0 ∷ 3 ∷ []) $ join ! $ move ! (1 ∷ 0 ∷ []) $ join ! $
     -- [the tokens; the result; where it rests; the loan's borrow; nothing]
     move ! (2 ∷ []) $ use1 𝓛 (‵ (ends_inserted P (param 1 S) (param 2 H) members b₃ b₄ s item x))
-    (weaker 𝓛 Whole γ n (λ last. MatchResult x (λ _. last ≡ inserted b₁.eq s.now item) (λ _. last ≡ s.now))
-    (ends_as b₁.eq e m x item s.now n did back ok err)) $
+    (weaker 𝓛 Whole γ n (λ last. MatchResult x (λ _. Now last) (λ _. last ≡ s.now))
+    (ends_as Now e m x s.now n did Same Absent back ok err)) $
     nothing ! $ nothing ! $ fjoin ! $ nothing ! $ fjoin ! $
     keep ! (2 ∷ 0 ∷ 3 ∷ 1 ∷ []) $ group ! 3 $ frame ! $ frame ! $
-    use0 𝓛 (raw (fact 𝓤 (IfOk x (λ stored. stored.now ≡ unwrap_or (find b₁.eq s.now.items item) item)))) (fact_i 𝓤 _ (emp 𝓤)
-    (is_stored b₁.eq e m x item s.now n said value ok)) $ frame ! $
-    use0 𝓛 (raw (fact 𝓤 (IfErr x (λ refused. refused.item ≡ item)))) (fact_i 𝓤 _ (emp 𝓤) (is_item b₁.eq e x item s.now n back err)) $
+    use0 𝓛 (raw (fact 𝓤 (IfOk x (λ r. r.now ≡ stored)))) (fact_i 𝓤 _ (emp 𝓤)
+    (is_value x stored (is_stored (λ o. o ≡ Some stored) e m x n said value ok))) $ frame ! $
+    use0 𝓛 (raw (fact 𝓤 (IfErr x (λ refused. Same refused.item)))) (fact_i 𝓤 _ (emp 𝓤) (is_item e x s.now n Same Absent back err)) $
     frame ! $
-    use0 𝓛 (raw (fact 𝓤 (OnErr x (contains b₁.eq s.now.items item ≡ false)))) (fact_i 𝓤 _ (emp 𝓤)
-    (is_absent b₁.eq e x item s.now n back err)) $ frame ! $
-    by ! (fact_i 𝓤 _ _ (is_full b₁.eq e x item s.now n back err)))))))))))))))))))))))))) in
+    use0 𝓛 (raw (fact 𝓤 (OnErr x Absent))) (fact_i 𝓤 _ (emp 𝓤)
+    (is_absent e x s.now n Same Absent back err)) $ frame ! $
+    by ! (fact_i 𝓤 _ _ (is_full e x s.now n Same Absent back err)))))))))))))))))))))))))) in
     subst (λ (us : List Val). Goes us vss.1.0) (sym at) (subst (Goes vs) (sym is) walk))
