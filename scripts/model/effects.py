@@ -1,0 +1,99 @@
+"""What a call does besides its answer."""
+
+from objects import MASK
+
+# The effects in the order in which a line shows them.
+ORDER = (
+    "drop-keys", "drop-values", "drop-hashers", "drop-closures", "hash-keys", "eq-keys", "eq-values",
+    "cmp-keys", "cmp-values", "clone-keys", "clone-values", "clone-hashers", "build-hashers",
+    "hash-values",
+)
+
+
+class Effects:
+    """The counts of a line. `requests` counts what asks for memory, of which the one of the number
+    `refused` is refused."""
+
+    __slots__ = ("counts", "drops", "least", "most", "requests", "refused")
+
+    def __init__(self, refused=None):
+        self.counts = {}
+        self.drops = {}
+        # Between these two are the comparisons of keys.
+        self.least = self.most = 0
+        self.requests = 0
+        self.refused = refused
+
+    def ask(self):
+        """Asks for memory, and returns whether it is given."""
+        self.requests += 1
+        return self.requests != self.refused
+
+    def add(self, name, count=1):
+        """Counts an effect."""
+        self.counts[name] = self.counts.get(name, 0) + count
+
+    def drop(self, name, serial):
+        """Counts the drop of an object."""
+        count, total = self.drops.get(name, (0, 0))
+        self.drops[name] = (count + 1, total + serial)
+
+    def drop_key(self, key):
+        """Counts the drop of a key."""
+        self.drop("drop-keys", key.serial)
+
+    def drop_value(self, value):
+        """Counts the drop of a value."""
+        if value.counted:
+            self.drop("drop-values", value.serial)
+
+    def drop_pair(self, pair):
+        """Counts the drop of a key and its value."""
+        self.drop_key(pair.key)
+        self.drop_value(pair.value)
+
+    def drop_hasher(self, hasher):
+        """Counts the drop of a hasher."""
+        if hasher.counted:
+            self.drop("drop-hashers", hasher.serial)
+
+    def drop_closure(self, serial):
+        """Counts the drop of a closure."""
+        self.drop("drop-closures", serial)
+
+    def hash_key(self, hasher):
+        """Counts that a hasher is built and a key hashed."""
+        self.add("hash-keys")
+        if hasher.counted:
+            self.add("build-hashers")
+
+    def compare_keys(self, least, most):
+        """Counts comparisons of keys, between two numbers."""
+        self.least += least
+        self.most += most
+
+    def clone_key(self, key):
+        """Counts the clone of a key, and returns it."""
+        self.add("clone-keys")
+        return key.clone()
+
+    def clone_value(self, value):
+        """Counts the clone of a value, and returns it."""
+        if value.counted:
+            self.add("clone-values")
+        return value.clone()
+
+    def clone_hasher(self, hasher):
+        """Counts the clone of a hasher, and returns it."""
+        if hasher.counted:
+            self.add("clone-hashers")
+        return hasher.clone()
+
+    def table(self):
+        """Returns what each effect is, as a line shows it, or as a pair of the least and the most."""
+        found = {name: str(count) for name, count in self.counts.items() if count}
+        for name, (count, total) in self.drops.items():
+            found[name] = f"{count}:{total & MASK}"
+        if self.most:
+            found["eq-keys"] = str(self.most) if self.least == self.most else (self.least, self.most)
+        return found

@@ -1,0 +1,211 @@
+"""Lines of a map that go by an entry."""
+
+from objects import Value
+from shown import equation, pair_text
+
+
+def show_refused(call, refused):
+    """Shows what a refused insertion hands back."""
+    call.show(f"refused {refused.key}={refused.value} #{refused.key.serial} #{refused.value.serial}")
+
+
+class Given:
+    """The words of an edit: the key's, if there is one, the value, and what further objects are made
+    of."""
+
+    def __init__(self, call, word, value):
+        self.call = call
+        self.word = word
+        self.value = value
+        self.is_used = False
+
+    def next_value(self):
+        """Returns the line's value, and each further time a new one of its number."""
+        if self.is_used:
+            return Value(self.value.number, self.call.serial())
+        self.is_used = True
+        return self.value
+
+
+def insert(call, map_, pair, value):
+    """Replaces the value of an entry, which may move, and shows the old one."""
+    map_.touch(pair)
+    call.show(pair.replace(value))
+
+
+def edit_occupied(call, map_, pair, edit, given):
+    """Shows the entry of a pair, and makes an edit by it."""
+    call.show(equation(pair))
+    if edit in ("w", "m"):
+        pair.replace(given.next_value())
+    elif edit == "i":
+        insert(call, map_, pair, given.next_value())
+    elif edit == "t":
+        value = given.next_value()
+        zero = Value(0, call.serial())
+        insert(call, map_, pair, value)
+        insert(call, map_, pair, zero)
+    elif edit == "r":
+        map_.take(pair)
+        call.effects.drop_key(pair.key)
+        call.show(pair.value)
+    elif edit == "e":
+        map_.take(pair)
+        call.show(pair_text(pair))
+    elif edit == "b":
+        map_.pairs.move_to_end(pair.key.folded)
+    elif edit == "f":
+        map_.pairs.move_to_end(pair.key.folded, last=False)
+    elif edit == "p":
+        replace_key(call, pair, given)
+
+
+def replace_key(call, pair, given):
+    """Stores a key in place of that of an entry, if they are the same. Compares the two."""
+    key = call.key_of(given.word)
+    call.effects.compare_keys(1, 1)
+    if key.folded == pair.key.folded:
+        old = pair.replace_key(key)
+        call.show(f"Ok({old} #{old.serial})")
+    else:
+        call.show(f"Err({key} #{key.serial})")
+
+
+def edit_vacant(call, map_, key, edit, given):
+    """Shows the entry of an absent key, and makes an edit by it."""
+    call.show("vacant")
+    call.show(key)
+    if edit == "y":
+        call.show(key)
+    elif edit in ("i", "m"):
+        insert_vacant(call, map_, key, edit, given)
+    elif edit != "o":
+        call.effects.drop_key(key)
+
+
+def insert_vacant(call, map_, key, edit, given):
+    """Inserts a value, or 0 which is then written over."""
+    value = given.value if edit == "i" else Value(0, call.serial())
+    refused = map_.push(key, value, call.effects)
+    if refused:
+        show_refused(call, refused)
+    elif edit == "i":
+        call.show(value)
+    else:
+        map_.pairs[key.folded].replace(given.value)
+
+
+def entry(call, map_):
+    """Makes an edit by the entry of a key."""
+    word = call.word()
+    key = call.key_of(word)
+    edit = call.word()[:1]
+    given = Given(call, word, call.value())
+    pair = map_.entry(key, call.effects)
+    if pair is None:
+        edit_vacant(call, map_, key, edit, given)
+    else:
+        edit_occupied(call, map_, pair, edit, given)
+
+
+def entry_key(call, map_):
+    """Shows the key of an entry, which is then dropped."""
+    key = call.key()
+    pair = map_.entry(key, call.effects)
+    call.show(pair.key if pair else key)
+    if pair is None:
+        call.effects.drop_key(key)
+
+
+def edit_next(call, map_, edit, given):
+    """Makes an edit by the next entry of a visit."""
+    pair = map_.next_to_visit()
+    if pair is None:
+        call.show("end")
+    else:
+        edit_occupied(call, map_, pair, edit, given)
+
+
+def entries(call, map_):
+    """Visits a pair for each letter. What is left then is still to be visited."""
+    edits = call.word()
+    given = Given(call, "", call.value())
+    map_.visit()
+    for edit in edits:
+        call.show(len(map_.to_visit))
+        edit_next(call, map_, edit, given)
+
+
+def visit(call, map_):
+    map_.visit()
+
+
+def next_entry(call, map_):
+    """Makes an edit by the next entry of the map's visit."""
+    edit = call.word()[:1]
+    edit_next(call, map_, edit, Given(call, "", call.value()))
+
+
+def unvisited(call, map_):
+    call.show(len(map_.to_visit))
+
+
+def show_lent(call, map_, key, refused):
+    """Shows a value that is lent and adds one to it, or shows what was refused."""
+    if refused:
+        show_refused(call, refused)
+        return
+    value = map_.pairs[key.folded].value
+    call.show(value)
+    value.write(value.number + 1)
+
+
+def insert_if_vacant(call, map_, key, value):
+    """Inserts a value if the key is absent, and else drops it."""
+    refused = None
+    if map_.entry(key, call.effects):
+        call.effects.drop_value(value)
+    else:
+        refused = map_.push(key, value, call.effects)
+    show_lent(call, map_, key, refused)
+
+
+def or_insert(call, map_):
+    insert_if_vacant(call, map_, call.key(), call.value())
+
+
+def or_insert_with(call, map_):
+    """The closure owns the value, and is dropped with it if the key is present."""
+    key, value = call.key(), call.value()
+    call.effects.drop_closure(call.serial())
+    insert_if_vacant(call, map_, key, value)
+
+
+def or_default(call, map_):
+    """The default is made if the key is absent, and never counted."""
+    insert_if_vacant(call, map_, call.key(), Value(0, 0, counted=False))
+
+
+def and_modify(call, map_):
+    """The closure owns the value, and puts it in the place of the old one. Without a key, both the
+    closure and the value are dropped, and 0 is inserted."""
+    key, value = call.key(), call.value()
+    guard, zero = call.serial(), Value(0, call.serial())
+    call.effects.drop_closure(guard)
+    pair = map_.entry(key, call.effects)
+    refused = None
+    if pair:
+        call.effects.drop_value(pair.replace(value))
+        call.effects.drop_value(zero)
+    else:
+        call.effects.drop_value(value)
+        refused = map_.push(key, zero, call.effects)
+    show_lent(call, map_, key, refused)
+
+
+LINES = {
+    "entry": entry, "entry_key": entry_key, "entries": entries, "visit": visit,
+    "next_entry": next_entry, "unvisited": unvisited, "or_insert": or_insert,
+    "or_insert_with": or_insert_with, "or_insert_with_key": or_insert_with,
+    "or_default": or_default, "and_modify": and_modify,
+}

@@ -1,0 +1,426 @@
+"""The lines of a map. Each function makes a call, and returns a map if that takes the place of it."""
+
+import entries
+import iterators
+import replays
+from linked import Linked, Refused, collected, is_equal
+from memory import made
+from objects import Hasher, default_hasher, fold
+from shown import pair_text, quoted, some, truth
+
+# Lookups, and writes of one value.
+
+
+def get(call, map_):
+    pair = map_.find(call.key(), call.effects)
+    call.show(some(pair and pair.value))
+
+
+def get_key_value(call, map_):
+    pair = map_.find(call.key(), call.effects)
+    call.show(some(pair and pair_text(pair)))
+
+
+def contains_key(call, map_):
+    call.show(truth(map_.find(call.key(), call.effects)))
+
+
+def index(call, map_):
+    """The index is used if the key is present, which a call outside of the count tells."""
+    key = call.key()
+    if key.folded in map_.pairs:
+        call.show(map_.find(key, call.effects).value)
+    else:
+        call.show("absent")
+
+
+def index_mut(call, map_):
+    key, value = call.key(), call.value()
+    if key.folded in map_.pairs:
+        map_.find(key, call.effects).replace(value)
+        call.show("written")
+    else:
+        call.show("absent")
+
+
+def write_lent(call, pair, value):
+    """Shows a value that is lent, and writes another in its place, if there is one."""
+    call.show(pair.replace(value) if pair else "absent")
+
+
+def get_mut(call, map_):
+    key, value = call.key(), call.value()
+    write_lent(call, map_.find(key, call.effects), value)
+
+
+def get_refresh(call, map_):
+    key, value = call.key(), call.value()
+    write_lent(call, map_.find_and_move(key, call.effects), value)
+
+
+def get_counted(call, map_):
+    """The counts of an absent key are all nodes of its bucket and all keys with its hash, those of a
+    present one are no more and at least one."""
+    key = call.key()
+    same = map_.same(key)
+    beside = count_beside(map_, key)
+    pair = map_.find(key, call.effects)
+    least, reached = (1, 1) if pair else (same, beside)
+    visited, compared = call.between(reached, beside), call.between(least, same)
+    call.show(f"({some(pair and pair.value)}, Probe {{ visited: {visited}, compared: {compared} }})")
+
+
+def count_beside(map_, key):
+    """Returns how many stored keys are in the bucket of a key."""
+    buckets = map_.memory.buckets
+    if not buckets:
+        return 0
+    bucket = map_.hasher.hash_of(key) % buckets
+    return sum(count for hashed, count in map_.alike.items() if hashed % buckets == bucket)
+
+
+def front(call, map_):
+    pair = map_.end(last=False)
+    call.show(some(pair and pair_text(pair)))
+
+
+def back(call, map_):
+    pair = map_.end(last=True)
+    call.show(some(pair and pair_text(pair)))
+
+
+def front_mut(call, map_):
+    write_lent(call, map_.end(last=False), call.value())
+
+
+def back_mut(call, map_):
+    write_lent(call, map_.end(last=True), call.value())
+
+
+def length(call, map_):
+    call.show(len(map_))
+    call.show(truth(not map_.pairs))
+
+
+def hasher(call, map_):
+    call.show(map_.hasher)
+
+
+# Insertions and removals.
+
+
+def show_old(call, old):
+    """Shows the value that an insertion replaced, or what it hands back."""
+    if isinstance(old, Refused):
+        entries.show_refused(call, old)
+    else:
+        call.show(some(old))
+
+
+def insert(call, map_):
+    show_old(call, map_.insert(call.key(), call.value(), call.effects))
+
+
+def insert_within_capacity(call, map_):
+    """The call is made if the key is present or there is room."""
+    key, value = call.key(), call.value()
+    if key.folded not in map_.pairs and len(map_) == map_.memory.capacity:
+        entries.show_refused(call, Refused(key, value))
+    else:
+        call.show(f"Ok({some(map_.insert(key, value, call.effects))})")
+
+
+def remove(call, map_):
+    pair = map_.remove(call.key(), call.effects)
+    call.show(some(pair and pair.value))
+
+
+def remove_entry(call, map_):
+    pair = map_.remove_entry(call.key(), call.effects)
+    call.show(some(pair and pair_text(pair)))
+
+
+def replace_key(call, map_):
+    key = call.key()
+    old = map_.replace_key(key, call.effects)
+    call.show(f"Ok({old} #{old.serial})" if old else f"Err({key} #{key.serial})")
+
+
+def pop_front(call, map_):
+    pair = map_.pop(last=False)
+    call.show(some(pair and pair_text(pair)))
+
+
+def pop_back(call, map_):
+    pair = map_.pop(last=True)
+    call.show(some(pair and pair_text(pair)))
+
+
+def clear(call, map_):
+    map_.clear(call.effects)
+
+
+def keeps_pair(number):
+    """Returns the test of `retain`, which adds 1 to each value that it keeps, in place."""
+    def test(pair):
+        if pair.value.number % 7 == number % 7:
+            return False
+        pair.value.write(pair.value.number + 1)
+        return True
+    return test
+
+
+def retain(call, map_):
+    number = call.number()
+    call.effects.drop_closure(call.serial())
+    map_.retain(keeps_pair(number), call.effects)
+
+
+def drop(call, map_):
+    map_.drop(call.effects)
+    return call.new_map()
+
+
+# Order, mode and memory.
+
+
+def move_to_back(call, map_):
+    call.show(truth(map_.find_and_move(call.key(), call.effects)))
+
+
+def move_to_front(call, map_):
+    call.show(truth(map_.find_and_move(call.key(), call.effects, last=False)))
+
+
+def rotate_left(call, map_):
+    """The count is at most the length."""
+    map_.rotate(min(call.number(), len(map_)))
+
+
+def mode(call, map_):
+    call.show("Keep" if map_.keeps else "Touch")
+
+
+def set_mode(call, map_):
+    map_.keeps = call.word() == "keep"
+
+
+def capacity(call, map_):
+    call.show(map_.memory.capacity)
+
+
+def rechained(call, map_):
+    call.show(map_.memory.rechained)
+
+
+def reserve(call, map_):
+    if map_.reserve(call.small_number(), call.effects):
+        call.show("refused")
+
+
+def shrink_to_fit(call, map_):
+    if not map_.is_shrunk(call.effects):
+        call.show("refused")
+
+
+# Maps that are made.
+
+
+def with_hasher(call, _map):
+    return Linked(call.hasher())
+
+
+def with_capacity(call, _map):
+    """A refusal drops the hasher."""
+    given, wanted = call.hasher(), call.small_number()
+    memory = made(wanted, call.effects)
+    if memory is None:
+        call.effects.drop_hasher(given)
+        return None
+    return Linked(given, memory)
+
+
+def default(_call, _map):
+    return Linked(default_hasher())
+
+
+def from_iter(call, _map):
+    return collected(call.pairs(), call.effects)
+
+
+def extend(call, map_):
+    refused = map_.extend(call.pairs(), call.effects)
+    if refused:
+        entries.show_refused(call, refused)
+
+
+def extend_trait(call, map_):
+    """The error of the trait hands nothing back, so what is refused is dropped."""
+    refused = map_.extend(call.pairs(), call.effects)
+    if refused:
+        call.effects.drop_key(refused.key)
+        call.effects.drop_value(refused.value)
+        call.show("refused")
+
+
+def clone(call, _map):
+    return call.other.clone(call.effects)
+
+
+def emptied(call, _map):
+    return Linked(call.effects.clone_hasher(call.other.hasher))
+
+
+def extend_refs(call, map_):
+    """Extends a map by clones of the pairs of another."""
+    effects = call.effects
+    pairs = ((effects.clone_key(pair.key), effects.clone_value(pair.value))
+             for pair in call.other.pairs.values())
+    refused = map_.extend(pairs, effects)
+    if refused:
+        entries.show_refused(call, refused)
+
+
+def extend_drain(call, map_):
+    """Extends a map by what another is drained of. What is not taken is dropped."""
+    taken = iter(call.other.take_all())
+    refused = map_.extend(((pair.key, pair.value) for pair in taken), call.effects)
+    for pair in taken:
+        call.effects.drop_pair(pair)
+    if refused:
+        entries.show_refused(call, refused)
+
+
+def swap(call, map_):
+    other = call.other
+    for name in Linked.__slots__:
+        mine, its = getattr(map_, name), getattr(other, name)
+        setattr(map_, name, its)
+        setattr(other, name, mine)
+
+
+# Lines that make a map, or take in the pairs of another, show its hasher.
+MAKING = {
+    "with_hasher": with_hasher, "with_capacity": with_capacity, "default": default,
+    "from_iter": from_iter, "extend": extend, "extend_refs": extend_refs,
+    "extend_drain": extend_drain, "clone": clone, "swap": swap, "extend_trait": extend_trait,
+    "collect": from_iter, "emptied": emptied, "made_with": default,
+}
+# Those of them that make a map or, if that is refused, leave the old one.
+REFUSABLE = {"with_capacity", "from_iter", "collect", "clone"}
+
+
+def making(name):
+    """Returns the line of a name that shows the hasher at its end."""
+    def line(call, map_):
+        fresh = MAKING[name](call, map_)
+        if fresh is None and name in REFUSABLE:
+            call.show("refused")
+        call.show(map_.hasher if fresh is None else fresh.hasher)
+        return fresh
+    return line
+
+
+# Comparisons, hashes and texts.
+
+
+def equal(call, map_):
+    for negated in (False, True):
+        call.show(truth(is_equal(map_, call.other, call.effects) != negated))
+
+
+def plain_order(map_, other):
+    """Compares two maps by the numbers of their keys, and then by their values."""
+    mine, its = ([(pair.key.text.number, pair.value.number) for pair in it.pairs.values()]
+                 for it in (map_, other))
+    return (mine > its) - (mine < its)
+
+
+def show_order(call, order):
+    """Shows an order, and what `<`, `<=`, `>` and `>=` make of it."""
+    names = {-1: "Some(Less)", 0: "Some(Equal)", 1: "Some(Greater)", None: "None"}
+    call.show(names[order])
+    for allowed in ((-1,), (-1, 0), (1,), (0, 1)):
+        call.show(truth(order in allowed))
+
+
+def compare(call, map_):
+    """Compares maps of the same pairs whose keys are numbers, which are not counted."""
+    order = plain_order(map_, call.other)
+    call.show({-1: "Less", 0: "Equal", 1: "Greater"}[order])
+    show_order(call, order)
+
+
+def partial_order(map_, other, effects):
+    """Compares two maps by keys of which no two that differ have an order."""
+    for pair, against in zip(map_.pairs.values(), other.pairs.values()):
+        effects.add("cmp-keys")
+        if pair.key.folded != against.key.folded:
+            return None
+        if pair.value.counted:
+            effects.add("cmp-values")
+        if pair.value.number != against.value.number:
+            return 1 if pair.value.number > against.value.number else -1
+    return (len(map_) > len(other)) - (len(map_) < len(other))
+
+
+def partial_compare(call, map_):
+    """Compares five times: by `partial_cmp` and by each operator."""
+    for _ in range(5):
+        order = partial_order(map_, call.other, call.effects)
+    show_order(call, order)
+
+
+def hash_all(call, map_):
+    """Hashes each key and each value by one hasher that spreads."""
+    number = 0
+    for pair in map_.pairs.values():
+        number = fold(number, pair.key.folded)
+        number = fold(number, pair.value.number.to_bytes(8, "little"))
+        call.effects.add("hash-keys")
+        if pair.value.counted:
+            call.effects.add("hash-values")
+    call.show(number)
+
+
+def debug_text(pairs):
+    """Shows pairs as `Debug` shows a map."""
+    return "{" + ", ".join(f"{pair.key}: {pair.value}" for pair in pairs) + "}"
+
+
+def debug(call, map_):
+    call.show(debug_text(map_.pairs.values()))
+
+
+def debug_pretty(call, map_):
+    lines = "".join(f"    {pair.key}: {pair.value},\n" for pair in map_.pairs.values())
+    call.show(quoted("{\n" + lines + "}" if lines else "{}"))
+
+
+def new(call, _map):
+    number = call.number()
+    call.show(f"{{{number}: {number}}}")
+
+
+LINES = {
+    "get": get, "get_key_value": get_key_value, "contains_key": contains_key, "index": index,
+    "index_mut": index_mut, "get_mut": get_mut, "get_refresh": get_refresh,
+    "get_counted": get_counted, "front": front, "back": back, "front_mut": front_mut,
+    "back_mut": back_mut, "len": length, "hasher": hasher, "insert": insert,
+    "insert_within_capacity": insert_within_capacity, "remove": remove,
+    "remove_entry": remove_entry, "replace_key": replace_key, "pop_front": pop_front,
+    "pop_back": pop_back, "clear": clear, "retain": retain, "drop": drop,
+    "move_to_back": move_to_back, "move_to_front": move_to_front, "rotate_left": rotate_left,
+    "mode": mode, "set_mode": set_mode, "capacity": capacity, "rechained": rechained,
+    "reserve": reserve, "shrink_to_fit": shrink_to_fit, "eq": equal, "cmp": compare,
+    "partial_cmp": partial_compare, "hash": hash_all, "debug": debug, "debug_pretty": debug_pretty,
+    "new": new, **{name: making(name) for name in MAKING}, **entries.LINES, **iterators.LINES,
+    **replays.LINES,
+}
+# Lines that change no pair.
+READING = {
+    "get", "get_key_value", "contains_key", "index", "get_counted", "front", "back", "len", "hasher",
+    "mode", "set_mode", "capacity", "rechained", "reserve", "shrink_to_fit", "eq", "cmp",
+    "partial_cmp", "hash", "debug", "debug_pretty", "new", "entry_key", "visit", "unvisited", "iter",
+    "keys", "values", "loop",
+}

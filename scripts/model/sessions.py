@@ -1,0 +1,209 @@
+"""The lines of a table of sessions: each has an id, a weight and a payload, and the weights sum to at
+most a limit. Ids are not counted."""
+
+import collections
+import itertools
+
+from memory import Memory, made
+from objects import SPREAD
+from shown import list_text, some
+
+
+class Session:
+    """A session."""
+
+    __slots__ = ("id", "weight", "payload")
+
+    def __init__(self, id_, weight, payload):
+        self.id = id_
+        self.weight = weight
+        self.payload = payload
+
+    def __str__(self):
+        return f"({self.id}, {self.weight}, {self.payload})"
+
+
+class Sessions:
+    """The sessions in the order of their last put or touch, by their ids."""
+
+    __slots__ = ("sessions", "limit", "total", "memory")
+
+    def __init__(self, limit=0, memory=None):
+        self.sessions = collections.OrderedDict()
+        self.limit = limit
+        self.total = 0
+        self.memory = memory or Memory()
+
+    def leaving(self, id_, weight):
+        """Returns the sessions that go so that the others and one of this id and weight fit."""
+        old = self.sessions.get(id_)
+        total = self.total - (old.weight if old else 0)
+        gone = []
+        for session in self.sessions.values():
+            if total + weight <= self.limit:
+                break
+            if session.id != id_:
+                total -= session.weight
+                gone.append(session)
+        return gone
+
+    def put(self, session, gone):
+        """Puts a session at the back, takes those that go, and returns the payload that its id
+        had."""
+        old = self.sessions.pop(session.id, None)
+        self.sessions[session.id] = session
+        self.total += session.weight - (old.weight if old else 0)
+        for other in gone:
+            self.take(other.id)
+        return old and old.payload
+
+    def take(self, id_):
+        """Removes and returns the session of an id, or `None`."""
+        session = self.sessions.pop(id_, None)
+        if session is not None:
+            self.total -= session.weight
+        return session
+
+    def is_given(self, id_, gone, effects):
+        """Makes room for one more session, if its id is new and none goes."""
+        if gone or id_ in self.sessions:
+            return True
+        return self.memory.reserve(1, len(self.sessions), effects) is None
+
+
+def show_session(session):
+    return f" {session.id}:{session.weight}:{session.payload.number}"
+
+
+def mix_session(session):
+    return session.id ^ session.weight * SPREAD % 2**64 ^ session.payload.number
+
+
+def tail(table):
+    """Shows the total and the list."""
+    return f"| {table.total} |" + list_text(table.sessions.values(), show_session, mix_session)
+
+
+def new(call, _table):
+    return Sessions(call.number())
+
+
+def with_capacity(call, _table):
+    limit, capacity = call.number(), call.small_number()
+    memory = made(capacity, call.effects)
+    if memory is None:
+        call.show("refused")
+        return None
+    return Sessions(limit, memory)
+
+
+def show_refused(call, reason, session):
+    """Shows the reason of a refusal and the payload that comes back."""
+    call.show(f"refused {reason} {session.payload} #{session.payload.serial}")
+
+
+def read_session(call):
+    return Session(call.number(), call.number(), call.value())
+
+
+def put(call, table):
+    """A list of those that go is asked for, or else room for one more."""
+    session = read_session(call)
+    if session.weight > table.limit:
+        show_refused(call, "TooHeavy", session)
+        return
+    gone = table.leaving(session.id, session.weight)
+    given = call.effects.ask() if gone else table.is_given(session.id, gone, call.effects)
+    if not given:
+        show_refused(call, "NoRoom", session)
+        return
+    old = table.put(session, gone)
+    listed = ", ".join(map(str, gone))
+    call.show(f"Put {{ old: {some(old)}, gone: [{listed}] }}")
+
+
+def put_with(call, table):
+    """Those that go are handed to a closure, which is dropped at the end, also if it is refused."""
+    session = read_session(call)
+    call.effects.drop_closure(call.serial())
+    if session.weight > table.limit:
+        show_refused(call, "TooHeavy", session)
+        return
+    gone = table.leaving(session.id, session.weight)
+    if not table.is_given(session.id, gone, call.effects):
+        show_refused(call, "NoRoom", session)
+        return
+    old = table.put(session, gone)
+    for other in gone:
+        call.show(other)
+    call.show(some(old))
+
+
+def touch(call, table):
+    """Shows the payload of an id, and moves its session to the back."""
+    session = table.sessions.get(call.number())
+    if session is not None:
+        table.sessions.move_to_end(session.id)
+    call.show(some(session and session.payload))
+
+
+def remove(call, table):
+    session = table.take(call.number())
+    call.show(some(session and session.payload))
+
+
+def retain(call, table):
+    """Keeps the payloads that are not the number modulo 7, and adds 1 to each, in place."""
+    number = call.number() % 7
+    call.effects.drop_closure(call.serial())
+    for session in list(table.sessions.values()):
+        if session.payload.number % 7 == number:
+            table.take(session.id)
+            call.effects.drop_value(session.payload)
+        else:
+            session.payload.write(session.payload.number + 1)
+
+
+def reserve(call, table):
+    if table.memory.reserve(call.small_number(), len(table.sessions), call.effects):
+        call.show("refused")
+
+
+def capacity(call, table):
+    call.show(table.memory.capacity)
+
+
+def total(call, table):
+    call.show(table.total)
+
+
+def length(call, table):
+    call.show(len(table.sessions))
+
+
+def iter_sessions(call, table):
+    """Steps go from the front alone."""
+    letters = call.word()
+    left = len(table.sessions)
+    front = itertools.islice(table.sessions.values(), len(letters))
+    for _ in letters:
+        session = next(front, None)
+        left -= session is not None
+        call.show(some(session))
+        call.show(f"({left}, Some({left}))")
+        call.show(left)
+
+
+def drop(call, table):
+    for session in table.sessions.values():
+        call.effects.drop_value(session.payload)
+    return Sessions()
+
+
+LINES = {
+    "new": new, "with_capacity": with_capacity, "put": put, "put_with": put_with, "touch": touch,
+    "remove": remove, "retain": retain, "reserve": reserve, "capacity": capacity, "total": total,
+    "len": length, "iter": iter_sessions, "drop": drop,
+}
+# Lines that change no session.
+READING = {"reserve", "capacity", "total", "len", "iter"}

@@ -1,0 +1,78 @@
+"""How items and lists are shown."""
+
+import itertools
+import operator
+
+from objects import MASK
+
+# The longest list that is shown whole.
+WHOLE = 100
+
+
+def some(item):
+    """Shows an item that may be `None`."""
+    return "None" if item is None else f"Some({item})"
+
+
+def pair_text(pair):
+    """Shows a pair as a tuple."""
+    return f"({pair.key}, {pair.value})"
+
+
+def equation(pair):
+    """Shows a pair as a line does."""
+    return f"{pair.key}={pair.value}"
+
+
+def truth(is_so):
+    """Shows a truth value."""
+    return "true" if is_so else "false"
+
+
+def quoted(text):
+    """Shows a text as `Debug` does."""
+    return '"' + text.replace("\\", "\\\\").replace('"', '\\"').replace("\n", "\\n") + '"'
+
+
+def digest(mixes):
+    """Returns the sum of the mixes, each times its position from 1 on."""
+    return sum(map(operator.mul, itertools.count(1), mixes)) & MASK
+
+
+def list_text(items, show, mix):
+    """Shows a list: whole, or its ends and a digest. `items` is a view in order."""
+    length = len(items)
+    if length <= WHOLE:
+        return f" {length}" + "".join(map(show, items))
+    first, last = next(iter(items)), next(reversed(items))
+    return f" {length}{show(first)}{show(last)} {digest(map(mix, items))}"
+
+
+def show_pair(pair):
+    """Shows a pair of a list."""
+    return f" {pair.key.text.shown}:{pair.value.number}"
+
+
+def mix_pair(pair):
+    """Mixes a pair for a digest."""
+    return pair.key.text.number ^ pair.value.mix
+
+
+def show_item(pair):
+    """Shows an item of a set."""
+    return " " + pair.key.text.shown
+
+
+def mix_item(pair):
+    """Mixes an item of a set for a digest."""
+    return pair.key.text.number
+
+
+def list_pairs(map_):
+    """Shows the pairs of a map."""
+    return list_text(map_.pairs.values(), show_pair, mix_pair)
+
+
+def list_items(map_):
+    """Shows the items of the map of a set."""
+    return list_text(map_.pairs.values(), show_item, mix_item)
