@@ -92,7 +92,6 @@ OWN_MAP_CALLS = (
     ("or_insert_with_key", 3, "key value"),
     ("extend_trait", 1, "pairs"),
     ("replay", 4, "commands"),
-    ("refused_texts", 1, ""),
 )
 RARE_OWN_MAP_CALLS = (
     ("into_keys", 2, "steps forget"),

@@ -1,88 +1,38 @@
-"""How a line of the driver is compared with what the model says of it."""
+"""How what the driver did is compared with what the model says."""
 
 import collections
 import itertools
-import re
 
-# What differs: the number of the line, from 0 on, what of it, what was expected and what was found.
-Difference = collections.namedtuple("Difference", "number what expected found")
-
-BETWEEN = re.compile(r"<(\d+)\.\.(\d+)>")
-# The effects, in the order in which a line tells them.
-EFFECTS = (
-    "drop-keys", "drop-values", "drop-hashers", "drop-closures", "hash-keys", "eq-keys", "eq-values",
-    "cmp-keys", "cmp-values", "clone-keys", "clone-values", "clone-hashers", "build-hashers",
-    "hash-values",
-)
+import expected
+import model
+from effects import ORDER
 
 
-def parts_of(printed):
-    """Returns the answer and list of a line, and its effects as words."""
-    text, _, effects = printed.partition("; ")
-    return text, effects.split()
+class Difference(collections.namedtuple("Difference", "number expected found")):
+    """What differs: the number of the line, from 0 on, what was expected and what was found."""
+
+    def text(self):
+        """Returns it as a text."""
+        return f"expected {self.expected}\n    found    {self.found}"
 
 
-def is_nothing(value):
-    """Tells whether this much of an effect is not told."""
-    return value in ("0", "0:0")
-
-
-def is_within(value, expected):
-    """Tells whether an effect is what is expected: a text, or a number between two."""
-    if isinstance(expected, str):
-        return value == expected
-    return value.isdigit() and expected[0] <= int(value) <= expected[1]
-
-
-def is_within_numbers(text, expected):
-    """Tells whether a text is what is expected, where `<LOW..HIGH>` stands for a number between two."""
-    parts = BETWEEN.split(expected)
-    found = re.fullmatch(r"(\d+)".join(map(re.escape, parts[::3])), text) if len(parts) > 1 else None
-    return found is not None and all(
-        int(low) <= int(number) <= int(high)
-        for number, low, high in zip(found.groups(), parts[1::3], parts[2::3]))
-
-
-def difference_of_effects(expected, words):
-    """Returns what is wrong with the effects of a line, or None: what, expected and found."""
-    names, values = words[::2], words[1::2]
-    if len(names) != len(values) or names != [name for name in EFFECTS if name in names]:
-        return "effects", "each by its name, in their order", " ".join(words)
-    if any(map(is_nothing, values)):
-        return "effects", "no effect that is nothing", " ".join(words)
-    found = dict(zip(names, values))
-    for name in EFFECTS:
-        wanted = expected.get(name, "0")
-        if isinstance(wanted, str) and is_nothing(wanted):
-            wanted = "0"
-        if not is_within(found.get(name, "0"), wanted):
-            return name, str_of(wanted), found.get(name, "0")
+def difference_of_order(printed):
+    """Returns what is wrong with the form of the effects of a line, or None."""
+    effects = printed.partition("; ")[2]
+    names, counts = effects.split()[::2], effects.split()[1::2]
+    if names != [name for name in ORDER if name in names] or len(names) != len(counts):
+        return "effects by their names, in their order", effects
+    if any(count in ("0", "0:0") for count in counts):
+        return "no effect that is nothing", effects
     return None
-
-
-def str_of(wanted):
-    """Returns an expected effect as a text."""
-    return wanted if isinstance(wanted, str) else f"{wanted[0]} to {wanted[1]}"
-
-
-def difference_of_line(expected, printed, record):
-    """Returns what is wrong with a line, or None: what, expected and found. `record` is None without
-    the C library."""
-    text, words = parts_of(printed)
-    if text != expected.text and not is_within_numbers(text, expected.text):
-        return "answer and list", expected.text, text
-    wrong = difference_of_effects(expected.effects, words)
-    if wrong is None and record is not None and record.requests != expected.requests:
-        wrong = "requests", str(expected.requests), str(record.requests)
-    return wrong
 
 
 def difference_of_marks(line, record):
     """Returns what is wrong with the marks of a line, or None. A heading has no window."""
     if record is None:
-        return "marks", "one where the line begins", "none"
+        return "a mark where the line begins", "none"
     if record.windows == 0 and not line.startswith("#"):
-        return "marks", "a window", "none"
+        return "a window", "none"
     return None
 
 
@@ -94,40 +44,42 @@ def forgets(line):
 
 def difference_at_end(lines, ran):
     """Returns what is wrong behind the lines, or None."""
+    last = len(lines) - 1
     if ran.fault:
-        return Difference(len(ran.lines), "end", "status 0", ran.fault)
+        return Difference(len(ran.lines), "an end with status 0", ran.fault)
     if len(ran.lines) != len(lines):
-        return Difference(len(lines) - 1, "lines", str(len(lines)), str(len(ran.lines)))
+        return Difference(last, f"{len(lines)} lines", f"{len(ran.lines)} lines")
     if ran.records is not None and len(ran.records) != len(lines):
-        return Difference(len(lines) - 1, "marks", f"{len(lines)} lines", f"{len(ran.records)} lines")
+        return Difference(last, f"marks of {len(lines)} lines", f"of {len(ran.records)}")
     if ran.blocks and not any(map(forgets, lines)):
-        return Difference(len(lines) - 1, "memory", "all given back", f"{ran.blocks} blocks kept")
+        return Difference(last, "all memory given back", f"{ran.blocks} blocks kept")
     return None
 
 
-def difference_of_call(model, machine, line, printed, record):
-    """Runs a line by the model, and returns what is wrong with what was printed, or None."""
-    told = (None, None) if record is None else (record.requests, record.first_refused())
-    if line.startswith("#"):
-        machine.run(line)
-        return None if printed == line else ("heading", line, printed)
+def difference_of_call(machine, line, printed, record):
+    """Runs a line by the model, and returns what is wrong with what was printed, or None. `record` is
+    None without the C library."""
+    requests, refused = (record.requests, record.first_refused()) if record else (None, None)
     try:
-        return difference_of_line(machine.run(line, *told), printed, record)
+        wanted = machine.run(line, requests, refused)
     except model.Unexpected as refusal:
-        return "requests", f"request {told[1]} to be given", str(refusal)
+        return f"request {refused} to be given", str(refusal)
+    if line.startswith("#"):
+        return None if printed == line else (line, printed)
+    if printed == "unknown":
+        return "a call", printed
+    found = expected.faults(wanted, printed, requests)
+    return found[0] if found else difference_of_order(printed)
 
 
-def first_difference(model, lines, ran):
-    """Returns the first difference between what a program did and what the model says, or None.
-    `model` is the module."""
+def first_difference(lines, ran):
+    """Returns the first difference between what a program did and what the model says, or None."""
     machine = model.Model()
-    records = itertools.repeat(None) if ran.records is None else itertools.chain(
-        ran.records, itertools.repeat(None))
+    counted = ran.records is not None
+    records = itertools.chain(ran.records or (), itertools.repeat(None))
     for number, (line, printed, record) in enumerate(zip(lines, ran.lines, records)):
-        wrong = None if ran.records is None else difference_of_marks(line, record)
-        if printed.startswith("unknown"):
-            wrong = "line", "a call", printed
-        wrong = wrong or difference_of_call(model, machine, line, printed, record)
+        wrong = counted and difference_of_marks(line, record)
+        wrong = wrong or difference_of_call(machine, line, printed, record)
         if wrong:
             return Difference(number, *wrong)
     return difference_at_end(lines, ran)

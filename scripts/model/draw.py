@@ -22,7 +22,7 @@ KEY_COUNTS = (1, 3, 8, 20, 40)
 # Every so many batches there is one of runs of many keys.
 MANY_EVERY, MANY = 20, 5000
 # The numbers of the batches with a run of as many pairs, and the calls on it.
-HUGE = {0: 100_000, 1: 30_000}
+HUGE = {3: 100_000, 7: 30_000}
 HUGE_CALLS = 120
 # Of how many pairs a line is that takes some in.
 PAIRS_OF_LINE = 20_000
@@ -38,7 +38,7 @@ CHANCES = (("", False), ("1/8", False), ("1/50", True), ("1/2", False),
 # The calls that ask for more behind a refused request.
 ASK_AGAIN = {"replay", "cache_replay", "set_extend_refs", "set_new", "cache_new"}
 
-# A batch, which is run in one process: its runs, what is refused, and whether some of it is forgotten.
+# A batch, which is run in one process: its runs, and what is refused.
 Batch = collections.namedtuple("Batch", "runs refusals")
 
 MAP_COMMANDS = (
@@ -136,6 +136,27 @@ def huge_run(rng, pairs):
                     "hash a", "extend_drain b", "drain b ffb", "drop b", "drop a"]
 
 
+def runs_of_batch(number):
+    """Returns how many runs the batch of a number has."""
+    if number in HUGE:
+        return 1
+    return RUNS_OF_MANY if has_many(number) else RUNS_OF_FEW
+
+
+def has_many(number):
+    """Tells whether the runs of the batch of a number have many keys."""
+    return number % MANY_EVERY == MANY_EVERY - 1
+
+
+def batch_numbers(calls):
+    """Returns the numbers of the batches that have at least so many calls."""
+    number = made = 0
+    while made < calls:
+        yield number
+        made += LENGTH * runs_of_batch(number)
+        number += 1
+
+
 def batch(seed, number):
     """Draws the batch of a number."""
     rng = random.Random(f"{seed} {number}")
@@ -144,11 +165,11 @@ def batch(seed, number):
     chance, next_too = CHANCES[number % len(CHANCES)]
     refusals = Refusals(chance, rng.randrange(2**32), next_too, ())
     forgets = number // len(CHANCES) % 2 == 0
-    has_many = number % MANY_EVERY == MANY_EVERY - 1
     runs = []
-    for place in range(RUNS_OF_MANY if has_many else RUNS_OF_FEW):
+    for place in range(runs_of_batch(number)):
         kind = KINDS[(number + place) % len(KINDS)]
-        keys = MANY if has_many else KEY_COUNTS[(number + place // len(KINDS)) % len(KEY_COUNTS)]
+        few = KEY_COUNTS[(number + place // len(KINDS)) % len(KEY_COUNTS)]
+        keys = MANY if has_many(number) else few
         runs.append(Drawing(kind, rng, keys, forgets, not next_too).run(LENGTH))
     return Batch(runs, refusals)
 
