@@ -3,6 +3,7 @@
 import iterators
 from entries import show_refused
 from linked import Linked, Refused
+from memory import Memory
 from maps import debug_text, keeps_pair, write_lent
 from shown import equation, list_pairs, pair_text, some, truth
 
@@ -174,9 +175,11 @@ def into_iter(call, cache):
         call.show("refused")
         return
     call.effects.drop_hasher(copy.hasher)
-    steps = iterators.owned(copy.take_all())
-    iterators.iterate(call, steps, letters, pair_text)
-    iterators.drop_rest(call, steps)
+    iterators.iterate_and_drop(call, copy.take_all(), letters, pair_text)
+
+
+def drain(call, cache):
+    iterators.iterate_and_drop(call, cache.map.take_all(), call.word(), pair_text)
 
 
 def drop(call, cache):
@@ -190,6 +193,9 @@ def debug(call, cache):
 
 
 def new(call, _cache):
+    """Inserts two numbers into a new cache of one pair. Only the first call is counted."""
+    if not Memory().has_room(0, call.effects):
+        call.show("refused")
     call.show(f"{{{call.number()}: 1}}")
 
 
@@ -259,9 +265,9 @@ LINES = {
     "get_mut": get_mut, "contains_key": contains_key, "peek": peek, "peek_mut": peek_mut,
     "remove": remove, "remove_lru": remove_lru, "set_capacity": set_capacity, "clear": clear,
     "retain": retain, "reserve": reserve, "room": room, "len": length, "clone": clone,
-    "into_iter": into_iter, "drop": drop, "debug": debug, "new": new, "replay": replay,
+    "into_iter": into_iter, "drain": drain, "drop": drop, "debug": debug, "new": new, "replay": replay,
     **{name: on_map(iterators.LINES[name])
-       for name in ("iter", "iter_mut", "drain", "loop", "loop_mut")},
+       for name in ("iter", "iter_mut", "loop", "loop_mut")},
 }
 # Lines that change no pair, and no limit.
 READING = {"peek", "reserve", "room", "len", "into_iter", "debug", "new", "iter", "loop"}

@@ -9,40 +9,22 @@ def show_refused(call, refused):
     call.show(f"refused {refused.key}={refused.value} #{refused.key.serial} #{refused.value.serial}")
 
 
-class Given:
-    """The words of an edit: the key's, if there is one, the value, and what further objects are made
-    of."""
-
-    def __init__(self, call, word, value):
-        self.call = call
-        self.word = word
-        self.value = value
-        self.is_used = False
-
-    def next_value(self):
-        """Returns the line's value, and each further time a new one of its number."""
-        if self.is_used:
-            return Value(self.value.number, self.call.serial())
-        self.is_used = True
-        return self.value
-
-
 def insert(call, map_, pair, value):
     """Replaces the value of an entry, which may move, and shows the old one."""
     map_.touch(pair)
     call.show(pair.replace(value))
 
 
-def edit_occupied(call, map_, pair, edit, given):
+def edit_occupied(call, map_, pair, edit, values, word=""):
     """Shows the entry of a pair, and makes an edit by it."""
     call.show(equation(pair))
     if edit in ("w", "m"):
-        pair.replace(given.next_value())
+        pair.replace(values.take())
     elif edit == "i":
-        insert(call, map_, pair, given.next_value())
+        insert(call, map_, pair, values.take())
     elif edit == "t":
-        value = given.next_value()
-        zero = Value(0, call.serial())
+        value = values.take()
+        zero = values.zero()
         insert(call, map_, pair, value)
         insert(call, map_, pair, zero)
     elif edit == "r":
@@ -57,12 +39,12 @@ def edit_occupied(call, map_, pair, edit, given):
     elif edit == "f":
         map_.pairs.move_to_end(pair.key.folded, last=False)
     elif edit == "p":
-        replace_key(call, pair, given)
+        replace_key(call, pair, word)
 
 
-def replace_key(call, pair, given):
+def replace_key(call, pair, word):
     """Stores a key in place of that of an entry, if they are the same. Compares the two."""
-    key = call.key_of(given.word)
+    key = call.key_of(word)
     call.effects.compare_keys(1, 1)
     if key.folded == pair.key.folded:
         old = pair.replace_key(key)
@@ -71,28 +53,28 @@ def replace_key(call, pair, given):
         call.show(f"Err({key} #{key.serial})")
 
 
-def edit_vacant(call, map_, key, edit, given):
+def edit_vacant(call, map_, key, edit, values):
     """Shows the entry of an absent key, and makes an edit by it."""
     call.show("vacant")
     call.show(key)
     if edit == "y":
         call.show(key)
     elif edit in ("i", "m"):
-        insert_vacant(call, map_, key, edit, given)
+        insert_vacant(call, map_, key, edit, values)
     elif edit != "o":
         call.effects.drop_key(key)
 
 
-def insert_vacant(call, map_, key, edit, given):
+def insert_vacant(call, map_, key, edit, values):
     """Inserts a value, or 0 which is then written over."""
-    value = given.value if edit == "i" else Value(0, call.serial())
+    value = values.take() if edit == "i" else values.zero()
     refused = map_.push(key, value, call.effects)
     if refused:
         show_refused(call, refused)
     elif edit == "i":
         call.show(value)
     else:
-        map_.pairs[key.folded].replace(given.value)
+        map_.pairs[key.folded].replace(values.take())
 
 
 def entry(call, map_):
@@ -100,12 +82,12 @@ def entry(call, map_):
     word = call.word()
     key = call.key_of(word)
     edit = call.word()[:1]
-    given = Given(call, word, call.value())
+    values = call.values()
     pair = map_.entry(key, call.effects)
     if pair is None:
-        edit_vacant(call, map_, key, edit, given)
+        edit_vacant(call, map_, key, edit, values)
     else:
-        edit_occupied(call, map_, pair, edit, given)
+        edit_occupied(call, map_, pair, edit, values, word)
 
 
 def entry_key(call, map_):
@@ -117,23 +99,23 @@ def entry_key(call, map_):
         call.effects.drop_key(key)
 
 
-def edit_next(call, map_, edit, given):
+def edit_next(call, map_, edit, values):
     """Makes an edit by the next entry of a visit."""
     pair = map_.next_to_visit()
     if pair is None:
         call.show("end")
     else:
-        edit_occupied(call, map_, pair, edit, given)
+        edit_occupied(call, map_, pair, edit, values)
 
 
 def entries(call, map_):
     """Visits a pair for each letter. What is left then is still to be visited."""
     edits = call.word()
-    given = Given(call, "", call.value())
+    values = call.values()
     map_.visit()
     for edit in edits:
         call.show(len(map_.to_visit))
-        edit_next(call, map_, edit, given)
+        edit_next(call, map_, edit, values)
 
 
 def visit(call, map_):
@@ -143,7 +125,7 @@ def visit(call, map_):
 def next_entry(call, map_):
     """Makes an edit by the next entry of the map's visit."""
     edit = call.word()[:1]
-    edit_next(call, map_, edit, Given(call, "", call.value()))
+    edit_next(call, map_, edit, call.values())
 
 
 def unvisited(call, map_):

@@ -2,13 +2,15 @@
 
 import re
 
-# The counts that stand behind a line, in the order in which they are told.
+# A number of a text that lies between two.
 BETWEEN = re.compile(r"<(\d+)\.\.(\d+)>")
 
 
 def taken_apart(printed):
     """Returns the text of a printed line, and its effects by their names."""
-    text, _, effects = printed.partition("; ")
+    text, between, effects = printed.rpartition("; ")
+    if not between:
+        return printed, {}
     words = effects.split()
     return text, dict(zip(words[::2], words[1::2]))
 

@@ -89,14 +89,14 @@ def iter_values(call, map_):
 
 
 def write_each(call, map_, show):
-    """Makes steps, and writes a number in place of the value that each lends."""
-    letters, number = call.word(), call.number()
+    """Makes steps, and writes another value in place of each that is lent."""
+    letters, given = call.word(), call.values()
     steps = lent(map_, len(letters))
     for letter in letters:
         pair = steps.step(letter)
         call.show("end" if pair is None else show(pair))
         if pair is not None:
-            pair.value.write(number)
+            pair.replace(given.take())
         show_left(call, steps.left)
 
 
@@ -112,6 +112,13 @@ def drop_rest(call, steps):
     """Drops the pairs that an iterator has left."""
     for pair in steps.rest():
         call.effects.drop_pair(pair)
+
+
+def iterate_and_drop(call, pairs, letters, show):
+    """Iterates over pairs that are owned, and drops those left."""
+    steps = owned(pairs)
+    iterate(call, steps, letters, show)
+    drop_rest(call, steps)
 
 
 def clone_rest(call, steps):

@@ -4,7 +4,7 @@ import entries
 import iterators
 import replays
 from linked import Linked, Refused, collected, is_equal
-from memory import made
+from memory import Memory, made
 from objects import Hasher, default_hasher, fold
 from shown import pair_text, quoted, some, truth
 
@@ -272,11 +272,9 @@ def emptied(call, _map):
 
 
 def extend_refs(call, map_):
-    """Extends a map by clones of the pairs of another."""
-    effects = call.effects
-    pairs = ((effects.clone_key(pair.key), effects.clone_value(pair.value))
-             for pair in call.other.pairs.values())
-    refused = map_.extend(pairs, effects)
+    """Extends a map by copies of the pairs of another, which are not counted as clones."""
+    pairs = ((pair.key.clone(), pair.value.clone()) for pair in call.other.pairs.values())
+    refused = map_.extend(pairs, call.effects)
     if refused:
         entries.show_refused(call, refused)
 
@@ -325,15 +323,30 @@ def making(name):
 
 
 def equal(call, map_):
-    for negated in (False, True):
-        call.show(truth(is_equal(map_, call.other, call.effects) != negated))
+    """Shows what `==` and `!=` make of two maps. Only the first is counted."""
+    is_so = is_equal(map_, call.other, call.effects)
+    call.show(truth(is_so))
+    call.show(truth(not is_so))
 
 
-def plain_order(map_, other):
-    """Compares two maps by the numbers of their keys, and then by their values."""
-    mine, its = ([(pair.key.text.number, pair.value.number) for pair in it.pairs.values()]
-                 for it in (map_, other))
-    return (mine > its) - (mine < its)
+def sign(one, other):
+    """Compares two numbers."""
+    return (one > other) - (one < other)
+
+
+def order_of(map_, other, effects, compare_keys):
+    """Compares two maps pair by pair, a key before its value. Where one ends first, it is less."""
+    for pair, against in zip(map_.pairs.values(), other.pairs.values()):
+        effects.add("cmp-keys")
+        order = compare_keys(pair.key, against.key)
+        if order != 0:
+            return order
+        if pair.value.counted:
+            effects.add("cmp-values")
+        order = sign(pair.value.number, against.value.number)
+        if order != 0:
+            return order
+    return sign(len(map_), len(other))
 
 
 def show_order(call, order):
@@ -345,29 +358,17 @@ def show_order(call, order):
 
 
 def compare(call, map_):
-    """Compares maps of the same pairs whose keys are numbers, which are not counted."""
-    order = plain_order(map_, call.other)
+    """Compares by the texts of the keys. Only the first call is counted."""
+    order = order_of(map_, call.other, call.effects,
+                     lambda key, other: sign(key.text.number, other.text.number))
     call.show({-1: "Less", 0: "Equal", 1: "Greater"}[order])
     show_order(call, order)
 
 
-def partial_order(map_, other, effects):
-    """Compares two maps by keys of which no two that differ have an order."""
-    for pair, against in zip(map_.pairs.values(), other.pairs.values()):
-        effects.add("cmp-keys")
-        if pair.key.folded != against.key.folded:
-            return None
-        if pair.value.counted:
-            effects.add("cmp-values")
-        if pair.value.number != against.value.number:
-            return 1 if pair.value.number > against.value.number else -1
-    return (len(map_) > len(other)) - (len(map_) < len(other))
-
-
 def partial_compare(call, map_):
-    """Compares five times: by `partial_cmp` and by each operator."""
-    for _ in range(5):
-        order = partial_order(map_, call.other, call.effects)
+    """Compares by keys of which no two that differ have an order. Only the first call is counted."""
+    order = order_of(map_, call.other, call.effects,
+                     lambda key, other: 0 if key.folded == other.folded else None)
     show_order(call, order)
 
 
@@ -398,8 +399,13 @@ def debug_pretty(call, map_):
 
 
 def new(call, _map):
+    """Inserts a number with itself into a new map of numbers."""
     number = call.number()
-    call.show(f"{{{number}: {number}}}")
+    if Memory().has_room(0, call.effects):
+        call.show(f"{{{number}: {number}}}")
+    else:
+        call.show("refused")
+        call.show("{}")
 
 
 LINES = {

@@ -33,6 +33,27 @@ class Expected:
         self.requests = requests
 
 
+class Values:
+    """The values of one word: first the one that the word made, and then further ones of the same
+    number."""
+
+    __slots__ = ("call", "number", "first")
+
+    def __init__(self, call, first):
+        self.call = call
+        self.number = first.number
+        self.first = first
+
+    def take(self):
+        """Returns the first value, or else a new one."""
+        value, self.first = self.first, None
+        return value or Value(self.number, self.call.serial())
+
+    def zero(self):
+        """Makes a value of the number 0."""
+        return Value(0, self.call.serial())
+
+
 class Call:
     """A line that is run: its words, what the call shows, and its effects. `other` is the one of two
     that the line does not name."""
@@ -80,6 +101,10 @@ class Call:
         """Reads a value."""
         number = self.number()
         return Value(number, self.serial())
+
+    def values(self):
+        """Reads a value, for a call that may take more than one."""
+        return Values(self, self.value())
 
     def hasher(self):
         """Reads a hasher."""

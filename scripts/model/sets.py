@@ -3,7 +3,7 @@
 import iterators
 import maps
 from linked import Linked, Refused, collected
-from memory import made
+from memory import Memory, made
 from objects import UNIT, default_hasher
 from shown import some, truth
 
@@ -69,12 +69,13 @@ def get_or_insert(call, set_):
 
 
 def get_or_insert_with(call, set_):
-    """Of an absent item a clone is made and inserted, which is looked up anew."""
-    item = call.key()
+    """Of an absent item one more is made and inserted, which is looked up anew."""
+    word = call.word()
+    item = call.key_of(word)
     call.effects.drop_closure(call.serial())
     refused = None
     if not set_.find_and_move(item, call.effects):
-        refused = insert_item(call, set_, call.effects.clone_key(item))
+        refused = insert_item(call, set_, call.key_of(word))
     show_back(call, set_, refused)
 
 
@@ -167,11 +168,11 @@ def extend(call, set_):
 
 
 def extend_refs(call, set_):
-    """Inserts clones of the items of another set."""
-    clones = (call.effects.clone_key(pair.key) for pair in call.other.pairs.values())
-    refused = set_.extend(units(clones), call.effects)
-    if refused:
-        show_refused(call, refused)
+    """Inserts copies of the items of another set, one by one. One that is refused is shown."""
+    for pair in call.other.pairs.values():
+        refused = insert_item(call, set_, pair.key.clone())
+        if isinstance(refused, Refused):
+            show_refused(call, refused)
 
 
 def clone(call, _set):
@@ -190,9 +191,11 @@ def made_with(_call, _set):
 
 
 def new(call, _set):
+    """Inserts a number twice into a new set of numbers. Only the first call is counted."""
     number = call.number()
-    call.show("true")
-    call.show("false")
+    is_given = Memory().has_room(0, call.effects)
+    call.show("true" if is_given else "refused")
+    call.show(truth(not is_given))
     call.show(f"{{{number}}}")
 
 
@@ -219,10 +222,7 @@ def key_of(pair):
 
 
 def drain(call, set_):
-    steps = iterators.owned(set_.take_all())
-    iterators.iterate(call, steps, call.word(), key_of)
-    if call.word() != "forget":
-        iterators.drop_rest(call, steps)
+    iterators.iterate_and_drop(call, set_.take_all(), call.word(), key_of)
 
 
 def into_iter(call, set_):
@@ -233,9 +233,7 @@ def into_iter(call, set_):
         call.show("refused")
         return
     call.effects.drop_hasher(copy.hasher)
-    steps = iterators.owned(copy.take_all())
-    iterators.iterate(call, steps, letters, key_of)
-    iterators.drop_rest(call, steps)
+    iterators.iterate_and_drop(call, copy.take_all(), letters, key_of)
 
 
 def loop(call, set_):
