@@ -11,7 +11,7 @@ import sys
 sys.path.insert(0, str(pathlib.Path(__file__).resolve().parent.parent.parent / "compare"))
 
 import calls
-from program import NO_REFUSALS, Refusals
+from program import NO_REFUSALS, Refusals, refusals_at
 
 # Letters of an entry's edits that the originals do not have, beside theirs.
 EDITS = "witrmk" + "bfepoy"
@@ -20,22 +20,28 @@ KINDS = (calls.MAPS, calls.CACHES, calls.MAPS, calls.SETS, calls.MAPS, calls.SES
 # How many keys the runs of a batch have, in turn.
 KEY_COUNTS = (1, 3, 8, 20, 40)
 # Every so many batches there is one of runs of many keys.
-MANY_EVERY, MANY = 20, 5000
+MANY_EVERY, MANY = 15, 5000
 # The numbers of the batches with a run of as many pairs, and the calls on it.
 HUGE = {3: 100_000, 7: 30_000}
 HUGE_CALLS = 120
+# What is refused of one of them: a late request of the line that takes in pairs, behind a heading and
+# the line that makes the map.
+REFUSED_OF_HUGE = {7: refusals_at([(3, 200)])}
 # Of how many pairs a line is that takes some in.
 PAIRS_OF_LINE = 20_000
 # The most keys under the hasher that makes one hash of all.
 MOST_OF_SAME = 200
 # How long a run is, and how many there are of few keys and of many in a batch.
 LENGTH = 100
-RUNS_OF_FEW, RUNS_OF_MANY = 20, 4
+RUNS_OF_FEW, RUNS_OF_MANY = 20, 10
 
 # What is refused, in the batches in turn: each request with a chance, and those behind it too.
 CHANCES = (("", False), ("1/8", False), ("1/50", True), ("1/2", False),
            ("", False), ("1/50", False), ("1/8", True), ("1/2", True))
-# The calls that ask for more behind a refused request.
+# A run of many keys is refused no more, since its map would stay small.
+CHANCES_OF_MANY = (("", False), ("1/50", False))
+# The calls that ask for more behind a refused request. The model is told of one refused request of a
+# line, so these are left out where those behind it are refused too.
 ASK_AGAIN = {"replay", "cache_replay", "set_extend_refs", "set_new", "cache_new"}
 
 # A batch, which is run in one process: its runs, and what is refused.
@@ -161,8 +167,9 @@ def batch(seed, number):
     """Draws the batch of a number."""
     rng = random.Random(f"{seed} {number}")
     if number in HUGE:
-        return Batch([huge_run(rng, HUGE[number])], NO_REFUSALS)
-    chance, next_too = CHANCES[number % len(CHANCES)]
+        return Batch([huge_run(rng, HUGE[number])], REFUSED_OF_HUGE.get(number, NO_REFUSALS))
+    chances = CHANCES_OF_MANY if has_many(number) else CHANCES
+    chance, next_too = chances[number % len(chances)]
     refusals = Refusals(chance, rng.randrange(2**32), next_too, ())
     forgets = number // len(CHANCES) % 2 == 0
     runs = []
@@ -172,8 +179,3 @@ def batch(seed, number):
         keys = MANY if has_many(number) else few
         runs.append(Drawing(kind, rng, keys, forgets, not next_too).run(LENGTH))
     return Batch(runs, refusals)
-
-
-def lines_of(runs, name):
-    """Returns the lines of some runs, each with a heading."""
-    return [line for number, run in enumerate(runs, 1) for line in (f"# {name} {number}", *run)]

@@ -7,8 +7,8 @@
  *                        refused ones; at the end how many marks there were, and what was asked for
  *                        in a window and never given back
  * REFUSE_AT=N,LINE:N,..  refuses the Nth request of all, or the Nth of a line
- * REFUSE_CHANCE=1/20     refuses each with this chance, drawn from REFUSE_SEED=N
- * REFUSE_NEXT_TOO=1      refuses each that comes after a refused one in a line with a chance of 1/2
+ * REFUSE_CHANCE=1/20     refuses each with this chance, drawn from REFUSE_SEED=N, but one of a line
+ * REFUSE_NEXT_TOO=1      refuses each behind that in the line too, with a chance of 1/2
  *
  * It is built without headers: the toolchain has none. glibc has each call under a second name. */
 typedef __SIZE_TYPE__ size_t;
@@ -175,9 +175,9 @@ static int refuses(void)
 {
     all_requests++;
     requests++;
-    int is_refused = is_named() || (out_of && next_random() % out_of < chance);
-    if (refuses_next_too && refused_of_line_count)
-        is_refused |= next_random() % 2;
+    u64 drawn = next_random();
+    int is_refused = is_named() || (refused_of_line_count ? refuses_next_too && drawn % 2
+                                                          : out_of && drawn % out_of < chance);
     if (is_refused && refused_of_line_count < MOST_OF_LINE)
         refused_of_line[refused_of_line_count++] = requests;
     return is_refused;
