@@ -1,5 +1,5 @@
-"""Runs of calls, drawn at random: the calls that the originals have, which compare/run draws, and our
-own ones, which only scripts/model-tests draws too."""
+"""Runs of calls, drawn at random: the calls that the originals have, which compare/run draws, and
+our own ones, which only scripts/model-tests draws too."""
 
 import collections
 
@@ -222,8 +222,8 @@ RARE_SESSION_CALLS = (
 
 # A kind: what its calls begin with, the call that makes a new one and the forms of its words, the
 # form of what it takes in, and its calls: those that leave most of it, those that print all of it,
-# and those after which little is left of it, or all of it is another. The last two are our own calls:
-# those that leave most of it, and the others.
+# and those after which little is left of it, or all of it is another. The last two are our own
+# calls: those that leave most of it, and the others.
 Kind = collections.namedtuple(
     "Kind", "prefix first first_forms many calls long_calls rare_calls own_calls rare_own_calls")
 MAPS = Kind("", "with_hasher", "hasher", "pairs", MAP_CALLS, LONG_MAP_CALLS, RARE_MAP_CALLS,

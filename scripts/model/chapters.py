@@ -30,7 +30,7 @@ def lines_of(chapters):
 
 
 def place_of(chapters, number):
-    """Returns in which of some chapters a line of `lines_of` is, and its number there, from 0 on."""
+    """Returns in which of some chapters a line of `lines_of` is, and its number there."""
     for place, chapter in enumerate(chapters):
         if number <= len(chapter.lines):
             return place, number - 1
@@ -39,8 +39,8 @@ def place_of(chapters, number):
 
 
 def told(chapters, difference, refused=()):
-    """Returns a text of what differs in one of some chapters. Of each chapter a request was refused,
-    which `refused` has: the place of its line and its number there."""
+    """Returns a text of what differs in one of some chapters. Of each chapter a request was
+    refused, which `refused` has: the place of its line and its number there."""
     place, at = place_of(chapters, difference.number)
     chapter = chapters[place]
     line = chapter.lines[at] if at >= 0 else f"# {chapter.name}"

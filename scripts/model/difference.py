@@ -57,8 +57,8 @@ def difference_at_end(lines, ran):
 
 
 def difference_of_call(machine, line, printed, record):
-    """Runs a line by the model, and returns what is wrong with what was printed, or None. `record` is
-    None without the C library."""
+    """Runs a line by the model, and returns what is wrong with what was printed, or None. `record`
+    is None without the C library."""
     requests, refused = (record.requests, record.first_refused()) if record else (None, None)
     try:
         wanted = machine.run(line, requests, refused)

@@ -1,5 +1,5 @@
-"""Random runs for scripts/model-tests: of maps, caches, sets and tables of sessions, of few keys and of
-many, with and without refused memory.
+"""Random runs for scripts/model-tests: of maps, caches, sets and tables of sessions, of few keys
+and of many, with and without refused memory.
 
 The calls, how often each comes and the forms of its words are in compare/calls.py."""
 
@@ -24,8 +24,8 @@ MANY_EVERY, MANY = 15, 5000
 # The numbers of the batches with a run of as many pairs, and the calls on it.
 HUGE = {3: 100_000, 7: 30_000}
 HUGE_CALLS = 120
-# What is refused of one of them: a late request of the line that takes in pairs, behind a heading and
-# the line that makes the map.
+# What is refused of one of them: a late request of the line that takes in pairs, behind a heading
+# and the line that makes the map.
 REFUSED_OF_HUGE = {7: refusals_at([(3, 200)])}
 # Of how many pairs a line is that takes some in.
 PAIRS_OF_LINE = 20_000
@@ -40,8 +40,8 @@ CHANCES = (("", False), ("1/8", False), ("1/50", True), ("1/2", False),
            ("", False), ("1/50", False), ("1/8", True), ("1/2", True))
 # A run of many keys is refused no more, since its map would stay small.
 CHANCES_OF_MANY = (("", False), ("1/50", False))
-# The calls that ask for more behind a refused request. The model is told of one refused request of a
-# line, so these are left out where those behind it are refused too.
+# The calls that ask for more behind a refused request. The model is told of one refused request of
+# a line, so these are left out where those behind it are refused too.
 ASK_AGAIN = {"replay", "cache_replay", "set_extend_refs", "set_new", "cache_new"}
 
 # A batch, which is run in one process: its runs, and what is refused.

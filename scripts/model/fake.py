@@ -7,8 +7,8 @@ from effects import ORDER
 from expected import BETWEEN
 from program import NO_REFUSALS, Ran, Record
 
-# The chapters of the self-test. Most faults are planted at the line AT, or at FOUND, whose key shares
-# its hash with three others.
+# The chapters of the self-test. Most faults are planted at the line AT, or at FOUND, whose key
+# shares its hash with three others.
 STDIN = """# first
 with_hasher a letter
 insert a x 1
@@ -44,14 +44,15 @@ def printed_of(wanted):
 
 
 class Fake:
-    """The driver. A fault takes each line with what is printed of it and its record, and returns what
-    is there in their place, or None. `blocks` are left at the end, and `status` is what is wrong."""
+    """The driver. A fault takes each line with what is printed of it and its record, and returns
+    what is there in their place, or None. `blocks` are left at the end, and `status` tells how it
+    ended."""
 
     def __init__(self, fault=None, blocks=0, status=""):
         self.fault, self.blocks, self.status = fault, blocks, status
 
     def run(self, lines, refusals=NO_REFUSALS):
-        """Runs some lines, and returns what the driver did. Only requests that are named are refused."""
+        """Runs some lines, and returns what the driver did. Only named requests are refused."""
         machine, at, rows = model.Model(), dict(refusals.at), []
         for number, line in enumerate(lines, 1):
             wanted = machine.run(line, None, at.get(number))
@@ -64,7 +65,8 @@ class Fake:
 
 def prints(old, new, at=AT):
     """Returns the fault of a line of which something else is printed."""
-    return lambda line, printed, record: (re.sub(old, new, printed) if line == at else printed, record)
+    return lambda line, printed, record: (
+        re.sub(old, new, printed) if line == at else printed, record)
 
 
 def compares(count):
@@ -74,7 +76,8 @@ def compares(count):
 
 def records(at=AT, **changes):
     """Returns the fault of a line that asks for memory otherwise, or has no window."""
-    return lambda line, printed, record: (printed, record._replace(**changes) if line == at else record)
+    return lambda line, printed, record: (
+        printed, record._replace(**changes) if line == at else record)
 
 
 def asks_again(_line, printed, record):
@@ -94,7 +97,7 @@ def has_no_mark(line, printed, record):
 
 def moves_wrongly(line, printed, record):
     """The fault of a call that only random runs have."""
-    return re.sub(r"\|", "wrong |", printed, count=1) if line.startswith("move_to_back") else printed, record
+    return printed.replace("|", "wrong |") if line.startswith("move_to_back") else printed, record
 
 
 # The faults, each with the status of the tests and what of the driver is otherwise.
@@ -111,7 +114,7 @@ FAULTS = (
     ("a key that is not compared", 1, {"fault": compares(0)}),
     ("a key that is compared as often as may be", 0, {"fault": compares(3)}),
     ("a key that is compared more often", 1, {"fault": compares(4)}),
-    ("effects in another order", 1, {"fault": prints(r"(drop-keys \S+) (hash-keys \S+)", r"\2 \1")}),
+    ("effects in another order", 1, {"fault": prints(r"(drop\S+ \S+) (hash\S+ \S+)", r"\2 \1")}),
     ("an effect that no line has", 1, {"fault": prints("$", " copy-keys 1")}),
     ("an effect of nothing", 1, {"fault": prints("$", " cmp-keys 0")}),
     ("a request more", 1, {"fault": records(requests=1)}),

@@ -50,8 +50,8 @@ def refusals_at(pairs):
 
 
 def build_library(folder):
-    """Builds the C library into a folder with the compiler of the toolchain, and returns where it is,
-    or None and what the compiler says."""
+    """Builds the C library into a folder with the compiler of the toolchain, and returns where it
+    is, or None and what the compiler says."""
     rt = shutil.which("rt")
     if not rt:
         return None, "put rt, the command of the Rattle kit, on the PATH"
@@ -65,8 +65,8 @@ def build_library(folder):
 
 
 def read_log(text):
-    """Takes apart what the C library wrote: a record for each line, and how many blocks are left, or
-    None where the end is missing."""
+    """Takes apart what the C library wrote: a record for each line, and how many blocks are left,
+    or None where the end is missing."""
     records, blocks = [], None
     for line in text.splitlines():
         words = line.split()
@@ -96,9 +96,9 @@ class Driver:
             except subprocess.TimeoutExpired:
                 return Ran([], None, 0, f"it has not ended after {SECONDS} s")
             records, blocks = read_log(log.read_text() if log.exists() else "")
-        fault = "" if ran.returncode == 0 else f"it ended with status {ran.returncode}: {ran.stderr[:200]!r}"
-        if blocks is None:
-            fault = fault or "the C library was not at its end"
+        fault = "" if blocks is not None else "the C library wrote nothing at its end"
+        if ran.returncode != 0:
+            fault = f"it ended with status {ran.returncode}: {ran.stderr[:200]!r}"
         printed = ran.stdout.decode(errors="replace").split("\n")[:-1]
         return Ran(printed, records, blocks or 0, fault)
 

@@ -1,11 +1,12 @@
 /* Counts the requests for memory that a program makes, and refuses some of them. The program is run
- * with this library preloaded, and asks for blocks of certain sizes as marks: 4240 bytes where a line
- * begins, 4242 where a window opens and 4243 where it closes. Only requests within a window count.
+ * with this library preloaded, and asks for blocks of certain sizes as marks: 4240 bytes where a
+ * line begins, 4242 where a window opens and 4243 where it closes. Only requests within a window
+ * count.
  *
- * REQUESTS_LOG=FILE      what is written: for each line how many requests it made, the number of the
- *                        first refused or 0, how many windows it had, and the numbers of further
- *                        refused ones; at the end how many marks there were, and what was asked for
- *                        in a window and never given back
+ * REQUESTS_LOG=FILE      what is written: for each line how many requests it made, the number of
+ *                        the first refused or 0, how many windows it had, and the numbers of the
+ *                        others refused; at the end how many marks there were, and what was asked
+ *                        for in a window and never given back
  * REFUSE_AT=N,LINE:N,..  refuses the Nth request of all, or the Nth of a line
  * REFUSE_CHANCE=1/20     refuses each with this chance, drawn from REFUSE_SEED=N, but one of a line
  * REFUSE_NEXT_TOO=1      refuses each behind that in the line too, with a chance of 1/2

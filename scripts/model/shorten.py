@@ -64,5 +64,6 @@ def told(driver, lines, ran, difference):
             cut = shortened(driver, cut)
             rows = [line + "".join(f"   (request {it} refused)" for it in refused)
                     for line, refused in cut]
-            return "\n    ".join([f"a run of {len(cut)} lines:", *rows, difference_of(driver, cut).text()])
+            text = difference_of(driver, cut).text()
+            return "\n    ".join([f"a run of {len(cut)} lines:", *rows, text])
     return f"{whole[-1][0]}\n    {difference.text()}\n    (no shorter run shows it)"
