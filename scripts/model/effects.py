@@ -11,12 +11,12 @@ ORDER = (
 
 
 class Effects:
-    """The counts of a line. `requests` counts what asks for memory, of which the one of the number
-    `refused` is refused."""
+    """The counts of a line. `requests` counts what asks for memory, of which those of the numbers
+    `refused` are refused."""
 
     __slots__ = ("counts", "drops", "least", "most", "requests", "refused")
 
-    def __init__(self, refused=None):
+    def __init__(self, refused=()):
         self.counts = {}
         self.drops = {}
         # Between these two are the comparisons of keys.
@@ -27,7 +27,7 @@ class Effects:
     def ask(self):
         """Asks for memory, and returns whether it is given."""
         self.requests += 1
-        return self.requests != self.refused
+        return self.requests not in self.refused
 
     def add(self, name, count=1):
         """Counts an effect."""

@@ -360,7 +360,7 @@ def show_order(call, order):
 def compare(call, map_):
     """Compares by the texts of the keys. Only the first call is counted."""
     order = order_of(map_, call.other, call.effects,
-                     lambda key, other: sign(key.text.number, other.text.number))
+                     lambda key, other: sign(key.number, other.number))
     call.show({-1: "Less", 0: "Equal", 1: "Greater"}[order])
     show_order(call, order)
 

@@ -193,16 +193,18 @@ class Model:
         return self.maps, name
 
     def run(self, line, requests=None, refused=None):
-        """Runs a line, of which the request for memory of the number `refused` is refused."""
+        """Runs a line, of which the request for memory of the number `refused` is refused, or those
+        of several numbers."""
         if line.startswith("#"):
             self.begin()
             return Expected(line)
+        refused = (refused,) if isinstance(refused, int) else tuple(refused or ())
         call = Call(line.split(), self, refused)
         kind, name = self.kind_of(call.word())
         text = kind.run(call, name)
         if text is None:
             return Expected("unknown")
         made = call.effects.requests
-        if refused is not None and made < refused:
-            raise Unexpected(f"request {refused} was refused, and {made} are made")
+        if refused and made < max(refused):
+            raise Unexpected(f"request {max(refused)} was refused, and {made} are made")
         return Expected(text, call.effects.table(), made)
