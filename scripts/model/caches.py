@@ -247,7 +247,7 @@ COMMANDS = {
 
 def replay(call, cache):
     """The answers are asked for first. If that is refused, no command is run."""
-    readers = {"key": call.key, "value": call.value, "number": call.number}
+    readers = {"key": call.key, "value": call.value, "number": call.small_number}
     commands = []
     while name := call.word():
         if name in COMMANDS:

@@ -43,8 +43,9 @@ def edit_occupied(call, map_, pair, edit, values, word=""):
 
 
 def replace_key(call, pair, word):
-    """Stores a key in place of that of an entry, if they are the same. Compares the two."""
-    key = call.key_of(word)
+    """Stores a key in place of that of an entry, if they are the same. Compares the two. The key is
+    that of the line made again, or the stored one if the line has none."""
+    key = call.key_of(word or pair.key.shown)
     call.effects.compare_keys(1, 1)
     if key.folded == pair.key.folded:
         old = pair.replace_key(key)

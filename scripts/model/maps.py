@@ -194,7 +194,7 @@ def move_to_front(call, map_):
 
 def rotate_left(call, map_):
     """The count is at most the length."""
-    map_.rotate(min(call.number(), len(map_)))
+    map_.rotate(min(call.small_number(), len(map_)))
 
 
 def mode(call, map_):
