@@ -6,7 +6,8 @@ from shown import equation, pair_text
 
 def show_refused(call, refused):
     """Shows what a refused insertion hands back."""
-    call.show(f"refused {refused.key}={refused.value} #{refused.key.serial} #{refused.value.serial}")
+    key, value = refused.key, refused.value
+    call.show(f"refused {key}={value} #{key.serial} #{value.serial}")
 
 
 def insert(call, map_, pair, value):

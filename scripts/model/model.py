@@ -1,4 +1,4 @@
-"""The plain model of what the driver does: each line's answer, list, effects and requests for memory.
+"""The plain model of the driver: each line's answer, list, effects and requests for memory.
 
 `Model.run` takes a line and returns an `Expected`."""
 
@@ -55,8 +55,8 @@ class Values:
 
 
 class Call:
-    """A line that is run: its words, what the call shows, and its effects. `other` is the one of two
-    that the line does not name."""
+    """A line that is run: its words, what the call shows, and its effects. `other` is the one of
+    two that the line does not name."""
 
     __slots__ = ("words", "model", "effects", "shown", "other")
 
@@ -144,7 +144,7 @@ class Kind:
         self.texts = [None, None]
 
     def run(self, call, name):
-        """Runs the call of a name, and returns its whole text, or `None` if there is no such call."""
+        """Runs the call of a name, and returns its text, or `None` if there is no such call."""
         line = self.lines.get(name)
         if line is None:
             return None

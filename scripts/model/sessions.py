@@ -1,5 +1,5 @@
-"""The lines of a table of sessions: each has an id, a weight and a payload, and the weights sum to at
-most a limit. Ids are not counted."""
+"""The lines of a table of sessions: each has an id, a weight and a payload, and the weights sum to
+at most a limit. Ids are not counted."""
 
 import collections
 import itertools

@@ -2,7 +2,7 @@
 
 import iterators
 import maps
-from linked import Linked, Refused, collected
+from linked import Linked, Refused
 from memory import Memory, made
 from objects import UNIT, default_hasher
 from shown import some, truth
