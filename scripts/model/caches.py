@@ -247,7 +247,7 @@ COMMANDS = {
 
 def replay(call, cache):
     """The answers are asked for first. If that is refused, no command is run."""
-    readers = {"key": call.key, "value": call.value, "number": call.number}
+    readers = {"key": call.key, "value": call.value, "number": call.small_number}
     commands = []
     while name := call.word():
         if name in COMMANDS:
@@ -265,7 +265,8 @@ LINES = {
     "get_mut": get_mut, "contains_key": contains_key, "peek": peek, "peek_mut": peek_mut,
     "remove": remove, "remove_lru": remove_lru, "set_capacity": set_capacity, "clear": clear,
     "retain": retain, "reserve": reserve, "room": room, "len": length, "clone": clone,
-    "into_iter": into_iter, "drain": drain, "drop": drop, "debug": debug, "new": new, "replay": replay,
+    "into_iter": into_iter, "drain": drain, "drop": drop, "debug": debug, "new": new,
+    "replay": replay,
     **{name: on_map(iterators.LINES[name])
        for name in ("iter", "iter_mut", "loop", "loop_mut")},
 }

@@ -4,19 +4,19 @@ from objects import MASK
 
 # The effects in the order in which a line shows them.
 ORDER = (
-    "drop-keys", "drop-values", "drop-hashers", "drop-closures", "hash-keys", "eq-keys", "eq-values",
-    "cmp-keys", "cmp-values", "clone-keys", "clone-values", "clone-hashers", "build-hashers",
-    "hash-values",
+    "drop-keys", "drop-values", "drop-hashers", "drop-closures", "hash-keys", "eq-keys",
+    "eq-values", "cmp-keys", "cmp-values", "clone-keys", "clone-values", "clone-hashers",
+    "build-hashers", "hash-values",
 )
 
 
 class Effects:
-    """The counts of a line. `requests` counts what asks for memory, of which the one of the number
-    `refused` is refused."""
+    """The counts of a line. `requests` counts what asks for memory, of which those of the numbers
+    `refused` are refused."""
 
     __slots__ = ("counts", "drops", "least", "most", "requests", "refused")
 
-    def __init__(self, refused=None):
+    def __init__(self, refused=()):
         self.counts = {}
         self.drops = {}
         # Between these two are the comparisons of keys.
@@ -27,7 +27,7 @@ class Effects:
     def ask(self):
         """Asks for memory, and returns whether it is given."""
         self.requests += 1
-        return self.requests != self.refused
+        return self.requests not in self.refused
 
     def add(self, name, count=1):
         """Counts an effect."""
@@ -90,10 +90,11 @@ class Effects:
         return hasher.clone()
 
     def table(self):
-        """Returns what each effect is, as a line shows it, or as a pair of the least and the most."""
+        """Returns each effect as a line shows it, or as a pair of the least and the most."""
         found = {name: str(count) for name, count in self.counts.items() if count}
         for name, (count, total) in self.drops.items():
             found[name] = f"{count}:{total & MASK}"
         if self.most:
-            found["eq-keys"] = str(self.most) if self.least == self.most else (self.least, self.most)
+            is_exact = self.least == self.most
+            found["eq-keys"] = str(self.most) if is_exact else (self.least, self.most)
         return found

@@ -6,7 +6,8 @@ from shown import equation, pair_text
 
 def show_refused(call, refused):
     """Shows what a refused insertion hands back."""
-    call.show(f"refused {refused.key}={refused.value} #{refused.key.serial} #{refused.value.serial}")
+    key, value = refused.key, refused.value
+    call.show(f"refused {key}={value} #{key.serial} #{value.serial}")
 
 
 def insert(call, map_, pair, value):
@@ -43,8 +44,9 @@ def edit_occupied(call, map_, pair, edit, values, word=""):
 
 
 def replace_key(call, pair, word):
-    """Stores a key in place of that of an entry, if they are the same. Compares the two."""
-    key = call.key_of(word)
+    """Stores a key in place of that of an entry, if they are the same. Compares the two. The key is
+    that of the line made again, or the stored one if the line has none."""
+    key = call.key_of(word or pair.key.shown)
     call.effects.compare_keys(1, 1)
     if key.folded == pair.key.folded:
         old = pair.replace_key(key)

@@ -47,7 +47,8 @@ def faults(expected, printed, requests=None):
     for name in sorted(expected.effects.keys() | effects.keys()):
         wanted = expected.effects.get(name)
         if not is_count(wanted, effects.get(name)):
-            found.append((f"{name} {count_text(wanted or 'none')}", f"{name} {effects.get(name, 'none')}"))
+            shown = effects.get(name, "none")
+            found.append((f"{name} {count_text(wanted or 'none')}", f"{name} {shown}"))
     if requests is not None and requests != expected.requests:
         found.append((f"requests {expected.requests}", f"requests {requests}"))
     return found

@@ -1,4 +1,4 @@
-"""A map that keeps its pairs in order, as plainly as can be: what each call returns, leaves and does.
+"""A map that keeps its pairs in order: what each call returns, leaves and does.
 
 A call takes the effects of its line, and counts in them what the documentation of the call says."""
 
@@ -39,8 +39,8 @@ class Refused:
 
 
 class Linked:
-    """The pairs in order, by what their keys are looked up by. `alike` counts the keys of each hash.
-    `to_visit` has the pairs still to be visited, the next one last."""
+    """The pairs in order, by what their keys are looked up by. `alike` counts the keys of each
+    hash. `to_visit` has the pairs still to be visited, the next one last."""
 
     __slots__ = ("pairs", "hasher", "alike", "keeps", "to_visit", "memory")
 
@@ -245,8 +245,8 @@ class Linked:
 
 
 def collected(pairs, effects, reserved=0):
-    """Returns a map with the default hasher of some pairs, or `None` if it is refused: then what was
-    taken is dropped. It has room for so many pairs at first."""
+    """Returns a map with the default hasher of some pairs, or `None` if it is refused: then what
+    was taken is dropped. It has room for so many pairs at first."""
     memory = made(reserved, effects)
     if memory is None:
         return None

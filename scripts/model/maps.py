@@ -1,11 +1,11 @@
-"""The lines of a map. Each function makes a call, and returns a map if that takes the place of it."""
+"""The lines of a map. Each function makes a call, and may return a map that takes its place."""
 
 import entries
 import iterators
 import replays
 from linked import Linked, Refused, collected, is_equal
 from memory import Memory, made
-from objects import Hasher, default_hasher, fold
+from objects import default_hasher, fold
 from shown import pair_text, quoted, some, truth
 
 # Lookups, and writes of one value.
@@ -59,15 +59,16 @@ def get_refresh(call, map_):
 
 
 def get_counted(call, map_):
-    """The counts of an absent key are all nodes of its bucket and all keys with its hash, those of a
-    present one are no more and at least one."""
+    """The counts of an absent key are all nodes of its bucket and all keys with its hash, those of
+    a present one are no more and at least one."""
     key = call.key()
     same = map_.same(key)
     beside = count_beside(map_, key)
     pair = map_.find(key, call.effects)
     least, reached = (1, 1) if pair else (same, beside)
     visited, compared = call.between(reached, beside), call.between(least, same)
-    call.show(f"({some(pair and pair.value)}, Probe {{ visited: {visited}, compared: {compared} }})")
+    probe = f"Probe {{ visited: {visited}, compared: {compared} }}"
+    call.show(f"({some(pair and pair.value)}, {probe})")
 
 
 def count_beside(map_, key):
@@ -194,7 +195,7 @@ def move_to_front(call, map_):
 
 def rotate_left(call, map_):
     """The count is at most the length."""
-    map_.rotate(min(call.number(), len(map_)))
+    map_.rotate(min(call.small_number(), len(map_)))
 
 
 def mode(call, map_):
@@ -360,13 +361,13 @@ def show_order(call, order):
 def compare(call, map_):
     """Compares by the texts of the keys. Only the first call is counted."""
     order = order_of(map_, call.other, call.effects,
-                     lambda key, other: sign(key.text.number, other.text.number))
+                     lambda key, other: sign(key.number, other.number))
     call.show({-1: "Less", 0: "Equal", 1: "Greater"}[order])
     show_order(call, order)
 
 
 def partial_compare(call, map_):
-    """Compares by keys of which no two that differ have an order. Only the first call is counted."""
+    """Compares by keys that have no order if they differ. Only the first call is counted."""
     order = order_of(map_, call.other, call.effects,
                      lambda key, other: 0 if key.folded == other.folded else None)
     show_order(call, order)
@@ -425,8 +426,8 @@ LINES = {
 }
 # Lines that change no pair.
 READING = {
-    "get", "get_key_value", "contains_key", "index", "get_counted", "front", "back", "len", "hasher",
-    "mode", "set_mode", "capacity", "rechained", "reserve", "shrink_to_fit", "eq", "cmp",
-    "partial_cmp", "hash", "debug", "debug_pretty", "new", "entry_key", "visit", "unvisited", "iter",
-    "keys", "values", "loop",
+    "get", "get_key_value", "contains_key", "index", "get_counted", "front", "back", "len",
+    "hasher", "mode", "set_mode", "capacity", "rechained", "reserve", "shrink_to_fit", "eq", "cmp",
+    "partial_cmp", "hash", "debug", "debug_pretty", "new", "entry_key", "visit", "unvisited",
+    "iter", "keys", "values", "loop",
 }

@@ -41,8 +41,8 @@ def is_given_buckets(count, effects):
 
 
 class Memory:
-    """The capacity, the buckets, the nodes and the chunks of a map, and how many nodes rehashes have
-    moved since the capacity was lowered."""
+    """The capacity, the buckets, the nodes and the chunks of a map, and how many nodes rehashes
+    have moved since the capacity was lowered."""
 
     __slots__ = ("capacity", "buckets", "nodes", "chunks", "places", "rechained")
 

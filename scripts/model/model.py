@@ -1,4 +1,4 @@
-"""The plain model of what the driver does: each line's answer, list, effects and requests for memory.
+"""The plain model of the driver: each line's answer, list, effects and requests for memory.
 
 `Model.run` takes a line and returns an `Expected`."""
 
@@ -55,8 +55,8 @@ class Values:
 
 
 class Call:
-    """A line that is run: its words, what the call shows, and its effects. `other` is the one of two
-    that the line does not name."""
+    """A line that is run: its words, what the call shows, and its effects. `other` is the one of
+    two that the line does not name."""
 
     __slots__ = ("words", "model", "effects", "shown", "other")
 
@@ -144,7 +144,7 @@ class Kind:
         self.texts = [None, None]
 
     def run(self, call, name):
-        """Runs the call of a name, and returns its whole text, or `None` if there is no such call."""
+        """Runs the call of a name, and returns its text, or `None` if there is no such call."""
         line = self.lines.get(name)
         if line is None:
             return None
@@ -193,16 +193,18 @@ class Model:
         return self.maps, name
 
     def run(self, line, requests=None, refused=None):
-        """Runs a line, of which the request for memory of the number `refused` is refused."""
+        """Runs a line, of which the request for memory of the number `refused` is refused, or those
+        of several numbers."""
         if line.startswith("#"):
             self.begin()
             return Expected(line)
+        refused = (refused,) if isinstance(refused, int) else tuple(refused or ())
         call = Call(line.split(), self, refused)
         kind, name = self.kind_of(call.word())
         text = kind.run(call, name)
         if text is None:
             return Expected("unknown")
         made = call.effects.requests
-        if refused is not None and made < refused:
-            raise Unexpected(f"request {refused} was refused, and {made} are made")
+        if refused and made < max(refused):
+            raise Unexpected(f"request {max(refused)} was refused, and {made} are made")
         return Expected(text, call.effects.table(), made)

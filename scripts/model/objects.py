@@ -1,6 +1,7 @@
 """Keys, values and hashers, as the driver makes them of words, each with its identity."""
 
 import functools
+import operator
 
 MASK = 2**64 - 1
 # An odd number whose multiples have changing bits up to the highest.
@@ -41,13 +42,15 @@ def text_of(word):
 
 
 class Key:
-    """A key. What it is looked up by is `folded`."""
+    """A key. What it is looked up by is `folded`, and `number` has the order of the texts."""
 
-    __slots__ = ("text", "folded", "serial")
+    __slots__ = ("text", "shown", "folded", "number", "serial")
 
     def __init__(self, text, serial):
         self.text = text
+        self.shown = text.shown
         self.folded = text.folded
+        self.number = text.number
         self.serial = serial
 
     def clone(self):
@@ -55,7 +58,7 @@ class Key:
         return Key(self.text, self.serial + CLONED)
 
     def __str__(self):
-        return self.text.shown
+        return self.shown
 
 
 class Value:
@@ -89,16 +92,17 @@ UNIT = Value(0, 0, counted=False)
 class Hasher:
     """What makes the hashers of a map. One that `Default` made is not counted."""
 
-    __slots__ = ("choice", "serial", "counted")
+    __slots__ = ("choice", "serial", "counted", "hash_of_text")
 
     def __init__(self, choice, serial, counted=True):
         self.choice = choice if choice in ("same", "letter", "wide") else "spread"
+        self.hash_of_text = operator.attrgetter(self.choice)
         self.serial = serial
         self.counted = counted
 
     def hash_of(self, key):
         """Returns the hash of a key."""
-        return getattr(key.text, self.choice)
+        return self.hash_of_text(key.text)
 
     def clone(self):
         """Returns a clone."""

@@ -24,10 +24,10 @@ def read(call):
 def read_one(call, form):
     """Reads what a command is handed."""
     if form == "pairs":
-        return [(call.key(), call.value()) for _ in range(call.number())]
+        return [(call.key(), call.value()) for _ in range(call.small_number())]
     if form == "mode":
         return call.word() == "keep"
-    return {"key": call.key, "value": call.value, "number": call.number}[form]()
+    return {"key": call.key, "value": call.value, "number": call.small_number}[form]()
 
 
 def lists(pairs):

@@ -1,5 +1,5 @@
-"""The lines of a table of sessions: each has an id, a weight and a payload, and the weights sum to at
-most a limit. Ids are not counted."""
+"""The lines of a table of sessions: each has an id, a weight and a payload, and the weights sum to
+at most a limit. Ids are not counted."""
 
 import collections
 import itertools
@@ -75,13 +75,14 @@ def show_session(session):
     return f" {session.id}:{session.weight}:{session.payload.number}"
 
 
-def mix_session(session):
-    return session.id ^ session.weight * SPREAD % 2**64 ^ session.payload.number
+def mix_sessions(sessions):
+    return [session.id ^ session.weight * SPREAD % 2**64 ^ session.payload.number
+            for session in sessions]
 
 
 def tail(table):
     """Shows the total and the list."""
-    return f"| {table.total} |" + list_text(table.sessions.values(), show_session, mix_session)
+    return f"| {table.total} |" + list_text(table.sessions.values(), show_session, mix_sessions)
 
 
 def new(call, _table):

@@ -2,7 +2,7 @@
 
 import iterators
 import maps
-from linked import Linked, Refused, collected
+from linked import Linked, Refused
 from memory import Memory, made
 from objects import UNIT, default_hasher
 from shown import some, truth
@@ -129,7 +129,7 @@ def pop_back(call, set_):
 def retain(call, set_):
     number = call.number() % 7
     call.effects.drop_closure(call.serial())
-    set_.retain(lambda pair: pair.key.text.number % 7 != number, call.effects)
+    set_.retain(lambda pair: pair.key.number % 7 != number, call.effects)
 
 
 # Sets that are made, and those that take items in.

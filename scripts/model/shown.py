@@ -39,40 +39,40 @@ def digest(mixes):
     return sum(map(operator.mul, itertools.count(1), mixes)) & MASK
 
 
-def list_text(items, show, mix):
+def list_text(items, show, mix_all):
     """Shows a list: whole, or its ends and a digest. `items` is a view in order."""
     length = len(items)
     if length <= WHOLE:
         return f" {length}" + "".join(map(show, items))
     first, last = next(iter(items)), next(reversed(items))
-    return f" {length}{show(first)}{show(last)} {digest(map(mix, items))}"
+    return f" {length}{show(first)}{show(last)} {digest(mix_all(items))}"
 
 
 def show_pair(pair):
     """Shows a pair of a list."""
-    return f" {pair.key.text.shown}:{pair.value.number}"
+    return f" {pair.key.shown}:{pair.value.number}"
 
 
-def mix_pair(pair):
-    """Mixes a pair for a digest."""
-    return pair.key.text.number ^ pair.value.mix
+def mix_pairs(pairs):
+    """Mixes pairs for a digest."""
+    return [pair.key.number ^ pair.value.mix for pair in pairs]
 
 
 def show_item(pair):
     """Shows an item of a set."""
-    return " " + pair.key.text.shown
+    return " " + pair.key.shown
 
 
-def mix_item(pair):
-    """Mixes an item of a set for a digest."""
-    return pair.key.text.number
+def mix_items(pairs):
+    """Mixes the items of a set for a digest."""
+    return [pair.key.number for pair in pairs]
 
 
 def list_pairs(map_):
     """Shows the pairs of a map."""
-    return list_text(map_.pairs.values(), show_pair, mix_pair)
+    return list_text(map_.pairs.values(), show_pair, mix_pairs)
 
 
 def list_items(map_):
     """Shows the items of the map of a set."""
-    return list_text(map_.pairs.values(), show_item, mix_item)
+    return list_text(map_.pairs.values(), show_item, mix_items)
