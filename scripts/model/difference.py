@@ -59,11 +59,11 @@ def difference_at_end(lines, ran):
 def difference_of_call(machine, line, printed, record):
     """Runs a line by the model, and returns what is wrong with what was printed, or None. `record`
     is None without the C library."""
-    requests, refused = (record.requests, record.first_refused()) if record else (None, None)
+    requests, refused = (record.requests, record.refused) if record else (None, ())
     try:
         wanted = machine.run(line, requests, refused)
     except model.Unexpected as refusal:
-        return f"request {refused} to be given", str(refusal)
+        return "requests that are refused to be made", str(refusal)
     if line.startswith("#"):
         return None if printed == line else (line, printed)
     if printed == "unknown":

@@ -40,10 +40,6 @@ CHANCES = (("", False), ("1/8", False), ("1/50", True), ("1/2", False),
            ("", False), ("1/50", False), ("1/8", True), ("1/2", True))
 # A run of many keys is refused no more, since its map would stay small.
 CHANCES_OF_MANY = (("", False), ("1/50", False))
-# The calls that ask for more behind a refused request. The model is told of one refused request of
-# a line, so these are left out where those behind it are refused too.
-ASK_AGAIN = {"replay", "cache_replay", "set_extend_refs", "set_new", "cache_new"}
-
 # A batch, which is run in one process: its runs, and what is refused.
 Batch = collections.namedtuple("Batch", "runs refusals")
 
@@ -61,21 +57,18 @@ CACHE_COMMANDS = (
 
 
 class Drawing(calls.Drawing):
-    """Draws runs that have our own calls too. Without `forgets` nothing is forgotten, and without
-    `asks_again` no call asks for memory after a refused request."""
+    """Draws runs that have our own calls too. Without `forgets` nothing is forgotten."""
 
-    def __init__(self, kind, rng, keys, forgets=True, asks_again=True):
+    def __init__(self, kind, rng, keys, forgets=True):
         super().__init__(kind, rng, keys)
         self.forgets = forgets
-        self.calls = self.allowed(self.calls + kind.own_calls, asks_again)
-        self.rare_calls = self.allowed(self.rare_calls + kind.rare_own_calls, asks_again)
+        self.calls = self.allowed(self.calls + kind.own_calls)
+        self.rare_calls = self.allowed(self.rare_calls + kind.rare_own_calls)
         self.weights = {id(table): list(add_up(table)) for table in (self.calls, self.rare_calls)}
 
-    def allowed(self, table, asks_again):
+    def allowed(self, table):
         """Returns the calls of a table that may be drawn."""
-        return tuple(row for row in table
-                     if (asks_again or self.kind.prefix + row[0] not in ASK_AGAIN)
-                     and (self.forgets or row[0] != "into_iter_forget"))
+        return tuple(row for row in table if self.forgets or row[0] != "into_iter_forget")
 
     def word(self, form):
         rng = self.rng
@@ -177,5 +170,5 @@ def batch(seed, number):
         kind = KINDS[(number + place) % len(KINDS)]
         few = KEY_COUNTS[(number + place // len(KINDS)) % len(KEY_COUNTS)]
         keys = MANY if has_many(number) else few
-        runs.append(Drawing(kind, rng, keys, forgets, not next_too).run(LENGTH))
+        runs.append(Drawing(kind, rng, keys, forgets).run(LENGTH))
     return Batch(runs, refusals)

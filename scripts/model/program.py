@@ -19,13 +19,8 @@ SECONDS = 300
 Ran = collections.namedtuple("Ran", "lines records blocks fault")
 
 
-class Record(collections.namedtuple("Record", "requests refused windows")):
-    """What a line asked for: how many requests, the numbers of those refused, and how many windows
-    it had."""
-
-    def first_refused(self):
-        """Returns the number of the first request that was refused, or None."""
-        return self.refused[0] if self.refused else None
+# What a line asked for: how many requests, the numbers of those refused, and how many windows it had.
+Record = collections.namedtuple("Record", "requests refused windows")
 
 
 class Refusals(collections.namedtuple("Refusals", "chance seed next_too at")):

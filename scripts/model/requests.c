@@ -8,8 +8,8 @@
  *                        others refused; at the end how many marks there were, and what was asked
  *                        for in a window and never given back
  * REFUSE_AT=N,LINE:N,..  refuses the Nth request of all, or the Nth of a line
- * REFUSE_CHANCE=1/20     refuses each with this chance, drawn from REFUSE_SEED=N, but one of a line
- * REFUSE_NEXT_TOO=1      refuses each behind that in the line too, with a chance of 1/2
+ * REFUSE_CHANCE=1/20     refuses each with this chance, drawn from REFUSE_SEED=N
+ * REFUSE_NEXT_TOO=1      refuses each behind a refused one in a line with a chance of 1/2
  *
  * It is built without headers: the toolchain has none. glibc has each call under a second name. */
 typedef __SIZE_TYPE__ size_t;
@@ -26,7 +26,7 @@ long write(int file, const void *bytes, size_t count);
 void _exit(int status);
 
 enum { LINE_BEGINS = 4240, WINDOW_OPENS = 4242, WINDOW_CLOSES = 4243 };
-enum { PLACES = 1 << 18, MOST_REFUSED = 4096, MOST_OF_LINE = 64 };
+enum { PLACES = 1 << 18, MOST_REFUSED = 4096, MOST_OF_LINE = 4096 };
 enum { NO_MEMORY = 12, CREATE_AND_WRITE = 01 | 0100 | 01000 };
 
 /* The blocks that were asked for in a window, by their addresses: a table with linear probing. */
@@ -176,12 +176,13 @@ static int refuses(void)
 {
     all_requests++;
     requests++;
-    u64 drawn = next_random();
-    int is_refused = is_named() || (refused_of_line_count ? refuses_next_too && drawn % 2
-                                                          : out_of && drawn % out_of < chance);
-    if (is_refused && refused_of_line_count < MOST_OF_LINE)
-        refused_of_line[refused_of_line_count++] = requests;
-    return is_refused;
+    int is_refused = is_named() || (out_of && next_random() % out_of < chance);
+    if (refuses_next_too && refused_of_line_count)
+        is_refused |= next_random() % 2;
+    if (!is_refused || refused_of_line_count == MOST_OF_LINE)
+        return 0;
+    refused_of_line[refused_of_line_count++] = requests;
+    return 1;
 }
 
 /* Makes a request by the call of glibc, if it is not refused. */
