@@ -21,7 +21,7 @@ MAP_CALLS = (
     ("hasher", 1, ""),
     ("pop_front", 3, ""),
     ("pop_back", 3, ""),
-    ("reserve", 1, "value"),
+    ("reserve", 1, "room"),
     ("shrink_to_fit", 1, ""),
     ("extend", 2, "pairs"),
     ("swap", 1, ""),
@@ -59,7 +59,7 @@ RARE_MAP_CALLS = (
     ("into_iter_forget", 1, "steps"),
     ("default", 1, ""),
     ("with_hasher", 2, "hasher"),
-    ("with_capacity", 2, "hasher value"),
+    ("with_capacity", 2, "hasher room"),
     ("from_iter", 2, "pairs"),
     ("extend_refs", 2, ""),
     ("extend_drain", 1, ""),
@@ -78,7 +78,7 @@ OWN_MAP_CALLS = (
     ("values_mut", 2, "steps value"),
     ("move_to_back", 4, "key"),
     ("move_to_front", 4, "key"),
-    ("rotate_left", 2, "value"),
+    ("rotate_left", 2, "count"),
     ("capacity", 2, ""),
     ("rechained", 1, ""),
     ("mode", 1, ""),
@@ -134,7 +134,7 @@ RARE_CACHE_CALLS = (
 OWN_CACHE_CALLS = (
     ("put", 12, "key value"),
     ("retain", 2, "value"),
-    ("reserve", 1, "value"),
+    ("reserve", 1, "room"),
     ("room", 1, ""),
     ("replay", 3, "cache_commands"),
 )
@@ -159,7 +159,7 @@ SET_CALLS = (
     ("pop_front", 2, ""),
     ("pop_back", 2, ""),
     ("len", 1, ""),
-    ("reserve", 1, "value"),
+    ("reserve", 1, "room"),
     ("shrink_to_fit", 1, ""),
     ("extend", 3, "items"),
     ("iter", 3, "steps steps"),
@@ -181,7 +181,7 @@ LONG_SET_CALLS = (
 )
 RARE_SET_CALLS = (
     ("with_hasher", 2, "hasher"),
-    ("with_capacity", 2, "hasher value"),
+    ("with_capacity", 2, "hasher room"),
     ("from_iter", 2, "items"),
     ("extend_refs", 2, ""),
     ("clone", 2, ""),
@@ -208,7 +208,7 @@ SESSION_CALLS = (
     ("touch", 6, "id"),
     ("remove", 5, "id"),
     ("retain", 1, "value"),
-    ("reserve", 1, "value"),
+    ("reserve", 1, "room"),
     ("capacity", 1, ""),
     ("total", 1, ""),
     ("len", 1, ""),
@@ -216,7 +216,7 @@ SESSION_CALLS = (
 )
 RARE_SESSION_CALLS = (
     ("new", 2, "weights"),
-    ("with_capacity", 2, "weights value"),
+    ("with_capacity", 2, "weights room"),
     ("drop", 1, ""),
 )
 
@@ -263,7 +263,7 @@ class Drawing:
         rng = self.rng
         if form == "key":
             return self.key()
-        if form == "value":
+        if form in ("value", "room"):
             return str(rng.randrange(100))
         if form == "limit":
             return str(rng.randrange(min(self.keys + 2, MOST_AT_FIRST)))

@@ -40,6 +40,9 @@ CHANCES = (("", False), ("1/8", False), ("1/50", True), ("1/2", False),
            ("", False), ("1/50", False), ("1/8", True), ("1/2", True))
 # A run of many keys is refused no more, since its map would stay small.
 CHANCES_OF_MANY = (("", False), ("1/50", False))
+# Capacities that are drawn beside small ones.
+ROOMS = (0, 500, 999, 2**59, 2**59 + 1, 2**64 - 1)
+
 # A batch, which is run in one process: its runs, and what is refused.
 Batch = collections.namedtuple("Batch", "runs refusals")
 
@@ -47,7 +50,7 @@ MAP_COMMANDS = (
     ("insert", 8, "key value"), ("write", 3, "key value"), ("refresh", 3, "key"),
     ("remove", 3, "key"), ("popfront", 2, ""), ("popback", 2, ""), ("clear", 1, ""),
     ("drain", 1, ""), ("extend", 2, "counted_pairs"), ("orinsert", 3, "key value"),
-    ("entryinsert", 3, "key value"), ("entryremove", 2, "key"), ("reserve", 2, "value"),
+    ("entryinsert", 3, "key value"), ("entryremove", 2, "key"), ("reserve", 2, "room"),
     ("shrink", 2, ""), ("setmode", 1, "mode"),
 )
 CACHE_COMMANDS = (
@@ -83,6 +86,10 @@ class Drawing(calls.Drawing):
             return "".join(rng.choice(EDITS + "kk") for _ in range(rng.randrange(1, 7)))
         if form == "mode":
             return rng.choice(("keep", "touch"))
+        if form == "room" and rng.random() < 0.2:
+            return str(rng.choice(ROOMS))
+        if form == "count":
+            return str(rng.randrange(self.keys + 2))
         if form == "id":
             return str(rng.randrange(self.keys))
         if form == "weight":

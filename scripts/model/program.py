@@ -19,7 +19,7 @@ SECONDS = 300
 Ran = collections.namedtuple("Ran", "lines records blocks fault")
 
 
-# What a line asked for: how many requests, the numbers of those refused, and how many windows it had.
+# What a line did: how many requests it made, the numbers of those refused, and its windows.
 Record = collections.namedtuple("Record", "requests refused windows")
 
 
