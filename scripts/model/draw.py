@@ -29,6 +29,8 @@ HUGE_CALLS = 120
 REFUSED_OF_HUGE = {7: refusals_at([(3, 200)])}
 # Of how many pairs a line is that takes some in.
 PAIRS_OF_LINE = 20_000
+# The least chance of a call after which little or all else is left.
+LEAST_RARE = 0.02
 # The most keys under the hasher that makes one hash of all.
 MOST_OF_SAME = 200
 # How long a run is, and how many there are of few keys and of many in a batch.
@@ -64,6 +66,7 @@ class Drawing(calls.Drawing):
 
     def __init__(self, kind, rng, keys, forgets=True):
         super().__init__(kind, rng, keys)
+        self.rare = max(self.rare, LEAST_RARE if keys <= MANY else 0)
         self.forgets = forgets
         self.calls = self.allowed(self.calls + kind.own_calls)
         self.rare_calls = self.allowed(self.rare_calls + kind.rare_own_calls)
@@ -118,6 +121,16 @@ class Drawing(calls.Drawing):
         table = self.rare_calls if self.rng.random() < self.rare else self.calls
         (name, _, forms), = self.rng.choices(table, cum_weights=self.weights[id(table)])
         return self.line(name, self.rng.choice("aab"), forms)
+
+    def run(self, calls_made):
+        """Draws a run of at least so many calls, which takes in as many pairs or items as there are
+        keys."""
+        lines = super().run(calls_made)
+        if self.kind.many:
+            for _ in range(calls.MOST_AT_FIRST, self.keys, calls.MOST_AT_FIRST):
+                taken = self.many(self.kind.many, calls.MOST_AT_FIRST)
+                lines.insert(2, f"{self.kind.prefix}extend a {taken}")
+        return lines
 
 
 def add_up(table):
