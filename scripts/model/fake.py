@@ -24,7 +24,7 @@ entry b k1 r 0
 """
 AT, FOUND = "remove b k2", "get a xerox"
 CALLS_TXT = """# A comment.
-LinkedHashMap::insert: insert
+LinkedHashMap::insert: insert MAP KEY VALUE
 OccupiedEntry::remove: entry r, entries r
 Refused::fmt: none: a text
 """

@@ -1,4 +1,8 @@
-"""The public calls, and the lines that make them: crates/driver/calls.txt."""
+"""The public calls, and the lines that make them: crates/driver/calls.txt.
+
+A line of the list is `CALL: NAME, NAME ..`. A name is the first word of a line of the driver, and
+maybe one of its edits, commands or modes behind it, as `entry r`; words in capitals say nothing. Of
+a call that no line makes it is `CALL: none: REASON`."""
 
 # The lines of which the edits of entries matter, and which word has them.
 EDITED = {"entry": 3, "entries": 2, "next_entry": 2}
@@ -39,8 +43,13 @@ def calls_of(text):
     for line in text.splitlines():
         call, _, lines = line.rpartition(": ")
         if call and not line.startswith("#") and ": none: " not in line:
-            calls[call] = {name.strip() for name in lines.split(",")}
+            calls[call] = set(map(name_of, lines.split(",")))
     return calls
+
+
+def name_of(listed):
+    """Returns a name of the list without words in capitals."""
+    return " ".join(word for word in listed.split() if not word.isupper())
 
 
 def missing_calls(text, names):
