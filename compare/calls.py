@@ -243,6 +243,11 @@ NAMES = [kind.prefix + name for kind in KINDS
 MOST_AT_FIRST = 1000
 
 
+def key_of(number):
+    """Returns the key of a number."""
+    return "abcdefghijklmnopqrstuvwxyz"[number % 26] + str(number)
+
+
 class Drawing:
     """Draws runs on one kind over some number of keys."""
 
@@ -255,8 +260,7 @@ class Drawing:
         self.rare = min(0.06, 3 / keys) if rare is None else rare
 
     def key(self):
-        number = self.rng.randrange(self.keys)
-        key = "abcdefghijklmnopqrstuvwxyz"[number % 26] + str(number)
+        key = key_of(self.rng.randrange(self.keys))
         return key.upper() if self.rng.random() < 0.25 else key
 
     def word(self, form):

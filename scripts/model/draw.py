@@ -148,7 +148,8 @@ def huge_run(rng, pairs):
     numbers = list(range(pairs))
     rng.shuffle(numbers)
     for first in range(0, pairs, PAIRS_OF_LINE):
-        words = (f"k{number} {number % 97}" for number in numbers[first:first + PAIRS_OF_LINE])
+        words = (f"{calls.key_of(number)} {number % 97}"
+                 for number in numbers[first:first + PAIRS_OF_LINE])
         lines.append("extend a " + " ".join(words))
     lines += [drawing.call() for _ in range(HUGE_CALLS)]
     return lines + ["clone b", "eq a", "retain a 3", "shrink_to_fit a", "rotate_left a 777",
