@@ -1,12 +1,14 @@
 """The lines of a map. Each function makes a call, and may return a map that takes its place."""
 
+import copies
 import entries
+import fills
 import iterators
 import replays
 from linked import Linked, Refused, collected, is_equal
-from memory import Memory, made
+from memory import LIMIT, Memory, made
 from objects import default_hasher, fold
-from shown import pair_text, quoted, some, truth
+from shown import debug_text, pair_text, quoted, some, truth
 
 # Lookups, and writes of one value.
 
@@ -126,7 +128,7 @@ def insert_within_capacity(call, map_):
     """The call is made if the key is present or there is room."""
     key, value = call.key(), call.value()
     if key.folded not in map_.pairs and len(map_) == map_.memory.capacity:
-        entries.show_refused(call, Refused(key, value))
+        call.show("full")
     else:
         call.show(f"Ok({some(map_.insert(key, value, call.effects))})")
 
@@ -161,20 +163,39 @@ def clear(call, map_):
     map_.clear(call.effects)
 
 
-def keeps_pair(number):
-    """Returns the test of `retain`, which adds 1 to each value that it keeps, in place."""
-    def test(pair):
-        if pair.value.number % 7 == number % 7:
+class Keeping:
+    """The closure of `retain`: how often it was called, and how much was dropped at the last call."""
+
+    def __init__(self, call):
+        self.effects = call.effects
+        self.number = call.number() % 7
+        self.calls = self.dropped = 0
+        call.effects.drop_closure(call.serial())
+
+    def note(self):
+        """Notes a call."""
+        self.calls += 1
+        self.dropped = self.effects.dropped()
+
+    def keeps_value(self, value):
+        """Keeps a value that is not the number modulo 7, and adds the number of the call to it, in
+        place."""
+        self.note()
+        if value.number % 7 == self.number:
             return False
-        pair.value.write(pair.value.number + 1)
+        value.write(value.number + self.calls)
         return True
-    return test
+
+    def show(self, call):
+        """Shows both counts."""
+        call.show(self.calls)
+        call.show(self.dropped)
 
 
 def retain(call, map_):
-    number = call.number()
-    call.effects.drop_closure(call.serial())
-    map_.retain(keeps_pair(number), call.effects)
+    keeping = Keeping(call)
+    map_.retain(lambda pair: keeping.keeps_value(pair.value), call.effects)
+    keeping.show(call)
 
 
 def drop(call, map_):
@@ -194,8 +215,12 @@ def move_to_front(call, map_):
 
 
 def rotate_left(call, map_):
-    """The count is at most the length."""
-    map_.rotate(min(call.small_number(), len(map_)))
+    """The call is made if there are so many pairs."""
+    count = call.number()
+    if count > len(map_):
+        call.show("too many")
+    else:
+        map_.rotate(count)
 
 
 def mode(call, map_):
@@ -214,14 +239,20 @@ def rechained(call, map_):
     call.show(map_.memory.rechained)
 
 
-def reserve(call, map_):
-    if map_.reserve(call.small_number(), call.effects):
+def show_error(call, error):
+    """Shows the error of a call that reserves memory, if there is one."""
+    if error:
         call.show("refused")
+        call.show(error)
+
+
+def reserve(call, map_):
+    show_error(call, map_.reserve(call.number(), call.effects))
 
 
 def shrink_to_fit(call, map_):
     if not map_.is_shrunk(call.effects):
-        call.show("refused")
+        show_error(call, "NoRoom")
 
 
 # Maps that are made.
@@ -233,12 +264,18 @@ def with_hasher(call, _map):
 
 def with_capacity(call, _map):
     """A refusal drops the hasher."""
-    given, wanted = call.hasher(), call.small_number()
+    given, wanted = call.hasher(), call.number()
     memory = made(wanted, call.effects)
     if memory is None:
         call.effects.drop_hasher(given)
+        show_error(call, error_of(wanted))
         return None
     return Linked(given, memory)
+
+
+def error_of(capacity):
+    """Returns the error of a map that was refused a capacity."""
+    return "TooLarge" if capacity > LIMIT else "NoRoom"
 
 
 def default(_call, _map):
@@ -246,7 +283,37 @@ def default(_call, _map):
 
 
 def from_iter(call, _map):
-    return collected(call.pairs(), call.effects)
+    """The iterator knows how many pairs there are, of which the last may lack its value."""
+    return shown_if_refused(call, collected(call.pairs(), call.effects, (call.words_left() + 1) // 2))
+
+
+def from_iter_unhinted(call, _map):
+    return shown_if_refused(call, collected(call.pairs(), call.effects))
+
+
+def shown_if_refused(call, fresh):
+    """Returns a map that was made, or shows that it was refused."""
+    if fresh is None:
+        show_error(call, "NoRoom")
+    return fresh
+
+
+def from_iter_too_large(call, _map):
+    """The iterator is dropped before an item is taken, and so is its closure."""
+    call.effects.drop_closure(call.serial())
+    show_error(call, "TooLarge")
+
+
+def collect(call, _map):
+    """The error of the trait says no reason."""
+    return shown_if_none(call, collected(call.pairs(), call.effects))
+
+
+def shown_if_none(call, fresh):
+    """Returns what was made, or shows that it was refused."""
+    if fresh is None:
+        call.show("refused")
+    return fresh
 
 
 def extend(call, map_):
@@ -257,19 +324,17 @@ def extend(call, map_):
 
 def extend_trait(call, map_):
     """The error of the trait hands nothing back, so what is refused is dropped."""
-    refused = map_.extend(call.pairs(), call.effects)
-    if refused:
-        call.effects.drop_key(refused.key)
-        call.effects.drop_value(refused.value)
+    if fills.extended_by_trait(map_, call.pairs(), call.effects):
         call.show("refused")
 
 
 def clone(call, _map):
-    return call.other.clone(call.effects)
+    return shown_if_none(call, call.other.clone(call.effects))
 
 
 def emptied(call, _map):
-    return Linked(call.effects.clone_hasher(call.other.hasher))
+    given = call.effects.clone_hasher(call.other.hasher)
+    return shown_if_none(call, given and Linked(given))
 
 
 def extend_refs(call, map_):
@@ -303,18 +368,15 @@ MAKING = {
     "with_hasher": with_hasher, "with_capacity": with_capacity, "default": default,
     "from_iter": from_iter, "extend": extend, "extend_refs": extend_refs,
     "extend_drain": extend_drain, "clone": clone, "swap": swap, "extend_trait": extend_trait,
-    "collect": from_iter, "emptied": emptied, "made_with": default,
+    "from_iter_unhinted": from_iter_unhinted, "from_iter_too_large": from_iter_too_large,
+    "collect": collect, "emptied": emptied, "made_with": default,
 }
-# Those of them that make a map or, if that is refused, leave the old one.
-REFUSABLE = {"with_capacity", "from_iter", "collect", "clone"}
 
 
-def making(name):
-    """Returns the line of a name that shows the hasher at its end."""
+def making(make):
+    """Returns a line that shows the hasher at its end."""
     def line(call, map_):
-        fresh = MAKING[name](call, map_)
-        if fresh is None and name in REFUSABLE:
-            call.show("refused")
+        fresh = make(call, map_)
         call.show(map_.hasher if fresh is None else fresh.hasher)
         return fresh
     return line
@@ -324,10 +386,9 @@ def making(name):
 
 
 def equal(call, map_):
-    """Shows what `==` and `!=` make of two maps. Only the first is counted."""
-    is_so = is_equal(map_, call.other, call.effects)
-    call.show(truth(is_so))
-    call.show(truth(not is_so))
+    """Shows what `==` and `!=` make of two maps."""
+    for negated in (False, True):
+        call.show(truth(is_equal(map_, call.other, call.effects) != negated))
 
 
 def sign(one, other):
@@ -359,17 +420,19 @@ def show_order(call, order):
 
 
 def compare(call, map_):
-    """Compares by the texts of the keys. Only the first call is counted."""
-    order = order_of(map_, call.other, call.effects,
-                     lambda key, other: sign(key.number, other.number))
+    """Compares by the texts of the keys: by `cmp`, and as `partial_compare` does."""
+    for _ in range(6):
+        order = order_of(map_, call.other, call.effects,
+                         lambda key, other: sign(key.number, other.number))
     call.show({-1: "Less", 0: "Equal", 1: "Greater"}[order])
     show_order(call, order)
 
 
 def partial_compare(call, map_):
-    """Compares by keys that have no order if they differ. Only the first call is counted."""
-    order = order_of(map_, call.other, call.effects,
-                     lambda key, other: 0 if key.folded == other.folded else None)
+    """Compares by keys that have no order if they differ: by `partial_cmp` and by each operator."""
+    for _ in range(5):
+        order = order_of(map_, call.other, call.effects,
+                         lambda key, other: 0 if key.folded == other.folded else None)
     show_order(call, order)
 
 
@@ -383,11 +446,6 @@ def hash_all(call, map_):
         if pair.value.counted:
             call.effects.add("hash-values")
     call.show(number)
-
-
-def debug_text(pairs):
-    """Shows pairs as `Debug` shows a map."""
-    return "{" + ", ".join(f"{pair.key}: {pair.value}" for pair in pairs) + "}"
 
 
 def debug(call, map_):
@@ -409,6 +467,49 @@ def new(call, _map):
         call.show("{}")
 
 
+def new_with_capacity(call, _map):
+    """Does so with a map of a capacity."""
+    wanted, number = call.number(), call.number()
+    memory = made(wanted, call.effects)
+    if memory is None:
+        show_error(call, error_of(wanted))
+    elif memory.has_room(0, call.effects):
+        call.show(f"{{{number}: {number}}}")
+        call.show(memory.capacity)
+    else:
+        call.show("refused")
+        call.show("{}")
+        call.show(memory.capacity)
+
+
+def refuse_clone(call, _map):
+    """Sets which clone from here on is refused."""
+    call.model.clones[0] = call.number()
+
+
+def show_errors(call, text):
+    """Shows the text of an error and what it is turned into."""
+    for word in (text, "OutOfMemory", "AllocError"):
+        call.show(word)
+
+
+def show_other_errors(call):
+    """Shows those of the errors that have no pair."""
+    show_errors(call, "no memory for a smaller capacity")
+    show_errors(call, "the capacity would be above the limit")
+    show_errors(call, "no memory for the capacity")
+
+
+def refused_texts(call, _map):
+    """Turns two errors of the line's pair made again into others, which drops the pairs."""
+    call.key(), call.value()
+    for _ in range(2):
+        call.effects.drop("drop-keys", call.serial())
+        call.effects.drop("drop-values", call.serial())
+    show_errors(call, "no memory for another pair")
+    show_other_errors(call)
+
+
 LINES = {
     "get": get, "get_key_value": get_key_value, "contains_key": contains_key, "index": index,
     "index_mut": index_mut, "get_mut": get_mut, "get_refresh": get_refresh,
@@ -421,13 +522,16 @@ LINES = {
     "mode": mode, "set_mode": set_mode, "capacity": capacity, "rechained": rechained,
     "reserve": reserve, "shrink_to_fit": shrink_to_fit, "eq": equal, "cmp": compare,
     "partial_cmp": partial_compare, "hash": hash_all, "debug": debug, "debug_pretty": debug_pretty,
-    "new": new, **{name: making(name) for name in MAKING}, **entries.LINES, **iterators.LINES,
-    **replays.LINES,
+    "new": new, "new_with_capacity": new_with_capacity, "fill": fills.fill,
+    "refuse_clone": refuse_clone, "refused_texts": refused_texts,
+    **{name: making(make) for name, make in MAKING.items()}, **entries.LINES, **iterators.LINES,
+    **replays.LINES, **copies.LINES,
 }
 # Lines that change no pair.
 READING = {
     "get", "get_key_value", "contains_key", "index", "get_counted", "front", "back", "len",
     "hasher", "mode", "set_mode", "capacity", "rechained", "reserve", "shrink_to_fit", "eq", "cmp",
     "partial_cmp", "hash", "debug", "debug_pretty", "new", "entry_key", "visit", "unvisited",
-    "iter", "keys", "values", "loop",
+    "iter", "keys", "values", "loop", "new_with_capacity", "refuse_clone", "refused_texts",
+    "pair_lists", "extend_copied_refs", "extend_trait_refs",
 }

@@ -133,6 +133,8 @@ class Memory:
 def made(capacity, effects):
     """Returns the memory of a new map of a capacity, or `None` if it is refused."""
     memory = Memory()
+    if capacity > LIMIT:
+        return None
     if capacity and not memory.is_raised(capacity, 0, effects):
         return None
     return memory

@@ -34,6 +34,11 @@ def quoted(text):
     return '"' + text.replace("\\", "\\\\").replace('"', '\\"').replace("\n", "\\n") + '"'
 
 
+def debug_text(pairs):
+    """Shows pairs as `Debug` shows a map."""
+    return "{" + ", ".join(f"{pair.key}: {pair.value}" for pair in pairs) + "}"
+
+
 def digest(mixes):
     """Returns the sum of the mixes, each times its position from 1 on."""
     return sum(map(operator.mul, itertools.count(1), mixes)) & MASK
