@@ -138,3 +138,8 @@ def made(capacity, effects):
     if capacity and not memory.is_raised(capacity, 0, effects):
         return None
     return memory
+
+
+def error_of(capacity):
+    """Returns the error of a map that was refused a capacity."""
+    return "TooLarge" if capacity > LIMIT else "NoRoom"

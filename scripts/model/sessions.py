@@ -5,9 +5,9 @@ import collections
 import itertools
 
 import maps
-from memory import Memory, made
+from memory import Memory, error_of, made
 from objects import SPREAD, Value
-from shown import WHOLE, digest, list_text, some
+from shown import WHOLE, digest, list_text, show_error, some
 
 
 class Session:
@@ -94,7 +94,7 @@ def with_capacity(call, _table):
     limit, capacity = call.number(), call.number()
     memory = made(capacity, call.effects)
     if memory is None:
-        return maps.show_error(call, maps.error_of(capacity))
+        return show_error(call, error_of(capacity))
     return Sessions(limit, memory)
 
 
@@ -209,7 +209,7 @@ def fill(call, table):
 
 
 def reserve(call, table):
-    maps.show_error(call, table.memory.reserve(call.number(), len(table.sessions), call.effects))
+    show_error(call, table.memory.reserve(call.number(), len(table.sessions), call.effects))
 
 
 def capacity(call, table):

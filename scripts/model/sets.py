@@ -1,12 +1,14 @@
 """The lines of a set: the keys of a map whose values are nothing."""
 
+import comparing
 import fills
 import iterators
+import making
 import maps
 from linked import Linked, Refused
-from memory import Memory, made
-from objects import UNIT, default_hasher
-from shown import some, truth
+from memory import Memory, error_of, made
+from objects import UNIT, default_hasher, fold
+from shown import show_error, some, truth
 
 
 def show_refused(call, refused):
@@ -158,7 +160,7 @@ def with_hasher(call, _set):
 
 
 def with_capacity(call, _set):
-    return maps.with_capacity(call, _set)
+    return making.with_capacity(call, _set)
 
 
 def collected(items, effects):
@@ -209,7 +211,7 @@ def new_with_capacity(call, _set):
     wanted, number = call.number(), call.number()
     memory = made(wanted, call.effects)
     if memory is None:
-        maps.show_error(call, maps.error_of(wanted))
+        show_error(call, error_of(wanted))
     else:
         insert_twice(call, memory, number)
         call.show(max(wanted, 1))
@@ -217,8 +219,8 @@ def new_with_capacity(call, _set):
 
 MAKING = {
     "with_hasher": with_hasher, "with_capacity": with_capacity, "from_iter": from_iter,
-    "collect": from_iter, "extend": extend, "extend_refs": extend_refs, "clone": maps.clone,
-    "emptied": maps.emptied, "made_with": maps.default, "new": new,
+    "collect": from_iter, "extend": extend, "extend_refs": extend_refs, "clone": making.clone,
+    "emptied": making.emptied, "made_with": making.default, "new": new,
     "new_with_capacity": new_with_capacity,
 }
 
@@ -250,7 +252,7 @@ def hash_all(call, set_):
     """Hashes each item by one hasher that spreads."""
     number = 0
     for pair in set_.pairs.values():
-        number = maps.fold(number, pair.key.folded)
+        number = fold(number, pair.key.folded)
         call.effects.add("hash-keys")
     call.show(number)
 
@@ -372,8 +374,8 @@ def refused_texts(call, _set):
     call.key()
     for _ in range(2):
         call.effects.drop("drop-keys", call.serial())
-    maps.show_errors(call, "no memory for another item")
-    maps.show_other_errors(call)
+    comparing.show_errors(call, "no memory for another item")
+    comparing.show_other_errors(call)
 
 
 LINES = {
@@ -385,10 +387,10 @@ LINES = {
     "into_iter": into_iter, "loop": loop, "debug": debug, "hash": hash_all,
     "difference": operation(difference_of),
     "symmetric_difference": operation(symmetric_difference_of),
-    "intersection": operation(intersection_of), "union": operation(union_of), "is_subset": is_subset,
-    "is_superset": is_superset, "is_disjoint": is_disjoint,
+    "intersection": operation(intersection_of), "union": operation(union_of),
+    "is_subset": is_subset, "is_superset": is_superset, "is_disjoint": is_disjoint,
     "fill": fill, "refused_texts": refused_texts,
-    **{name: maps.making(line) for name, line in MAKING.items()},
+    **{name: making.making(line) for name, line in MAKING.items()},
     **{name: maps.LINES[name] for name in (
         "len", "clear", "reserve", "shrink_to_fit", "capacity", "eq", "drop", "hasher")},
 }

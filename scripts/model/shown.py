@@ -39,6 +39,13 @@ def debug_text(pairs):
     return "{" + ", ".join(f"{pair.key}: {pair.value}" for pair in pairs) + "}"
 
 
+def show_error(call, error):
+    """Shows the error of a call that reserves memory, if there is one."""
+    if error:
+        call.show("refused")
+        call.show(error)
+
+
 def digest(mixes):
     """Returns the sum of the mixes, each times its position from 1 on."""
     return sum(map(operator.mul, itertools.count(1), mixes)) & MASK
