@@ -1,11 +1,13 @@
 """The lines of a cache: a map of at most `limit` pairs, in the order of their last use."""
 
+import fills
 import iterators
+import maps
 from entries import show_refused
 from linked import Linked, Refused
 from memory import Memory
-from maps import debug_text, keeps_pair, write_lent
-from shown import equation, list_pairs, pair_text, some, truth
+from maps import write_lent
+from shown import debug_text, equation, list_pairs, pair_text, some, truth
 
 
 class Cache:
@@ -61,7 +63,7 @@ def new_cache(call):
 
 def with_hasher(call, _cache):
     given = call.hasher()
-    return Cache(Linked(given), call.small_number())
+    return Cache(Linked(given), call.number())
 
 
 def insert(call, cache):
@@ -80,14 +82,21 @@ def put(call, cache):
         call.show(some(gone and f"{equation(gone)} #{gone.key.serial} #{gone.value.serial}"))
 
 
-def extend(call, cache):
-    for key, value in call.pairs():
-        old = cache.insert(key, value, call.effects)
+def extend_by(cache, pairs, effects):
+    """Inserts each pair up to one that is refused, which is returned."""
+    for key, value in pairs:
+        old = cache.insert(key, value, effects)
         if isinstance(old, Refused):
-            show_refused(call, old)
-            return
+            return old
         if old is not None:
-            call.effects.drop_value(old)
+            effects.drop_value(old)
+    return None
+
+
+def extend(call, cache):
+    refused = extend_by(cache, call.pairs(), call.effects)
+    if refused:
+        show_refused(call, refused)
 
 
 def get(call, cache):
@@ -132,7 +141,7 @@ def lower(cache, limit, effects):
 
 
 def set_capacity(call, cache):
-    lower(cache, call.small_number(), call.effects)
+    lower(cache, call.number(), call.effects)
 
 
 def clear(call, cache):
@@ -140,14 +149,11 @@ def clear(call, cache):
 
 
 def retain(call, cache):
-    number = call.number()
-    call.effects.drop_closure(call.serial())
-    cache.map.retain(keeps_pair(number), call.effects)
+    maps.retain(call, cache.map)
 
 
 def reserve(call, cache):
-    if cache.map.reserve(call.small_number(), call.effects):
-        call.show("refused")
+    maps.reserve(call, cache.map)
 
 
 def room(call, cache):
@@ -168,18 +174,11 @@ def clone(call, _cache):
 
 
 def into_iter(call, cache):
-    """Iterates over a clone that is taken apart."""
-    copy = cache.map.clone(call.effects)
-    letters = call.word()
-    if copy is None:
-        call.show("refused")
-        return
-    call.effects.drop_hasher(copy.hasher)
-    iterators.iterate_and_drop(call, copy.take_all(), letters, pair_text)
+    iterators.into_iter_of_clone(call, cache.map, pair_text)
 
 
 def drain(call, cache):
-    iterators.iterate_and_drop(call, cache.map.take_all(), call.word(), pair_text)
+    iterators.drain(call, cache.map)
 
 
 def drop(call, cache):
@@ -197,6 +196,20 @@ def new(call, _cache):
     if not Memory().has_room(0, call.effects):
         call.show("refused")
     call.show(f"{{{call.number()}: 1}}")
+
+
+def fill(call, cache):
+    """Puts in numbered pairs by a call. What goes is not counted if it is handed out."""
+    def put_one(number):
+        key, value = call.numbered(number)
+        if name == "put":
+            return cache.put(key, value, call.effects)[0]
+        return cache.insert(key, value, call.effects)
+    count, name = call.number(), call.word()
+    if name == "extend":
+        fills.fill_at_once(call, count, lambda pairs: extend_by(cache, pairs, call.effects))
+    else:
+        fills.fill_one_by_one(call, count, put_one)
 
 
 def on_map(line):
@@ -247,7 +260,7 @@ COMMANDS = {
 
 def replay(call, cache):
     """The answers are asked for first. If that is refused, no command is run."""
-    readers = {"key": call.key, "value": call.value, "number": call.small_number}
+    readers = {"key": call.key, "value": call.value, "number": call.number}
     commands = []
     while name := call.word():
         if name in COMMANDS:
@@ -256,6 +269,7 @@ def replay(call, cache):
     if commands and not call.effects.ask():
         call.show("refused")
         return
+    call.show(f"{len(commands)}/{len(commands)}")
     for answer, given in commands:
         call.show(answer(cache, call.effects, *given))
 
@@ -265,7 +279,7 @@ LINES = {
     "get_mut": get_mut, "contains_key": contains_key, "peek": peek, "peek_mut": peek_mut,
     "remove": remove, "remove_lru": remove_lru, "set_capacity": set_capacity, "clear": clear,
     "retain": retain, "reserve": reserve, "room": room, "len": length, "clone": clone,
-    "into_iter": into_iter, "drain": drain, "drop": drop, "debug": debug, "new": new,
+    "into_iter": into_iter, "drain": drain, "drop": drop, "debug": debug, "new": new, "fill": fill,
     "replay": replay,
     **{name: on_map(iterators.LINES[name])
        for name in ("iter", "iter_mut", "loop", "loop_mut")},

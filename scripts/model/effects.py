@@ -14,10 +14,12 @@ class Effects:
     """The counts of a line. `requests` counts what asks for memory, of which those of the numbers
     `refused` are refused."""
 
-    __slots__ = ("counts", "drops", "least", "most", "requests", "refused")
+    __slots__ = ("counts", "drops", "least", "most", "requests", "refused", "clones")
 
-    def __init__(self, refused=()):
+    def __init__(self, refused=(), clones=None):
         self.counts = {}
+        # How many clones are given until one is refused, in a list of one, or 0 for all.
+        self.clones = clones or [0]
         self.drops = {}
         # Between these two are the comparisons of keys.
         self.least = self.most = 0
@@ -72,22 +74,29 @@ class Effects:
         self.least += least
         self.most += most
 
+    def is_cloned(self, name):
+        """Counts a clone, and returns whether it is given."""
+        self.add(name)
+        if self.clones[0] == 0:
+            return True
+        self.clones[0] -= 1
+        return self.clones[0] > 0
+
     def clone_key(self, key):
-        """Counts the clone of a key, and returns it."""
-        self.add("clone-keys")
-        return key.clone()
+        """Returns the clone of a key, or `None` if it is refused."""
+        return key.clone() if self.is_cloned("clone-keys") else None
 
     def clone_value(self, value):
-        """Counts the clone of a value, and returns it."""
-        if value.counted:
-            self.add("clone-values")
-        return value.clone()
+        """Returns the clone of a value, or `None` if it is refused."""
+        return value.clone() if not value.counted or self.is_cloned("clone-values") else None
 
     def clone_hasher(self, hasher):
-        """Counts the clone of a hasher, and returns it."""
-        if hasher.counted:
-            self.add("clone-hashers")
-        return hasher.clone()
+        """Returns the clone of a hasher, or `None` if it is refused."""
+        return hasher.clone() if not hasher.counted or self.is_cloned("clone-hashers") else None
+
+    def dropped(self):
+        """Returns how many keys and values were dropped."""
+        return sum(self.drops.get(name, (0, 0))[0] for name in ("drop-keys", "drop-values"))
 
     def table(self):
         """Returns each effect as a line shows it, or as a pair of the least and the most."""

@@ -44,9 +44,12 @@ def edit_occupied(call, map_, pair, edit, values, word=""):
 
 
 def replace_key(call, pair, word):
-    """Stores a key in place of that of an entry, if they are the same. Compares the two. The key is
-    that of the line made again, or the stored one if the line has none."""
-    key = call.key_of(word or pair.key.shown)
+    """Stores the key of a word in place of that of an entry, if they are the same."""
+    replace_by(call, pair, call.key_of(word))
+
+
+def replace_by(call, pair, key):
+    """Does so with a key. Compares the two."""
     call.effects.compare_keys(1, 1)
     if key.folded == pair.key.folded:
         old = pair.replace_key(key)
@@ -99,6 +102,17 @@ def entry_key(call, map_):
     call.show(pair.key if pair else key)
     if pair is None:
         call.effects.drop_key(key)
+
+
+def entry_replace_key(call, map_):
+    """Replaces the key of a present entry by another."""
+    key, other = call.key(), call.key()
+    pair = map_.entry(key, call.effects)
+    if pair is None:
+        call.effects.drop_key(key)
+        call.show("absent")
+    else:
+        replace_by(call, pair, other)
 
 
 def edit_next(call, map_, edit, values):
@@ -165,6 +179,15 @@ def or_insert_with(call, map_):
     insert_if_vacant(call, map_, key, value)
 
 
+def or_insert_with_box(call, map_):
+    """The closure asks for memory before the growth does, and ignores a refusal."""
+    key, value = call.key(), call.value()
+    call.effects.drop_closure(call.serial())
+    if key.folded not in map_.pairs:
+        call.effects.ask()
+    insert_if_vacant(call, map_, key, value)
+
+
 def or_default(call, map_):
     """The default is made if the key is absent, and never counted."""
     insert_if_vacant(call, map_, call.key(), Value(0, 0, counted=False))
@@ -191,5 +214,6 @@ LINES = {
     "entry": entry, "entry_key": entry_key, "entries": entries, "visit": visit,
     "next_entry": next_entry, "unvisited": unvisited, "or_insert": or_insert,
     "or_insert_with": or_insert_with, "or_insert_with_key": or_insert_with,
+    "or_insert_with_box": or_insert_with_box, "entry_replace_key": entry_replace_key,
     "or_default": or_default, "and_modify": and_modify,
 }

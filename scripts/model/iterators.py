@@ -2,7 +2,7 @@
 
 import itertools
 
-from linked import Pair
+from linked import clone_of
 from shown import equation, pair_text, some
 
 
@@ -114,11 +114,12 @@ def drop_rest(call, steps):
         call.effects.drop_pair(pair)
 
 
-def iterate_and_drop(call, pairs, letters, show):
-    """Iterates over pairs that are owned, and drops those left."""
+def iterate_to_the_end(call, pairs, show, drop=None):
+    """Iterates over pairs that are owned, and drops or forgets those left."""
     steps = owned(pairs)
-    iterate(call, steps, letters, show)
-    drop_rest(call, steps)
+    iterate(call, steps, call.word(), show, drop)
+    if call.word() != "forget":
+        drop_rest(call, steps)
 
 
 def clone_rest(call, steps):
@@ -126,8 +127,15 @@ def clone_rest(call, steps):
     effects = call.effects
     if steps.left and not (effects.ask() and effects.ask()):
         return None
-    return owned([Pair(effects.clone_key(pair.key), effects.clone_value(pair.value))
-                  for pair in steps.rest()])
+    copies = []
+    for pair in steps.rest():
+        copy = clone_of(pair, effects)
+        if copy is None:
+            for made in copies:
+                effects.drop_pair(made)
+            return None
+        copies.append(copy)
+    return owned(copies)
 
 
 def into_iter(call, map_):
@@ -155,13 +163,10 @@ def into_iter_forget(call, map_):
     return call.new_map()
 
 
-def take_apart(call, map_, show, drop):
+def take_apart(call, map_, show, drop=None):
     """Takes a map apart by an iterator whose steps drop what they do not give."""
     call.effects.drop_hasher(map_.hasher)
-    steps = owned(map_.take_all())
-    iterate(call, steps, call.word(), show, drop)
-    if call.word() != "forget":
-        drop_rest(call, steps)
+    iterate_to_the_end(call, map_.take_all(), show, drop)
     return call.new_map()
 
 
@@ -176,11 +181,16 @@ def into_values(call, map_):
 
 
 def drain(call, map_):
-    """Iterates by `drain`, and drops or forgets the iterator."""
-    steps = owned(map_.take_all())
-    iterate(call, steps, call.word(), pair_text)
-    if call.word() != "forget":
-        drop_rest(call, steps)
+    iterate_to_the_end(call, map_.take_all(), pair_text)
+
+
+def into_iter_of_clone(call, map_, show):
+    """Takes a clone apart."""
+    copy = map_.clone(call.effects)
+    if copy is None:
+        call.show("refused")
+    else:
+        take_apart(call, copy, show)
 
 
 def loop(call, map_):

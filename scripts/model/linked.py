@@ -230,18 +230,37 @@ class Linked:
         return self.memory.is_shrunk(len(self.pairs), effects)
 
     def clone(self, effects):
-        """Returns a clone, or `None` if it is refused. It is looked up as it is filled."""
+        """Returns a clone, or `None` if memory or a clone is refused: then the clones made so far
+        are dropped. Each key is looked up as it is inserted."""
         hasher = effects.clone_hasher(self.hasher)
+        if hasher is None:
+            return None
         memory = made(len(self.pairs), effects)
         if memory is None:
             effects.drop_hasher(hasher)
             return None
         fresh = Linked(hasher, memory)
         for pair in self.pairs.values():
-            key = effects.clone_key(pair.key)
-            fresh.insert(key, effects.clone_value(pair.value), effects)
+            copy = clone_of(pair, effects)
+            if copy is None:
+                fresh.drop(effects)
+                return None
+            fresh.insert(copy.key, copy.value, effects)
         fresh.keeps = self.keeps
         return fresh
+
+
+def clone_of(pair, effects):
+    """Returns a clone of a key and its value, or `None` if one is refused: then that of the key is
+    dropped."""
+    key = effects.clone_key(pair.key)
+    if key is None:
+        return None
+    value = effects.clone_value(pair.value)
+    if value is None:
+        effects.drop_key(key)
+        return None
+    return Pair(key, value)
 
 
 def collected(pairs, effects, reserved=0):

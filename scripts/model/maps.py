@@ -1,12 +1,14 @@
 """The lines of a map. Each function makes a call, and may return a map that takes its place."""
 
+import comparing
+import copies
 import entries
+import fills
 import iterators
+import making
 import replays
-from linked import Linked, Refused, collected, is_equal
-from memory import Memory, made
-from objects import default_hasher, fold
-from shown import pair_text, quoted, some, truth
+from linked import Refused
+from shown import pair_text, show_error, some, truth
 
 # Lookups, and writes of one value.
 
@@ -126,7 +128,7 @@ def insert_within_capacity(call, map_):
     """The call is made if the key is present or there is room."""
     key, value = call.key(), call.value()
     if key.folded not in map_.pairs and len(map_) == map_.memory.capacity:
-        entries.show_refused(call, Refused(key, value))
+        call.show("full")
     else:
         call.show(f"Ok({some(map_.insert(key, value, call.effects))})")
 
@@ -161,20 +163,39 @@ def clear(call, map_):
     map_.clear(call.effects)
 
 
-def keeps_pair(number):
-    """Returns the test of `retain`, which adds 1 to each value that it keeps, in place."""
-    def test(pair):
-        if pair.value.number % 7 == number % 7:
+class Keeping:
+    """The closure of `retain`: how often it was called, and what was dropped at the last call."""
+
+    def __init__(self, call):
+        self.effects = call.effects
+        self.number = call.number() % 7
+        self.calls = self.dropped = 0
+        call.effects.drop_closure(call.serial())
+
+    def note(self):
+        """Notes a call."""
+        self.calls += 1
+        self.dropped = self.effects.dropped()
+
+    def keeps_value(self, value):
+        """Keeps a value that is not the number modulo 7, and adds the number of the call to it, in
+        place."""
+        self.note()
+        if value.number % 7 == self.number:
             return False
-        pair.value.write(pair.value.number + 1)
+        value.write(value.number + self.calls)
         return True
-    return test
+
+    def show(self, call):
+        """Shows both counts."""
+        call.show(self.calls)
+        call.show(self.dropped)
 
 
 def retain(call, map_):
-    number = call.number()
-    call.effects.drop_closure(call.serial())
-    map_.retain(keeps_pair(number), call.effects)
+    keeping = Keeping(call)
+    map_.retain(lambda pair: keeping.keeps_value(pair.value), call.effects)
+    keeping.show(call)
 
 
 def drop(call, map_):
@@ -194,8 +215,12 @@ def move_to_front(call, map_):
 
 
 def rotate_left(call, map_):
-    """The count is at most the length."""
-    map_.rotate(min(call.small_number(), len(map_)))
+    """The call is made if there are so many pairs."""
+    count = call.number()
+    if count > len(map_):
+        call.show("too many")
+    else:
+        map_.rotate(count)
 
 
 def mode(call, map_):
@@ -215,198 +240,17 @@ def rechained(call, map_):
 
 
 def reserve(call, map_):
-    if map_.reserve(call.small_number(), call.effects):
-        call.show("refused")
+    show_error(call, map_.reserve(call.number(), call.effects))
 
 
 def shrink_to_fit(call, map_):
     if not map_.is_shrunk(call.effects):
-        call.show("refused")
+        show_error(call, "NoRoom")
 
 
-# Maps that are made.
-
-
-def with_hasher(call, _map):
-    return Linked(call.hasher())
-
-
-def with_capacity(call, _map):
-    """A refusal drops the hasher."""
-    given, wanted = call.hasher(), call.small_number()
-    memory = made(wanted, call.effects)
-    if memory is None:
-        call.effects.drop_hasher(given)
-        return None
-    return Linked(given, memory)
-
-
-def default(_call, _map):
-    return Linked(default_hasher())
-
-
-def from_iter(call, _map):
-    return collected(call.pairs(), call.effects)
-
-
-def extend(call, map_):
-    refused = map_.extend(call.pairs(), call.effects)
-    if refused:
-        entries.show_refused(call, refused)
-
-
-def extend_trait(call, map_):
-    """The error of the trait hands nothing back, so what is refused is dropped."""
-    refused = map_.extend(call.pairs(), call.effects)
-    if refused:
-        call.effects.drop_key(refused.key)
-        call.effects.drop_value(refused.value)
-        call.show("refused")
-
-
-def clone(call, _map):
-    return call.other.clone(call.effects)
-
-
-def emptied(call, _map):
-    return Linked(call.effects.clone_hasher(call.other.hasher))
-
-
-def extend_refs(call, map_):
-    """Extends a map by copies of the pairs of another, which are not counted as clones."""
-    pairs = ((pair.key.clone(), pair.value.clone()) for pair in call.other.pairs.values())
-    refused = map_.extend(pairs, call.effects)
-    if refused:
-        entries.show_refused(call, refused)
-
-
-def extend_drain(call, map_):
-    """Extends a map by what another is drained of. What is not taken is dropped."""
-    taken = iter(call.other.take_all())
-    refused = map_.extend(((pair.key, pair.value) for pair in taken), call.effects)
-    for pair in taken:
-        call.effects.drop_pair(pair)
-    if refused:
-        entries.show_refused(call, refused)
-
-
-def swap(call, map_):
-    other = call.other
-    for name in Linked.__slots__:
-        mine, its = getattr(map_, name), getattr(other, name)
-        setattr(map_, name, its)
-        setattr(other, name, mine)
-
-
-# Lines that make a map, or take in the pairs of another, show its hasher.
-MAKING = {
-    "with_hasher": with_hasher, "with_capacity": with_capacity, "default": default,
-    "from_iter": from_iter, "extend": extend, "extend_refs": extend_refs,
-    "extend_drain": extend_drain, "clone": clone, "swap": swap, "extend_trait": extend_trait,
-    "collect": from_iter, "emptied": emptied, "made_with": default,
-}
-# Those of them that make a map or, if that is refused, leave the old one.
-REFUSABLE = {"with_capacity", "from_iter", "collect", "clone"}
-
-
-def making(name):
-    """Returns the line of a name that shows the hasher at its end."""
-    def line(call, map_):
-        fresh = MAKING[name](call, map_)
-        if fresh is None and name in REFUSABLE:
-            call.show("refused")
-        call.show(map_.hasher if fresh is None else fresh.hasher)
-        return fresh
-    return line
-
-
-# Comparisons, hashes and texts.
-
-
-def equal(call, map_):
-    """Shows what `==` and `!=` make of two maps. Only the first is counted."""
-    is_so = is_equal(map_, call.other, call.effects)
-    call.show(truth(is_so))
-    call.show(truth(not is_so))
-
-
-def sign(one, other):
-    """Compares two numbers."""
-    return (one > other) - (one < other)
-
-
-def order_of(map_, other, effects, compare_keys):
-    """Compares two maps pair by pair, a key before its value. Where one ends first, it is less."""
-    for pair, against in zip(map_.pairs.values(), other.pairs.values()):
-        effects.add("cmp-keys")
-        order = compare_keys(pair.key, against.key)
-        if order != 0:
-            return order
-        if pair.value.counted:
-            effects.add("cmp-values")
-        order = sign(pair.value.number, against.value.number)
-        if order != 0:
-            return order
-    return sign(len(map_), len(other))
-
-
-def show_order(call, order):
-    """Shows an order, and what `<`, `<=`, `>` and `>=` make of it."""
-    names = {-1: "Some(Less)", 0: "Some(Equal)", 1: "Some(Greater)", None: "None"}
-    call.show(names[order])
-    for allowed in ((-1,), (-1, 0), (1,), (0, 1)):
-        call.show(truth(order in allowed))
-
-
-def compare(call, map_):
-    """Compares by the texts of the keys. Only the first call is counted."""
-    order = order_of(map_, call.other, call.effects,
-                     lambda key, other: sign(key.number, other.number))
-    call.show({-1: "Less", 0: "Equal", 1: "Greater"}[order])
-    show_order(call, order)
-
-
-def partial_compare(call, map_):
-    """Compares by keys that have no order if they differ. Only the first call is counted."""
-    order = order_of(map_, call.other, call.effects,
-                     lambda key, other: 0 if key.folded == other.folded else None)
-    show_order(call, order)
-
-
-def hash_all(call, map_):
-    """Hashes each key and each value by one hasher that spreads."""
-    number = 0
-    for pair in map_.pairs.values():
-        number = fold(number, pair.key.folded)
-        number = fold(number, pair.value.number.to_bytes(8, "little"))
-        call.effects.add("hash-keys")
-        if pair.value.counted:
-            call.effects.add("hash-values")
-    call.show(number)
-
-
-def debug_text(pairs):
-    """Shows pairs as `Debug` shows a map."""
-    return "{" + ", ".join(f"{pair.key}: {pair.value}" for pair in pairs) + "}"
-
-
-def debug(call, map_):
-    call.show(debug_text(map_.pairs.values()))
-
-
-def debug_pretty(call, map_):
-    lines = "".join(f"    {pair.key}: {pair.value},\n" for pair in map_.pairs.values())
-    call.show(quoted("{\n" + lines + "}" if lines else "{}"))
-
-
-def new(call, _map):
-    """Inserts a number with itself into a new map of numbers."""
-    number = call.number()
-    if Memory().has_room(0, call.effects):
-        call.show(f"{{{number}: {number}}}")
-    else:
-        call.show("refused")
-        call.show("{}")
+def refuse_clone(call, _map):
+    """Sets which clone from here on is refused."""
+    call.model.clones[0] = call.number()
 
 
 LINES = {
@@ -419,15 +263,15 @@ LINES = {
     "pop_back": pop_back, "clear": clear, "retain": retain, "drop": drop,
     "move_to_back": move_to_back, "move_to_front": move_to_front, "rotate_left": rotate_left,
     "mode": mode, "set_mode": set_mode, "capacity": capacity, "rechained": rechained,
-    "reserve": reserve, "shrink_to_fit": shrink_to_fit, "eq": equal, "cmp": compare,
-    "partial_cmp": partial_compare, "hash": hash_all, "debug": debug, "debug_pretty": debug_pretty,
-    "new": new, **{name: making(name) for name in MAKING}, **entries.LINES, **iterators.LINES,
-    **replays.LINES,
+    "reserve": reserve, "shrink_to_fit": shrink_to_fit, "fill": fills.fill,
+    "refuse_clone": refuse_clone, **making.LINES, **comparing.LINES, **entries.LINES,
+    **iterators.LINES, **replays.LINES, **copies.LINES,
 }
 # Lines that change no pair.
 READING = {
     "get", "get_key_value", "contains_key", "index", "get_counted", "front", "back", "len",
     "hasher", "mode", "set_mode", "capacity", "rechained", "reserve", "shrink_to_fit", "eq", "cmp",
     "partial_cmp", "hash", "debug", "debug_pretty", "new", "entry_key", "visit", "unvisited",
-    "iter", "keys", "values", "loop",
+    "iter", "keys", "values", "loop", "new_with_capacity", "refuse_clone", "refused_texts",
+    "pair_lists", "extend_copied_refs", "extend_trait_refs",
 }

@@ -133,6 +133,13 @@ class Memory:
 def made(capacity, effects):
     """Returns the memory of a new map of a capacity, or `None` if it is refused."""
     memory = Memory()
+    if capacity > LIMIT:
+        return None
     if capacity and not memory.is_raised(capacity, 0, effects):
         return None
     return memory
+
+
+def error_of(capacity):
+    """Returns the error of a map that was refused a capacity."""
+    return "TooLarge" if capacity > LIMIT else "NoRoom"

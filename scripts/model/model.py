@@ -63,7 +63,7 @@ class Call:
     def __init__(self, words, model, refused):
         self.words = iter(words)
         self.model = model
-        self.effects = Effects(refused)
+        self.effects = Effects(refused, model.clones)
         self.shown = []
         self.other = None
 
@@ -93,10 +93,6 @@ class Call:
         number = int(digits)
         return number if number < 2**64 else 0
 
-    def small_number(self):
-        """Reads a number below 1,000."""
-        return self.number() % 1000
-
     def value(self):
         """Reads a value."""
         number = self.number()
@@ -119,6 +115,20 @@ class Call:
         """Reads the keys that are left of the line, one by one as they are asked for."""
         for word in self.words:
             yield self.key_of(word)
+
+    def words_left(self):
+        """Returns how many words are left."""
+        words = list(self.words)
+        self.words = iter(words)
+        return len(words)
+
+    def numbered_key(self, number):
+        """Makes the key of a number."""
+        return self.key_of(str(number))
+
+    def numbered(self, number):
+        """Makes the key and the value of a number."""
+        return self.numbered_key(number), Value(number, self.serial())
 
     def show(self, item):
         """Shows an item of the answer."""
@@ -173,6 +183,8 @@ class Model:
 
     def __init__(self):
         self.serial = 0
+        # How many clones are given until one is refused, or 0 for all.
+        self.clones = [0]
         self.begin()
 
     def begin(self):

@@ -22,7 +22,7 @@ def fold(number, data):
 class Text:
     """A key's text of at most eight bytes. Keys that differ in ASCII case alone are the same."""
 
-    __slots__ = ("data", "shown", "folded", "number", "spread", "same", "letter", "wide")
+    __slots__ = ("data", "shown", "folded", "number", "spread", "same", "letter", "wide", "high")
 
     def __init__(self, word):
         self.data = word.encode()[:8].ljust(8, b"\0")
@@ -33,6 +33,7 @@ class Text:
         self.same = 0
         self.letter = self.folded[0]
         self.wide = self.spread * MULTIPLIER & MASK
+        self.high = self.letter << 56
 
 
 @functools.cache
@@ -89,13 +90,17 @@ class Value:
 UNIT = Value(0, 0, counted=False)
 
 
+# The hashers. Any other name is that of one that spreads.
+CHOICES = ("spread", "same", "letter", "wide", "high")
+
+
 class Hasher:
     """What makes the hashers of a map. One that `Default` made is not counted."""
 
     __slots__ = ("choice", "serial", "counted", "hash_of_text")
 
     def __init__(self, choice, serial, counted=True):
-        self.choice = choice if choice in ("same", "letter", "wide") else "spread"
+        self.choice = choice if choice in CHOICES else "spread"
         self.hash_of_text = operator.attrgetter(self.choice)
         self.serial = serial
         self.counted = counted

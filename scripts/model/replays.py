@@ -24,10 +24,10 @@ def read(call):
 def read_one(call, form):
     """Reads what a command is handed."""
     if form == "pairs":
-        return [(call.key(), call.value()) for _ in range(call.small_number())]
+        return [(call.key(), call.value()) for _ in range(call.number())]
     if form == "mode":
         return call.word() == "keep"
-    return {"key": call.key, "value": call.value, "number": call.small_number}[form]()
+    return {"key": call.key, "value": call.value, "number": call.number}[form]()
 
 
 def lists(pairs):
@@ -157,10 +157,14 @@ def replay(call, map_):
     if commands and not call.effects.ask():
         call.show("refused")
         return
+    call.show(f"{len(commands)}/{len(commands)}")
     for name, given in commands:
+        before = len(map_)
         answer = COMMANDS[name](map_, call.effects, *given)
         length, capacity = len(map_), map_.memory.capacity
         call.show(f"Reply {{ answer: {answer}, len: {length}, capacity: {capacity} }}")
+        if answer.startswith("Pairs("):
+            call.show(f"pairs {before}/{before}")
 
 
 LINES = {"replay": replay}

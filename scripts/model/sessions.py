@@ -4,9 +4,10 @@ at most a limit. Ids are not counted."""
 import collections
 import itertools
 
-from memory import Memory, made
-from objects import SPREAD
-from shown import list_text, some
+import maps
+from memory import Memory, error_of, made
+from objects import SPREAD, Value
+from shown import WHOLE, digest, list_text, show_error, some
 
 
 class Session:
@@ -90,11 +91,10 @@ def new(call, _table):
 
 
 def with_capacity(call, _table):
-    limit, capacity = call.number(), call.small_number()
+    limit, capacity = call.number(), call.number()
     memory = made(capacity, call.effects)
     if memory is None:
-        call.show("refused")
-        return None
+        return show_error(call, error_of(capacity))
     return Sessions(limit, memory)
 
 
@@ -105,6 +105,17 @@ def show_refused(call, reason, session):
 
 def read_session(call):
     return Session(call.number(), call.number(), call.value())
+
+
+def is_put(call, table, session):
+    """Puts a session, and returns whether it is given."""
+    if session.weight > table.limit:
+        return False
+    gone = table.leaving(session.id, session.weight)
+    given = call.effects.ask() if gone else table.is_given(session.id, gone, call.effects)
+    if given:
+        table.put(session, gone)
+    return given
 
 
 def put(call, table):
@@ -118,9 +129,19 @@ def put(call, table):
     if not given:
         show_refused(call, "NoRoom", session)
         return
-    old = table.put(session, gone)
-    listed = ", ".join(map(str, gone))
-    call.show(f"Put {{ old: {some(old)}, gone: [{listed}] }}")
+    call.show(some(table.put(session, gone)))
+    call.show("gone")
+    call.show(f"{len(gone)}/{len(gone)}")
+    show_sessions(call, gone)
+
+
+def show_sessions(call, sessions):
+    """Shows some sessions: all of them, or both ends and a digest."""
+    shown = sessions if len(sessions) <= WHOLE else (sessions[0], sessions[-1])
+    for session in shown:
+        call.show(show_session(session).strip())
+    if len(sessions) > WHOLE:
+        call.show(digest(mix_sessions(sessions)))
 
 
 def put_with(call, table):
@@ -134,18 +155,32 @@ def put_with(call, table):
     if not table.is_given(session.id, gone, call.effects):
         show_refused(call, "NoRoom", session)
         return
-    old = table.put(session, gone)
-    for other in gone:
-        call.show(other)
-    call.show(some(old))
+    call.show(some(table.put(session, gone)))
+    call.show("handed")
+    show_sessions(call, gone)
 
 
 def touch(call, table):
-    """Shows the payload of an id, and moves its session to the back."""
-    session = table.sessions.get(call.number())
-    if session is not None:
-        table.sessions.move_to_end(session.id)
+    session = touched(table, call.number())
     call.show(some(session and session.payload))
+
+
+def touched(table, id_):
+    """Returns the session of an id, which moves to the back, or `None`."""
+    session = table.sessions.get(id_)
+    if session is not None:
+        table.sessions.move_to_end(id_)
+    return session
+
+
+def touch_mut(call, table):
+    """Shows the payload of an id, and writes another in its place."""
+    session, payload = touched(table, call.number()), call.value()
+    if session is None:
+        call.show("absent")
+    else:
+        call.show(session.payload)
+        session.payload = payload
 
 
 def remove(call, table):
@@ -154,20 +189,27 @@ def remove(call, table):
 
 
 def retain(call, table):
-    """Keeps the payloads that are not the number modulo 7, and adds 1 to each, in place."""
-    number = call.number() % 7
-    call.effects.drop_closure(call.serial())
+    keeping = maps.Keeping(call)
     for session in list(table.sessions.values()):
-        if session.payload.number % 7 == number:
+        if not keeping.keeps_value(session.payload):
             table.take(session.id)
             call.effects.drop_value(session.payload)
-        else:
-            session.payload.write(session.payload.number + 1)
+    keeping.show(call)
+
+
+def fill(call, table):
+    """Puts sessions of numbered ids, up to one that is refused."""
+    count, weight = call.number(), call.number()
+    for number in range(count):
+        session = Session(number, weight, Value(number, call.serial()))
+        if not is_put(call, table, session):
+            call.show(f"refused {number}")
+            return
+    call.show(count)
 
 
 def reserve(call, table):
-    if table.memory.reserve(call.small_number(), len(table.sessions), call.effects):
-        call.show("refused")
+    show_error(call, table.memory.reserve(call.number(), len(table.sessions), call.effects))
 
 
 def capacity(call, table):
@@ -203,6 +245,7 @@ def drop(call, table):
 
 LINES = {
     "new": new, "with_capacity": with_capacity, "put": put, "put_with": put_with, "touch": touch,
+    "touch_mut": touch_mut, "fill": fill,
     "remove": remove, "retain": retain, "reserve": reserve, "capacity": capacity, "total": total,
     "len": length, "iter": iter_sessions, "drop": drop,
 }

@@ -34,6 +34,18 @@ def quoted(text):
     return '"' + text.replace("\\", "\\\\").replace('"', '\\"').replace("\n", "\\n") + '"'
 
 
+def debug_text(pairs):
+    """Shows pairs as `Debug` shows a map."""
+    return "{" + ", ".join(f"{pair.key}: {pair.value}" for pair in pairs) + "}"
+
+
+def show_error(call, error):
+    """Shows the error of a call that reserves memory, if there is one."""
+    if error:
+        call.show("refused")
+        call.show(error)
+
+
 def digest(mixes):
     """Returns the sum of the mixes, each times its position from 1 on."""
     return sum(map(operator.mul, itertools.count(1), mixes)) & MASK
