@@ -133,6 +133,12 @@ class Drawing(calls.Drawing):
         return lines
 
 
+def names():
+    """Returns the names of all calls that are drawn."""
+    return [kind.prefix + name for kind in dict.fromkeys(KINDS)
+            for name in (kind.first, *(row[0] for table in kind[4:] for row in table))]
+
+
 def add_up(table):
     """Returns the sums of the weights of a table, up to each row."""
     total = 0
