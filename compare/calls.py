@@ -1,4 +1,5 @@
-"""Runs of calls, drawn at random."""
+"""Runs of calls, drawn at random: the calls that the originals have, which compare/run draws, and
+our own ones, which only scripts/model-tests draws too."""
 
 import collections
 
@@ -20,7 +21,7 @@ MAP_CALLS = (
     ("hasher", 1, ""),
     ("pop_front", 3, ""),
     ("pop_back", 3, ""),
-    ("reserve", 1, "value"),
+    ("reserve", 1, "room"),
     ("shrink_to_fit", 1, ""),
     ("extend", 2, "pairs"),
     ("swap", 1, ""),
@@ -58,11 +59,47 @@ RARE_MAP_CALLS = (
     ("into_iter_forget", 1, "steps"),
     ("default", 1, ""),
     ("with_hasher", 2, "hasher"),
-    ("with_capacity", 2, "hasher value"),
+    ("with_capacity", 2, "hasher room"),
     ("from_iter", 2, "pairs"),
     ("extend_refs", 2, ""),
     ("extend_drain", 1, ""),
     ("clone", 3, ""),
+)
+
+# Those that the original does not have.
+OWN_MAP_CALLS = (
+    ("retain", 3, "value"),
+    ("get_key_value", 2, "key"),
+    ("remove_entry", 3, "key"),
+    ("replace_key", 4, "key"),
+    ("insert_within_capacity", 6, "key value"),
+    ("front_mut", 1, "value"),
+    ("back_mut", 1, "value"),
+    ("values_mut", 2, "steps value"),
+    ("move_to_back", 4, "key"),
+    ("move_to_front", 4, "key"),
+    ("rotate_left", 2, "count"),
+    ("capacity", 2, ""),
+    ("rechained", 1, ""),
+    ("mode", 1, ""),
+    ("set_mode", 2, "mode"),
+    ("get_counted", 3, "key"),
+    ("visit", 2, ""),
+    ("unvisited", 1, ""),
+    ("next_entry", 6, "own_edit value"),
+    ("entry", 6, "key own_edit value"),
+    ("entries", 3, "own_edits value forget"),
+    ("or_insert_with_key", 3, "key value"),
+    ("extend_trait", 1, "pairs"),
+    ("replay", 4, "commands"),
+)
+RARE_OWN_MAP_CALLS = (
+    ("into_keys", 2, "steps forget"),
+    ("into_values", 2, "steps forget"),
+    ("collect", 2, "pairs"),
+    ("emptied", 2, ""),
+    ("made_with", 1, ""),
+    ("drop", 2, ""),
 )
 
 # Those of a cache.
@@ -94,6 +131,16 @@ RARE_CACHE_CALLS = (
     ("drain", 2, "steps"),
     ("clone", 2, ""),
 )
+OWN_CACHE_CALLS = (
+    ("put", 12, "key value"),
+    ("retain", 2, "value"),
+    ("reserve", 1, "room"),
+    ("room", 1, ""),
+    ("replay", 3, "cache_commands"),
+)
+RARE_OWN_CACHE_CALLS = (
+    ("drop", 1, ""),
+)
 
 # Those of a set.
 SET_CALLS = (
@@ -112,7 +159,7 @@ SET_CALLS = (
     ("pop_front", 2, ""),
     ("pop_back", 2, ""),
     ("len", 1, ""),
-    ("reserve", 1, "value"),
+    ("reserve", 1, "room"),
     ("shrink_to_fit", 1, ""),
     ("extend", 3, "items"),
     ("iter", 3, "steps steps"),
@@ -134,7 +181,7 @@ LONG_SET_CALLS = (
 )
 RARE_SET_CALLS = (
     ("with_hasher", 2, "hasher"),
-    ("with_capacity", 2, "hasher value"),
+    ("with_capacity", 2, "hasher room"),
     ("from_iter", 2, "items"),
     ("extend_refs", 2, ""),
     ("clone", 2, ""),
@@ -142,21 +189,63 @@ RARE_SET_CALLS = (
     ("drain", 2, "steps"),
     ("clear", 2, ""),
 )
+OWN_SET_CALLS = (
+    ("insert_if_absent", 6, "key"),
+    ("refresh", 4, "key"),
+    ("capacity", 1, ""),
+)
+RARE_OWN_SET_CALLS = (
+    ("collect", 2, "items"),
+    ("emptied", 1, ""),
+    ("made_with", 1, ""),
+    ("drop", 1, ""),
+)
 
-# A kind: what its calls begin with, the words of a new one, the form of what it takes in, and its
-# calls: those that leave most of it, those that print all of it, and those after which little is
-# left of it, or all of it is another.
-Kind = collections.namedtuple("Kind", "prefix first_forms many calls long_calls rare_calls")
-MAPS = Kind("", "hasher", "pairs", MAP_CALLS, LONG_MAP_CALLS, RARE_MAP_CALLS)
-CACHES = Kind("cache_", "hasher limit", "pairs", CACHE_CALLS, LONG_CACHE_CALLS, RARE_CACHE_CALLS)
-SETS = Kind("set_", "hasher", "items", SET_CALLS, LONG_SET_CALLS, RARE_SET_CALLS)
+# Those of a table of sessions, which no original has.
+SESSION_CALLS = (
+    ("put", 20, "id weight value"),
+    ("put_with", 8, "id weight value"),
+    ("touch", 6, "id"),
+    ("remove", 5, "id"),
+    ("retain", 1, "value"),
+    ("reserve", 1, "room"),
+    ("capacity", 1, ""),
+    ("total", 1, ""),
+    ("len", 1, ""),
+    ("iter", 2, "steps"),
+)
+RARE_SESSION_CALLS = (
+    ("new", 2, "weights"),
+    ("with_capacity", 2, "weights room"),
+    ("drop", 1, ""),
+)
+
+# A kind: what its calls begin with, the call that makes a new one and the forms of its words, the
+# form of what it takes in, and its calls: those that leave most of it, those that print all of it,
+# and those after which little is left of it, or all of it is another. The last two are our own
+# calls: those that leave most of it, and the others.
+Kind = collections.namedtuple(
+    "Kind", "prefix first first_forms many calls long_calls rare_calls own_calls rare_own_calls")
+MAPS = Kind("", "with_hasher", "hasher", "pairs", MAP_CALLS, LONG_MAP_CALLS, RARE_MAP_CALLS,
+            OWN_MAP_CALLS, RARE_OWN_MAP_CALLS)
+CACHES = Kind("cache_", "with_hasher", "hasher limit", "pairs", CACHE_CALLS, LONG_CACHE_CALLS,
+              RARE_CACHE_CALLS, OWN_CACHE_CALLS, RARE_OWN_CACHE_CALLS)
+SETS = Kind("set_", "with_hasher", "hasher", "items", SET_CALLS, LONG_SET_CALLS, RARE_SET_CALLS,
+            OWN_SET_CALLS, RARE_OWN_SET_CALLS)
+SESSIONS = Kind("sessions_", "new", "weights", "", (), (), (), SESSION_CALLS, RARE_SESSION_CALLS)
 KINDS = (MAPS, CACHES, SETS)
 
+# The calls that the originals have.
 NAMES = [kind.prefix + name for kind in KINDS
          for name, _, _ in kind.calls + kind.long_calls + kind.rare_calls]
 
 # The most pairs or items that a run begins with.
 MOST_AT_FIRST = 1000
+
+
+def key_of(number):
+    """Returns the key of a number."""
+    return "abcdefghijklmnopqrstuvwxyz"[number % 26] + str(number)
 
 
 class Drawing:
@@ -167,18 +256,18 @@ class Drawing:
         self.rng = rng
         self.keys = keys
         self.calls = kind.calls if keys > 100 else kind.calls + kind.long_calls
+        self.rare_calls = kind.rare_calls
         self.rare = min(0.06, 3 / keys) if rare is None else rare
 
     def key(self):
-        number = self.rng.randrange(self.keys)
-        key = "abcdefghijklmnopqrstuvwxyz"[number % 26] + str(number)
+        key = key_of(self.rng.randrange(self.keys))
         return key.upper() if self.rng.random() < 0.25 else key
 
     def word(self, form):
         rng = self.rng
         if form == "key":
             return self.key()
-        if form == "value":
+        if form in ("value", "room"):
             return str(rng.randrange(100))
         if form == "limit":
             return str(rng.randrange(min(self.keys + 2, MOST_AT_FIRST)))
@@ -205,15 +294,15 @@ class Drawing:
         return " ".join(words).rstrip()
 
     def call(self):
-        calls = self.kind.rare_calls if self.rng.random() < self.rare else self.calls
+        calls = self.rare_calls if self.rng.random() < self.rare else self.calls
         weights = [weight for _, weight, _ in calls]
         (name, _, forms), = self.rng.choices(calls, weights)
         return self.line(name, self.rng.choice("aab"), forms)
 
     def run(self, calls):
         """Draws a run of so many calls, on two that are new at its start."""
-        first = [self.line("with_hasher", which, self.kind.first_forms) for which in "ab"]
-        if self.keys > 3:
+        first = [self.line(self.kind.first, which, self.kind.first_forms) for which in "ab"]
+        if self.keys > 3 and self.kind.many:
             count = min(self.keys, MOST_AT_FIRST)
             first.append(f"{self.kind.prefix}extend a " + self.many(self.kind.many, count))
         return first + [self.call() for _ in range(calls - len(first))]

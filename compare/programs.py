@@ -32,7 +32,7 @@ BY_MAP = "_by_map"
 
 def stop(message):
     """Ends the program, which could not compare anything."""
-    print(f"compare/{pathlib.Path(sys.argv[0]).name}: {message}")
+    print(f"{'/'.join(pathlib.Path(sys.argv[0]).resolve().parts[-2:])}: {message}")
     sys.exit(2)
 
 

@@ -1,0 +1,109 @@
+"""What a call does besides its answer."""
+
+from objects import MASK
+
+# The effects in the order in which a line shows them.
+ORDER = (
+    "drop-keys", "drop-values", "drop-hashers", "drop-closures", "hash-keys", "eq-keys",
+    "eq-values", "cmp-keys", "cmp-values", "clone-keys", "clone-values", "clone-hashers",
+    "build-hashers", "hash-values",
+)
+
+
+class Effects:
+    """The counts of a line. `requests` counts what asks for memory, of which those of the numbers
+    `refused` are refused."""
+
+    __slots__ = ("counts", "drops", "least", "most", "requests", "refused", "clones")
+
+    def __init__(self, refused=(), clones=None):
+        self.counts = {}
+        # How many clones are given until one is refused, in a list of one, or 0 for all.
+        self.clones = clones or [0]
+        self.drops = {}
+        # Between these two are the comparisons of keys.
+        self.least = self.most = 0
+        self.requests = 0
+        self.refused = refused
+
+    def ask(self):
+        """Asks for memory, and returns whether it is given."""
+        self.requests += 1
+        return self.requests not in self.refused
+
+    def add(self, name, count=1):
+        """Counts an effect."""
+        self.counts[name] = self.counts.get(name, 0) + count
+
+    def drop(self, name, serial):
+        """Counts the drop of an object."""
+        count, total = self.drops.get(name, (0, 0))
+        self.drops[name] = (count + 1, total + serial)
+
+    def drop_key(self, key):
+        """Counts the drop of a key."""
+        self.drop("drop-keys", key.serial)
+
+    def drop_value(self, value):
+        """Counts the drop of a value."""
+        if value.counted:
+            self.drop("drop-values", value.serial)
+
+    def drop_pair(self, pair):
+        """Counts the drop of a key and its value."""
+        self.drop_key(pair.key)
+        self.drop_value(pair.value)
+
+    def drop_hasher(self, hasher):
+        """Counts the drop of a hasher."""
+        if hasher.counted:
+            self.drop("drop-hashers", hasher.serial)
+
+    def drop_closure(self, serial):
+        """Counts the drop of a closure."""
+        self.drop("drop-closures", serial)
+
+    def hash_key(self, hasher):
+        """Counts that a hasher is built and a key hashed."""
+        self.add("hash-keys")
+        if hasher.counted:
+            self.add("build-hashers")
+
+    def compare_keys(self, least, most):
+        """Counts comparisons of keys, between two numbers."""
+        self.least += least
+        self.most += most
+
+    def is_cloned(self, name):
+        """Counts a clone, and returns whether it is given."""
+        self.add(name)
+        if self.clones[0] == 0:
+            return True
+        self.clones[0] -= 1
+        return self.clones[0] > 0
+
+    def clone_key(self, key):
+        """Returns the clone of a key, or `None` if it is refused."""
+        return key.clone() if self.is_cloned("clone-keys") else None
+
+    def clone_value(self, value):
+        """Returns the clone of a value, or `None` if it is refused."""
+        return value.clone() if not value.counted or self.is_cloned("clone-values") else None
+
+    def clone_hasher(self, hasher):
+        """Returns the clone of a hasher, or `None` if it is refused."""
+        return hasher.clone() if not hasher.counted or self.is_cloned("clone-hashers") else None
+
+    def dropped(self):
+        """Returns how many keys and values were dropped."""
+        return sum(self.drops.get(name, (0, 0))[0] for name in ("drop-keys", "drop-values"))
+
+    def table(self):
+        """Returns each effect as a line shows it, or as a pair of the least and the most."""
+        found = {name: str(count) for name, count in self.counts.items() if count}
+        for name, (count, total) in self.drops.items():
+            found[name] = f"{count}:{total & MASK}"
+        if self.most:
+            is_exact = self.least == self.most
+            found["eq-keys"] = str(self.most) if is_exact else (self.least, self.most)
+        return found

@@ -1,0 +1,145 @@
+"""The memory of a map: how many requests each change of its capacity makes, and in which order.
+
+The capacity is the number of pairs that fit. There are as many buckets as the capacity, rounded up
+to a power of two, or none at 0. Each bucket has a head and a word of the filter.
+
+A growth asks, in this order, for
+- heads and then filter words, if it needs more buckets than there are;
+- a longer list of chunks, if all its places are taken: the list has 4 places at first, then 8, 16,
+  and so on;
+- a chunk, if there are fewer nodes than the new capacity. It has the nodes that are missing. A
+  growth by one makes it at least as many as there are nodes, at most 64, and at most as many as
+  there are then buckets beyond the nodes.
+
+If one is refused, the growth gives back the buckets and the filter, and the capacity stays. A list
+that was made longer stays so, since it belongs to the map and not to the growth. What is made anew
+(a map with a capacity, a clone, the nodes of a shrinking) is given back as a whole.
+
+A shrinking to fewer buckets asks for new heads and words and then, as a new ring does, for a list
+and one chunk of exactly the pairs. With as many buckets it asks for nothing, and the nodes stay;
+without pairs it frees all. No other call asks for memory for pairs.
+"""
+
+LIMIT = 2**59
+# A chunk that a growth by one makes has no more nodes beyond those that are missing.
+MOST_AHEAD = 64
+FIRST_LIST = 4
+# A request for so many bytes is refused on any machine.
+NO_MACHINE = 2**47
+
+
+def buckets_for(capacity):
+    """Returns the capacity rounded up to a power of two, or 0 for 0."""
+    return 1 << (capacity - 1).bit_length() if capacity else 0
+
+
+def is_given_buckets(count, effects):
+    """Asks for heads and filter words, and returns whether both are given."""
+    if count == 0:
+        return True
+    return effects.ask() and count * 8 < NO_MACHINE and effects.ask()
+
+
+class Memory:
+    """The capacity, the buckets, the nodes and the chunks of a map, and how many nodes rehashes
+    have moved since the capacity was lowered."""
+
+    __slots__ = ("capacity", "buckets", "nodes", "chunks", "places", "rechained")
+
+    def __init__(self):
+        self.free()
+
+    def free(self):
+        """Frees all."""
+        self.capacity = self.buckets = self.nodes = 0
+        # The chunks, and the places of their list.
+        self.chunks = self.places = 0
+        self.rechained = 0
+
+    def is_given_chunk(self, nodes, effects):
+        """Asks for a chunk, and for a longer list first if that is full."""
+        if self.chunks == self.places:
+            if not effects.ask():
+                return False
+            self.places = self.places * 2 or FIRST_LIST
+        if not effects.ask():
+            return False
+        self.chunks += 1
+        self.nodes += nodes
+        return True
+
+    def is_given_nodes(self, capacity, buckets, effects):
+        """Makes as many nodes as a capacity needs, and further ones if it rises by one."""
+        missing = capacity - self.nodes
+        if missing <= 0:
+            return True
+        ahead = 0
+        if capacity == self.capacity + 1:
+            ahead = min(self.nodes, buckets - self.nodes, MOST_AHEAD)
+        return self.is_given_chunk(max(missing, ahead), effects)
+
+    def is_raised(self, capacity, length, effects):
+        """Raises the capacity of a map of so many pairs, if memory is given."""
+        buckets = buckets_for(capacity)
+        rehashes = buckets > self.buckets
+        if rehashes and not is_given_buckets(buckets, effects):
+            return False
+        if not self.is_given_nodes(capacity, max(buckets, self.buckets), effects):
+            return False
+        if rehashes:
+            self.buckets = buckets
+            self.rechained += length
+        self.capacity = capacity
+        return True
+
+    def has_room(self, length, effects):
+        """Raises a full capacity by one, and returns whether there is room for one more pair."""
+        if length < self.capacity:
+            return True
+        if self.capacity == LIMIT:
+            return False
+        return self.is_raised(self.capacity + 1, length, effects)
+
+    def reserve(self, additional, length, effects):
+        """Raises the capacity if it is below the pairs and so many more. Returns `None` or the
+        error."""
+        wanted = length + additional
+        if wanted > LIMIT:
+            return "TooLarge"
+        if wanted <= self.capacity or self.is_raised(wanted, length, effects):
+            return None
+        return "NoRoom"
+
+    def is_shrunk(self, length, effects):
+        """Lowers the capacity to the number of pairs, if memory is given."""
+        if length == 0:
+            self.free()
+            return True
+        if length == self.capacity:
+            return True
+        buckets = buckets_for(length)
+        if buckets == self.buckets:
+            self.capacity = length
+            self.rechained = 0
+            return True
+        fresh = Memory()
+        if not fresh.is_raised(length, length, effects):
+            return False
+        for name in Memory.__slots__:
+            setattr(self, name, getattr(fresh, name))
+        return True
+
+
+def made(capacity, effects):
+    """Returns the memory of a new map of a capacity, or `None` if it is refused."""
+    memory = Memory()
+    if capacity > LIMIT:
+        return None
+    if capacity and not memory.is_raised(capacity, 0, effects):
+        return None
+    return memory
+
+
+def error_of(capacity):
+    """Returns the error of a map that was refused a capacity."""
+    return "TooLarge" if capacity > LIMIT else "NoRoom"

@@ -1,0 +1,122 @@
+"""The driver, what it prints of some lines, and what the C library saw of its requests."""
+
+import collections
+import pathlib
+import shutil
+import subprocess
+import sys
+import tempfile
+
+TOP = pathlib.Path(__file__).resolve().parent.parent.parent
+sys.path.insert(0, str(TOP / "compare"))
+
+from programs import DRIVER, is_up_to_date, tried
+
+SECONDS = 300
+
+# What a program did: the lines that it printed, a record for each line that it began, or None
+# without the C library, how many blocks it never gave back, and what else is wrong, or "".
+Ran = collections.namedtuple("Ran", "lines records blocks fault")
+
+
+# What a line did: how many requests it made, the numbers of those refused, and its windows.
+Record = collections.namedtuple("Record", "requests refused windows")
+
+
+class Refusals(collections.namedtuple("Refusals", "chance seed next_too at")):
+    """What is refused: each request with a chance, as 1/8, drawn from a seed, with or without those
+    behind it in a line, and those of the numbers `at`, pairs of a line and a request."""
+
+    def environment(self):
+        """Returns the variables that tell the C library so."""
+        named = ",".join(f"{line}:{request}" for line, request in self.at)
+        words = {"REFUSE_CHANCE": self.chance, "REFUSE_AT": named}
+        if self.chance:
+            words.update(REFUSE_SEED=str(self.seed), REFUSE_NEXT_TOO=str(int(self.next_too)))
+        return {name: word for name, word in words.items() if word}
+
+
+NO_REFUSALS = Refusals("", 0, False, ())
+
+
+def refusals_at(pairs):
+    """Returns the refusals of requests, each by the number of its line and its own."""
+    return Refusals("", 0, False, tuple(pairs))
+
+
+def build_library(folder):
+    """Builds the C library into a folder with the compiler of the toolchain, and returns where it
+    is, or None and what the compiler says."""
+    rt = shutil.which("rt")
+    if not rt:
+        return None, "put rt, the command of the Rattle kit, on the PATH"
+    clang = pathlib.Path(rt).resolve().parent.parent / "toolchain" / "bin" / "clang"
+    library = pathlib.Path(folder) / "requests.so"
+    flags = "-Wall -Wextra -Werror -O2 -fno-builtin -shared -fPIC -nostdlib".split()
+    source = pathlib.Path(__file__).resolve().parent / "requests.c"
+    built = subprocess.run([str(clang), *flags, "-o", str(library), str(source)],
+                           capture_output=True, text=True, check=False)
+    return (library, "") if built.returncode == 0 else (None, built.stderr)
+
+
+def read_log(text):
+    """Takes apart what the C library wrote: a record for each line, and how many blocks are left,
+    or None where the end is missing."""
+    records, blocks = [], None
+    for line in text.splitlines():
+        words = line.split()
+        if words[0] == "marks":
+            blocks = int(words[3])
+            continue
+        requests, first, windows, *further = map(int, words)
+        records.append(Record(requests, (first, *further) if first else (), windows))
+    return records, blocks
+
+
+class Driver:
+    """The built driver, with the C library preloaded."""
+
+    def __init__(self, program, library):
+        self.program, self.library = str(program), str(library)
+
+    def run(self, lines, refusals=NO_REFUSALS):
+        """Runs some lines, and returns what the program did."""
+        with tempfile.TemporaryDirectory(prefix="model-tests-") as folder:
+            log = pathlib.Path(folder) / "log"
+            env = {"LD_PRELOAD": self.library, "REQUESTS_LOG": str(log), **refusals.environment()}
+            try:
+                ran = subprocess.run(
+                    [self.program], input="".join(line + "\n" for line in lines).encode(), env=env,
+                    capture_output=True, timeout=SECONDS, check=False)
+            except subprocess.TimeoutExpired:
+                return Ran([], None, 0, f"it has not ended after {SECONDS} s")
+            records, blocks = read_log(log.read_text() if log.exists() else "")
+        fault = "" if blocks is not None else "the C library wrote nothing at its end"
+        if ran.returncode != 0:
+            fault = f"it ended with status {ran.returncode}: {ran.stderr[:200]!r}"
+        printed = ran.stdout.decode(errors="replace").split("\n")[:-1]
+        return Ran(printed, records, blocks or 0, fault)
+
+
+class Tried:
+    """The driver as `rt try` builds it, with no proof and no C library, so that nothing is refused.
+    One build runs all of what is prepared."""
+
+    def __init__(self):
+        self.printed = {}
+
+    def prepare(self, runs):
+        """Runs the lines of each run."""
+        self.printed.update(zip(map(tuple, runs), tried(runs)))
+
+    def run(self, lines, _refusals=NO_REFUSALS):
+        """Returns what the program did on some lines, which are run if they were not prepared."""
+        if tuple(lines) not in self.printed:
+            self.prepare([lines])
+        return Ran(self.printed[tuple(lines)], None, 0, "")
+
+
+def find_driver():
+    """Returns the built driver, or None if it is not there or older than a source."""
+    program = DRIVER / "out" / "driver"
+    return program if is_up_to_date(program, "driver") else None
