@@ -1,7 +1,7 @@
 """`replay`: a run of commands on a map."""
 
 from linked import Refused
-from shown import pair_text
+from shown import WHOLE, list_text, mix_pairs, pair_text, show_pair
 
 # The commands by the words of a line: what is made of the words behind each.
 FORMS = {
@@ -78,10 +78,10 @@ def clear(map_, effects):
 
 
 def drain(map_, effects):
-    """The list is asked for first."""
+    """The list is asked for first. Returns the pairs."""
     if map_.pairs and not effects.ask():
         return "NoRoom"
-    return f"Pairs({lists(map_.take_all())})"
+    return map_.take_all()
 
 
 def extend(map_, effects, pairs):
@@ -151,6 +151,22 @@ COMMANDS = {
 }
 
 
+def show_reply(call, map_, answer):
+    """Shows an answer, and the length and the capacity after it."""
+    length, capacity = len(map_), map_.memory.capacity
+    call.show(f"Reply {{ answer: {answer}, len: {length}, capacity: {capacity} }}")
+
+
+def show_drained(call, map_, pairs):
+    """Shows a reply with pairs, or their ends and a digest, and the length of their list."""
+    if len(pairs) <= WHOLE:
+        show_reply(call, map_, f"Pairs({lists(pairs)})")
+    else:
+        call.show("Pairs" + list_text(pairs, show_pair, mix_pairs))
+        call.show(f"{len(map_)}/{map_.memory.capacity}")
+    call.show(f"pairs {len(pairs)}/{len(pairs)}")
+
+
 def replay(call, map_):
     """The replies are asked for first. If that is refused, no command is run."""
     commands = read(call)
@@ -159,12 +175,11 @@ def replay(call, map_):
         return
     call.show(f"{len(commands)}/{len(commands)}")
     for name, given in commands:
-        before = len(map_)
         answer = COMMANDS[name](map_, call.effects, *given)
-        length, capacity = len(map_), map_.memory.capacity
-        call.show(f"Reply {{ answer: {answer}, len: {length}, capacity: {capacity} }}")
-        if answer.startswith("Pairs("):
-            call.show(f"pairs {before}/{before}")
+        if isinstance(answer, list):
+            show_drained(call, map_, answer)
+        else:
+            show_reply(call, map_, answer)
 
 
 LINES = {"replay": replay}
