@@ -2,6 +2,10 @@
 ghost use Rattle.std.specs.Prelude.{◌≡◌, ◌==◌, ◌+◌, ◌*◌, ◌%◌, fold, get_or, if◌then◌else◌};
 ghost use Rattle.driver.specs.Hashers.{hash_of};
 
+use super::counts::{Counts, Event, Kind};
+use super::key::COPY;
+use std::alloc::AllocError;
+use std::fmt;
 use std::hash::{BuildHasher, Hasher};
 
 /// An odd number whose multiples have changing bits up to the highest.
@@ -80,18 +84,62 @@ fn first_of(bytes: &[u8]) -> u64
     }
 }
 
-/// Makes the hashers of a choice.
-#[derive(Clone, Copy, Debug)]
-pub struct BuildKeyHasher {
-    pub choice: Choice,
+/// Makes the hashers of a choice. One that is made by default counts nothing, and its serial number
+/// is 0.
+pub struct BuildKeyHasher<'a> {
+    choice: Choice,
+    serial: u64,
+    counts: Option<&'a Counts>,
 }
 
-impl BuildHasher for BuildKeyHasher {
+impl<'a> BuildKeyHasher<'a> {
+    /// Makes the builder of a choice, with the next serial number.
+    pub fn new(choice: Choice, counts: &'a Counts) -> BuildKeyHasher<'a> {
+        BuildKeyHasher {
+            choice,
+            serial: counts.next_serial(),
+            counts: Some(counts),
+        }
+    }
+
+    fn count(&self, event: Event) {
+        if let Some(counts) = self.counts {
+            counts.count(event);
+        }
+    }
+}
+
+impl<'a> Drop for BuildKeyHasher<'a> {
+    fn drop(self) {
+        if let Some(counts) = self.counts {
+            counts.count_drop(Kind::Hasher, self.serial);
+        }
+        let BuildKeyHasher {
+            choice: _,
+            serial: _,
+            counts: _,
+        } = self;
+    }
+}
+
+impl<'a> Clone for BuildKeyHasher<'a> {
+    fn clone(&self) -> Result<BuildKeyHasher<'a>, AllocError> {
+        self.count(Event::CloneHasher);
+        Ok(BuildKeyHasher {
+            choice: self.choice,
+            serial: self.serial.wrapping_add(COPY),
+            counts: self.counts,
+        })
+    }
+}
+
+impl<'a> BuildHasher for BuildKeyHasher<'a> {
     type Hasher = KeyHasher;
 
     ghost build_hasher = { λ build. record { choice = build.choice; number = 0; first = 0 } };
 
     fn build_hasher(&self) -> KeyHasher {
+        self.count(Event::BuildHasher);
         KeyHasher {
             choice: self.choice,
             number: 0,
@@ -100,11 +148,20 @@ impl BuildHasher for BuildKeyHasher {
     }
 }
 
-/// Spreads the keys.
-impl Default for BuildKeyHasher {
-    fn default() -> BuildKeyHasher {
+/// Spreads the keys, and counts nothing.
+impl<'a> Default for BuildKeyHasher<'a> {
+    fn default() -> BuildKeyHasher<'a> {
         BuildKeyHasher {
             choice: Choice::Spread,
+            serial: 0,
+            counts: None,
         }
+    }
+}
+
+/// The choice alone.
+impl<'a> fmt::Debug for BuildKeyHasher<'a> {
+    fn fmt<W: fmt::Write>(&self, f: &mut fmt::Formatter<W>) -> fmt::Result {
+        write!(f, "BuildKeyHasher {{ choice: {:?} }}", self.choice)
     }
 }

@@ -5,6 +5,7 @@ use super::hasher::BuildKeyHasher;
 use super::key::Key;
 use super::line::Line;
 use super::output::Output;
+use super::value::Value;
 use linked_hash_map::IterMut;
 use std::alloc::Global;
 use std::fmt::Debug;
@@ -21,109 +22,130 @@ fn step<T, I: DoubleEndedIterator<Item = T>>(items: &mut I, letter: u8) -> Optio
     }
 }
 
-/// Makes a step for each letter, and appends what each gives and how much is left.
+/// Makes a step for each letter, and appends what each gives and how much is left. Each step is
+/// within a window.
 pub fn iterate<T: Debug + Drop, I: DoubleEndedIterator<Item = T> + ExactSizeIterator>(
     items: &mut I,
     steps: &str,
-    output: &mut Output,
+    output: &mut Output<'_>,
 )
     requires { (items : I) → I.can_next items × I.can_next_back items }
 {
     for letter in steps.bytes() {
+        output.begin();
         output.show(&step(items, letter));
         output.show_two(&items.size_hint(), &items.len());
     }
+}
+
+/// Iterates, and drops the iterator within a window.
+pub fn iterate_and_drop<
+    T: Debug + Drop,
+    I: DoubleEndedIterator<Item = T> + ExactSizeIterator + Drop,
+>(items: I, steps: &str, output: &mut Output<'_>)
+    requires { (items : I) → I.can_next items × I.can_next_back items }
+{
+    let mut items = items;
+    iterate(&mut items, steps, output);
+    output.drop_within(items);
 }
 
 /// Iterates, clones the iterator, and iterates by the clone and then by the iterator itself.
 pub fn iterate_and_clone<
     T: Debug + Drop,
     I: DoubleEndedIterator<Item = T> + ExactSizeIterator + Clone + Drop,
->(items: I, line: &mut Line<'_>, output: &mut Output)
+>(items: I, line: &mut Line<'_>, output: &mut Output<'_>)
     requires { (items : I) → I.can_next items × I.can_next_back items }
 {
     let mut items = items;
     iterate(&mut items, line.word(), output);
     let steps = line.word();
+    output.begin();
     match items.clone() {
-        Ok(mut copy) => iterate(&mut copy, steps, output),
-        Err(_) => output.refuse(),
+        Ok(copy) => iterate_and_drop(copy, steps, output),
+        Err(refused) => output.show_refusal(Err::<(), _>(refused)),
     }
     output.push_str("/ ");
-    iterate(&mut items, steps, output);
+    iterate_and_drop(items, steps, output);
 }
 
 /// Appends a pair, and writes its value.
-fn write_pair(key: &Key, lent: &mut u64, value: u64, output: &mut Output) {
-    output.show_pair(key, *lent);
-    *lent = value;
+fn write_pair<'a>(key: &Key<'a>, lent: &mut Value<'a>, value: Value<'a>, output: &mut Output<'a>) {
+    output.show_pair(key, lent);
+    output.write(lent, value);
 }
 
 /// Iterates by what `iter_mut` returns, and writes each value that is lent.
-pub fn iterate_and_write(
-    pairs: IterMut<'_, Key, u64>,
-    steps: &str,
-    value: u64,
-    output: &mut Output,
+pub fn iterate_and_write<'a>(
+    pairs: IterMut<'_, Key<'a>, Value<'a>>,
+    line: &mut Line<'a>,
+    output: &mut Output<'a>,
 ) {
     let mut pairs = pairs;
+    let steps = line.word();
+    let mut values = line.values();
     for letter in steps.bytes() {
+        output.begin();
         match step(&mut pairs, letter) {
-            Some((key, lent)) => write_pair(key, lent, value, output),
+            Some((key, lent)) => write_pair(key, lent, values.take(), output),
             None => output.push_str("end "),
         }
         output.show_two(&pairs.size_hint(), &pairs.len());
     }
+    output.drop_within(pairs);
 }
 
-/// Adds a number to every value, in a loop over the map.
-fn add(map: &mut Map, number: u64) {
+/// Adds a number to every value in place, in a loop over the map.
+fn add<'a>(map: &mut Map<'a>, number: u64) {
     for (_key, value) in map {
-        *value = value.wrapping_add(number);
+        value.increase(number);
     }
 }
 
-/// Appends every pair, in a loop over the map.
-fn show_all(map: &Map, output: &mut Output) {
+/// Appends every pair, in a loop over the map. Each step is within a window.
+fn show_all<'a>(map: &Map<'a>, output: &mut Output<'a>) {
     for (key, value) in map {
-        output.show_pair(key, *value);
+        output.show_pair(key, value);
+        output.begin();
     }
 }
 
 /// Takes the map, and leaves an empty one with the default hasher in its place.
-fn take(alloc: Global, map: &mut Map) -> Map {
+fn take<'a>(alloc: Global, map: &mut Map<'a>) -> Map<'a> {
     mem::replace(map, Map::with_hasher(alloc, BuildKeyHasher::default()))
 }
 
 /// Iterates by `drain`, and drops or forgets the iterator.
-fn drain(map: &mut Map, line: &mut Line<'_>, output: &mut Output) {
+fn drain<'a>(map: &mut Map<'a>, line: &mut Line<'a>, output: &mut Output<'a>) {
     let mut pairs = map.drain();
     iterate(&mut pairs, line.word(), output);
     if line.word() == "forget" {
         mem::forget(pairs);
+    } else {
+        output.drop_within(pairs);
     }
 }
 
 /// Iterates over a map that is taken, and forgets what is left.
-fn iterate_and_forget(map: Map, steps: &str, output: &mut Output) {
+fn iterate_and_forget<'a>(map: Map<'a>, steps: &str, output: &mut Output<'a>) {
     let mut pairs = map.into_iter();
     iterate(&mut pairs, steps, output);
     mem::forget(pairs);
 }
 
 /// Runs the call of this name, and returns whether there is one.
-pub fn run(
+pub fn run<'a>(
     alloc: Global,
     name: &str,
-    line: &mut Line<'_>,
-    map: &mut Map,
-    output: &mut Output,
+    line: &mut Line<'a>,
+    map: &mut Map<'a>,
+    output: &mut Output<'a>,
 ) -> bool {
     match name {
         "iter" => iterate_and_clone(map.iter(), line, output),
         "keys" => iterate_and_clone(map.keys(), line, output),
         "values" => iterate_and_clone(map.values(), line, output),
-        "iter_mut" => iterate_and_write(map.iter_mut(), line.word(), line.number(), output),
+        "iter_mut" => iterate_and_write(map.iter_mut(), line, output),
         "into_iter" => iterate_and_clone(take(alloc, map).into_iter(), line, output),
         "into_iter_forget" => iterate_and_forget(take(alloc, map), line.word(), output),
         "drain" => drain(map, line, output),

@@ -5,14 +5,20 @@
 //! 0.1.2 and hashlink 0.8.0, and `compare/run --help` says what the lines are. What is proved of
 //! this program is that it is safe and ends.
 //!
-//! The exit status is 0; 3 if an allocation fails; 4 if the input is no text, or reading or writing
+//! A line of the output ends with the effects of the call: what it dropped, and how often it hashed,
+//! compared and cloned. A call that is refused memory answers what it hands back. A line that begins
+//! with `#` is printed as it is, and everything is made anew.
+//!
+//! The exit status is 0; 3 if an allocation of the program itself fails; 4 if the input is no text, or reading or writing
 //! fails.
 #![tactic(auto)]
 
 mod caches;
 mod changes;
 mod comparisons;
+mod counts;
 mod entries;
+mod guard;
 mod hasher;
 mod iterators;
 mod key;
@@ -20,11 +26,16 @@ mod line;
 mod list;
 mod lookups;
 mod making;
+mod marks;
+mod ordered;
 mod output;
+mod refusal;
 mod sets;
 mod stop;
+mod value;
 
 use caches::Cache;
+use counts::Counts;
 use hasher::BuildKeyHasher;
 use key::Key;
 use line::Line;
@@ -36,45 +47,45 @@ use std::io;
 use std::io::{Read, Write};
 use std::process::ExitCode;
 use stop::Stop;
+use value::Value;
 
 /// The maps that the lines speak of.
-type Map = LinkedHashMap<Key, u64, BuildKeyHasher>;
+type Map<'a> = LinkedHashMap<Key<'a>, Value<'a>, BuildKeyHasher<'a>>;
 
 /// What the lines speak of: two maps, two caches and two sets.
 #[derive(Drop)]
-struct All {
-    map_a: Map,
-    map_b: Map,
-    cache_a: Cache,
-    cache_b: Cache,
-    set_a: Set,
-    set_b: Set,
+struct All<'a> {
+    map_a: Map<'a>,
+    map_b: Map<'a>,
+    cache_a: Cache<'a>,
+    cache_b: Cache<'a>,
+    set_a: Set<'a>,
+    set_b: Set<'a>,
 }
 
-impl All {
+impl<'a> All<'a> {
     /// Makes them, all empty.
-    fn new(alloc: Global) -> All {
-        let hasher = BuildKeyHasher::default();
+    fn new(alloc: Global) -> All<'a> {
         All {
-            map_a: Map::with_hasher(alloc, hasher),
-            map_b: Map::with_hasher(alloc, hasher),
-            cache_a: Cache::with_hasher(alloc, 0, hasher),
-            cache_b: Cache::with_hasher(alloc, 0, hasher),
-            set_a: Set::with_hasher(alloc, hasher),
-            set_b: Set::with_hasher(alloc, hasher),
+            map_a: Map::with_hasher(alloc, BuildKeyHasher::default()),
+            map_b: Map::with_hasher(alloc, BuildKeyHasher::default()),
+            cache_a: Cache::with_hasher(alloc, 0, BuildKeyHasher::default()),
+            cache_b: Cache::with_hasher(alloc, 0, BuildKeyHasher::default()),
+            set_a: Set::with_hasher(alloc, BuildKeyHasher::default()),
+            set_b: Set::with_hasher(alloc, BuildKeyHasher::default()),
         }
     }
 }
 
 /// Runs the call of this name on `map` and, if it takes two, on `other` too, appends what it
 /// returns and the list of `map`, and returns whether there is such a call.
-fn run_on_map(
+fn run_on_map<'a>(
     alloc: Global,
     name: &str,
-    line: &mut Line<'_>,
-    map: &mut Map,
-    other: &mut Map,
-    output: &mut Output,
+    line: &mut Line<'a>,
+    map: &mut Map<'a>,
+    other: &mut Map<'a>,
+    output: &mut Output<'a>,
 ) -> bool {
     let is_known = lookups::run(name, line, map, output)
         || changes::run(name, line, map, output)
@@ -88,10 +99,17 @@ fn run_on_map(
     is_known
 }
 
-/// Runs the call of a line on what it names, and returns whether there is such a call.
-fn run_call(alloc: Global, line: &mut Line<'_>, all: &mut All, output: &mut Output) -> bool {
+/// Runs the call of a line on what it names, and returns whether there is such a call. The first
+/// window is open when the call begins.
+fn run_call<'a>(
+    alloc: Global,
+    line: &mut Line<'a>,
+    all: &mut All<'a>,
+    output: &mut Output<'a>,
+) -> bool {
     let name = line.word();
     let is_b = line.word() == "b";
+    output.begin();
     if let Some(name) = name.strip_prefix("cache_") {
         if is_b {
             caches::run(alloc, name, line, &mut all.cache_b, &all.cache_a, output)
@@ -112,12 +130,20 @@ fn run_call(alloc: Global, line: &mut Line<'_>, all: &mut All, output: &mut Outp
 }
 
 /// Runs the lines on new maps, caches and sets, and returns the whole text of the output. For a
-/// line that is no call that is `unknown`.
+/// line that is no call that is `unknown`. A line that begins with `#` makes everything anew.
 fn respond(alloc: Global, lines: &str) -> Result<String, Stop> {
-    let mut output = Output::new(alloc);
+    let counts = Counts::new();
+    let mut output = Output::new(alloc, &counts);
     let mut all = All::new(alloc);
-    for line in lines.lines() {
-        if !run_call(alloc, &mut Line::new(line), &mut all, &mut output) {
+    for text in lines.lines() {
+        output.begin_line();
+        if text.starts_with('#') {
+            all = All::new(alloc);
+            output.push_str(text);
+            output.push_str("\n");
+        } else if run_call(alloc, &mut Line::new(text, &counts), &mut all, &mut output) {
+            output.end_line();
+        } else {
             output.push_str("unknown\n");
         }
     }
