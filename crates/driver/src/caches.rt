@@ -100,7 +100,7 @@ fn show_all<'a>(cache: &Cache<'a>, output: &mut Output<'a>) {
 fn into_iter<'a>(cache: &Cache<'a>, steps: &str, output: &mut Output<'a>) {
     match cache.clone() {
         Ok(copy) => iterate_and_drop(copy.into_iter(), steps, output),
-        Err(refused) => output.show_refusal(Err::<(), _>(refused)),
+        Err(refused) => output.show_refused(refused),
     }
 }
 

@@ -60,16 +60,11 @@ fn edit_occupied<'a>(
     }
 }
 
-/// Appends a value that was inserted.
-fn show_inserted<'a>(lent: Lent<'_, 'a>, output: &mut Output<'a>) {
-    output.show_result(lent);
-}
-
 /// Writes to a value that was inserted.
 fn write_inserted<'a>(lent: Lent<'_, 'a>, value: Value<'a>, output: &mut Output<'a>) {
     match lent {
         Ok(lent) => output.write(lent, value),
-        Err(refused) => output.show_refusal(Err::<(), _>(refused)),
+        Err(refused) => output.show_refused(refused),
     }
 }
 
@@ -85,7 +80,7 @@ fn edit_vacant<'a>(
     output.show(entry.key());
     output.begin();
     match edit {
-        b'i' => show_inserted(entry.insert(values.take()), output),
+        b'i' => output.show_result(entry.insert(values.take())),
         b'm' => write_inserted(entry.insert(values.zero()), values.take(), output),
         _ => output.drop_within(entry),
     }
@@ -144,7 +139,7 @@ fn show_and_increase<'a>(lent: Lent<'_, 'a>, output: &mut Output<'a>) {
             output.show(lent);
             lent.increase(1);
         }
-        Err(refused) => output.show_refusal(Err::<(), _>(refused)),
+        Err(refused) => output.show_refused(refused),
     }
 }
 

@@ -63,7 +63,7 @@ pub fn iterate_and_clone<
     output.begin();
     match items.clone() {
         Ok(copy) => iterate_and_drop(copy, steps, output),
-        Err(refused) => output.show_refusal(Err::<(), _>(refused)),
+        Err(refused) => output.show_refused(refused),
     }
     output.push_str("/ ");
     iterate_and_drop(items, steps, output);

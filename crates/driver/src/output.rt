@@ -171,18 +171,23 @@ impl<'a> Output<'a> {
 
     /// Appends what a call returned, or what it handed back.
     pub fn show_result<T: Debug + Drop, E: Refusal + Drop>(&mut self, returned: Result<T, E>) {
-        self.end();
         match returned {
             Ok(item) => self.show(&item),
-            Err(refused) => refused.show(self),
+            Err(refused) => self.show_refused(refused),
         }
+    }
+
+    /// Appends what a refused call handed back.
+    pub fn show_refused<E: Refusal + Drop>(&mut self, refused: E) {
+        self.end();
+        refused.show(self);
     }
 
     /// Appends what a call handed back, if it was refused memory.
     pub fn show_refusal<T: Drop, E: Refusal + Drop>(&mut self, returned: Result<T, E>) {
         self.end();
         if let Err(refused) = returned {
-            refused.show(self);
+            self.show_refused(refused);
         }
     }
 
@@ -191,7 +196,7 @@ impl<'a> Output<'a> {
         self.end();
         match returned {
             Ok(made) => *place = made,
-            Err(refused) => refused.show(self),
+            Err(refused) => self.show_refused(refused),
         }
     }
 

@@ -125,7 +125,7 @@ fn show_all<'a>(set: &Set<'a>, output: &mut Output<'a>) {
 fn into_iter<'a>(set: &Set<'a>, steps: &str, output: &mut Output<'a>) {
     match set.clone() {
         Ok(copy) => iterate_and_drop(copy.into_iter(), steps, output),
-        Err(refused) => output.show_refusal(Err::<(), _>(refused)),
+        Err(refused) => output.show_refused(refused),
     }
 }
 
