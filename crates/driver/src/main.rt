@@ -5,12 +5,12 @@
 //! 0.1.2 and hashlink 0.8.0, and `compare/run --help` says what the lines are. What is proved of
 //! this program is that it is safe and ends.
 //!
-//! A line of the output ends with the effects of the call: what it dropped, and how often it hashed,
-//! compared and cloned. A call that is refused memory answers what it hands back. A line that begins
-//! with `#` is printed as it is, and everything is made anew.
+//! A line of the output ends with the effects of the call: what it dropped, and how often it
+//! hashed, compared and cloned. A call that is refused memory answers what it hands back. A line
+//! that begins with `#` is printed as it is, and everything is made anew.
 //!
-//! The exit status is 0; 3 if an allocation of the program itself fails; 4 if the input is no text, or reading or writing
-//! fails.
+//! The exit status is 0; 3 if an allocation of the program itself fails; 4 if the input is no text,
+//! or reading or writing fails.
 #![tactic(auto)]
 
 mod caches;
