@@ -17,7 +17,7 @@ pub fn run<'a>(
         "pop_front" => output.show(&map.pop_front()),
         "pop_back" => output.show(&map.pop_back()),
         "clear" => map.clear(),
-        "reserve" => output.show_refusal(map.reserve(line.small_number())),
+        "reserve" => output.show_refusal(map.reserve(line.size())),
         "shrink_to_fit" => output.show_refusal(map.shrink_to_fit()),
         _ => return false,
     }

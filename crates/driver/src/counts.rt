@@ -85,6 +85,8 @@ pub struct Counts {
     is_counting: Cell<bool>,
     has_effects: Cell<bool>,
     last_serial: Cell<u64>,
+    /// The number of the clone to refuse, 1 for the next, or 0 for none.
+    refused_clone: Cell<u64>,
     keys: Drops,
     values: Drops,
     hashers: Drops,
@@ -108,6 +110,7 @@ impl Counts {
             is_counting: Cell::new(false),
             has_effects: Cell::new(false),
             last_serial: Cell::new(0),
+            refused_clone: Cell::new(0),
             keys: Drops::new(),
             values: Drops::new(),
             hashers: Drops::new(),
@@ -144,6 +147,26 @@ impl Counts {
     pub fn next_serial(&self) -> u64 {
         increase(&self.last_serial);
         self.last_serial.get()
+    }
+
+    /// Sets which of the clones from here on is refused, or by 0 that none is.
+    pub fn set_refused_clone(&self, number: u64) {
+        self.refused_clone.set(number);
+    }
+
+    /// Returns whether a clone is to be refused. Called once for each, counts it if a window is open.
+    pub fn refuses_clone(&self) -> bool {
+        let left = self.refused_clone.get();
+        if left == 0 || !self.is_counting() {
+            return false;
+        }
+        self.refused_clone.set(left - 1);
+        left == 1
+    }
+
+    /// Returns how many keys and values the line has dropped so far.
+    pub fn dropped(&self) -> u64 {
+        self.keys.count.get().wrapping_add(self.values.count.get())
     }
 
     /// Counts a drop, if a window is open.

@@ -11,6 +11,9 @@ use std::hash::{BuildHasher, Hasher};
 /// An odd number whose multiples have changing bits up to the highest.
 const MULTIPLIER: u64 = 0x9E37_79B9_7F4A_7C15;
 
+/// What makes a byte the highest of eight: 2^56.
+const HIGHEST_BYTE: u64 = 0x0100_0000_0000_0000;
+
 /// What a hasher makes of the bytes that are written.
 #[derive(Clone, Copy, Debug)]
 pub enum Choice {
@@ -22,6 +25,8 @@ pub enum Choice {
     Letter,
     /// A hash that differs for most keys in each of its 64 bits.
     Wide,
+    /// The first byte as the highest of the eight of the hash.
+    High,
 }
 
 impl Choice {
@@ -31,6 +36,7 @@ impl Choice {
             "same" => Choice::Same,
             "letter" => Choice::Letter,
             "wide" => Choice::Wide,
+            "high" => Choice::High,
             _ => Choice::Spread,
         }
     }
@@ -59,6 +65,7 @@ impl Hasher for KeyHasher {
             Choice::Same => 0,
             Choice::Letter => self.first,
             Choice::Wide => self.number.wrapping_mul(MULTIPLIER),
+            Choice::High => self.first.wrapping_mul(HIGHEST_BYTE),
         }
     }
 
@@ -107,6 +114,13 @@ impl<'a> BuildKeyHasher<'a> {
             counts.count(event);
         }
     }
+
+    fn is_refused(&self) -> bool {
+        match self.counts {
+            Some(counts) => counts.refuses_clone(),
+            None => false,
+        }
+    }
 }
 
 impl<'a> Drop for BuildKeyHasher<'a> {
@@ -125,6 +139,9 @@ impl<'a> Drop for BuildKeyHasher<'a> {
 impl<'a> Clone for BuildKeyHasher<'a> {
     fn clone(&self) -> Result<BuildKeyHasher<'a>, AllocError> {
         self.count(Event::CloneHasher);
+        if self.is_refused() {
+            return Err(AllocError);
+        }
         Ok(BuildKeyHasher {
             choice: self.choice,
             serial: self.serial.wrapping_add(COPY),

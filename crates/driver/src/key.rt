@@ -46,6 +46,17 @@ impl<'a> Key<'a> {
         }
     }
 
+    /// Makes a key of the decimal text of a number, with the next serial number.
+    pub fn decimal(number: u64, counts: &'a Counts) -> Key<'a> {
+        let text = decimal_text(number);
+        Key {
+            text,
+            folded: u64::from_le_bytes(text),
+            serial: counts.next_serial(),
+            counts,
+        }
+    }
+
     /// Makes a key of the same text, with the next serial number.
     pub fn again(&self) -> Key<'a> {
         self.with_serial(self.counts.next_serial())
@@ -81,6 +92,20 @@ impl<'a> Key<'a> {
     }
 }
 
+/// Returns the last eight digits of a number.
+fn decimal_text(number: u64) -> [u8; 8] {
+    let mut text = 0;
+    let mut rest = number;
+    for _ in 0..8 {
+        text = text >> 8 | (rest % 10 + 48) << 56;
+        rest /= 10;
+        if rest == 0 {
+            break;
+        }
+    }
+    u64::to_be_bytes(text)
+}
+
 impl<'a> Drop for Key<'a> {
     fn drop(self) {
         self.counts.count_drop(Kind::Key, self.serial);
@@ -96,6 +121,9 @@ impl<'a> Drop for Key<'a> {
 impl<'a> Clone for Key<'a> {
     fn clone(&self) -> Result<Key<'a>, AllocError> {
         self.counts.count(Event::CloneKey);
+        if self.counts.refuses_clone() {
+            return Err(AllocError);
+        }
         Ok(self.copy())
     }
 }

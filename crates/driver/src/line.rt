@@ -68,6 +68,11 @@ impl<'a> Line<'a> {
         number_of(self.word())
     }
 
+    /// Returns the next word as a size.
+    pub fn size(&mut self) -> usize {
+        self.number() as usize
+    }
+
     /// Returns the next word as a number below 1,000.
     pub fn small_number(&mut self) -> usize {
         (self.number() % 1000) as usize

@@ -20,7 +20,7 @@ fn with_capacity<'a>(
     output: &mut Output<'a>,
 ) {
     let hasher = line.hasher();
-    let capacity = line.small_number();
+    let capacity = line.size();
     output.store(map, Map::with_capacity_and_hasher(alloc, capacity, hasher));
 }
 

@@ -36,15 +36,18 @@ impl Refusal for linked_hash_set::Refused<u64> {
     }
 }
 
+/// Says which of the two reasons it is.
 impl Refusal for ReserveError {
     fn show(&self, output: &mut Output<'_>) {
         output.push_str("refused ");
+        output.show(self);
     }
 }
 
 impl Refusal for NoRoom {
     fn show(&self, output: &mut Output<'_>) {
         output.push_str("refused ");
+        output.show(self);
     }
 }
 

@@ -59,6 +59,13 @@ impl<'a> Value<'a> {
             counts.count(event);
         }
     }
+
+    fn is_refused(&self) -> bool {
+        match self.counts {
+            Some(counts) => counts.refuses_clone(),
+            None => false,
+        }
+    }
 }
 
 impl<'a> Drop for Value<'a> {
@@ -77,6 +84,9 @@ impl<'a> Drop for Value<'a> {
 impl<'a> Clone for Value<'a> {
     fn clone(&self) -> Result<Value<'a>, AllocError> {
         self.count(Event::CloneValue);
+        if self.is_refused() {
+            return Err(AllocError);
+        }
         Ok(self.copy())
     }
 }
