@@ -6,7 +6,7 @@ use super::line::Line;
 use super::ordered::OrderedKey;
 use super::output::Output;
 use super::value::Value;
-use linked_hash_map::LinkedHashMap;
+use linked_hash_map::{LinkedHashMap, ReserveError};
 use std::alloc::Global;
 use std::hash::BuildHasher;
 
@@ -29,6 +29,21 @@ fn show_new<'a>(alloc: Global, number: u64, output: &mut Output<'a>) {
     output.show(&map);
 }
 
+/// Does so with a map of a capacity, and appends the capacity too.
+fn show_new_with_capacity<'a>(alloc: Global, line: &mut Line<'a>, output: &mut Output<'a>) {
+    let (capacity, number) = (line.size(), line.number());
+    let made: Result<LinkedHashMap<u64, u64>, ReserveError> = LinkedHashMap::with_capacity(
+        alloc, capacity,
+    );
+    match made {
+        Ok(mut map) => {
+            output.show_refusal(map.insert(number, number));
+            output.show_two(&map, &map.capacity());
+        }
+        Err(refused) => output.show_refusal(Err::<(), _>(refused)),
+    }
+}
+
 /// Appends the debug text of a map over several lines, as that of a string.
 fn show_pretty<'a>(alloc: Global, map: &Map<'a>, output: &mut Output<'a>) {
     output.end();
@@ -38,16 +53,20 @@ fn show_pretty<'a>(alloc: Global, map: &Map<'a>, output: &mut Output<'a>) {
     }
 }
 
-/// Appends whether two maps are equal.
+/// Appends whether two maps are equal. Each comparison is within a window.
 fn show_equal<'a>(map: &Map<'a>, other: &Map<'a>, output: &mut Output<'a>) {
     output.show(&(*map == *other));
+    output.begin();
     output.show(&(*map != *other));
 }
 
-/// Appends which of two maps is less, if they have an order. Only the first call is counted.
+/// Appends which of two maps is less, if they have an order. Each comparison is within a window.
 fn partial_compare<M: PartialOrd>(map: &M, other: &M, output: &mut Output<'_>) {
+    output.begin();
     output.show(&map.partial_cmp(other));
+    output.begin();
     output.show_two(&(*map < *other), &(*map <= *other));
+    output.begin();
     output.show_two(&(*map > *other), &(*map >= *other));
 }
 
@@ -81,6 +100,7 @@ pub fn run<'a>(
         "cmp" => compare(alloc, map, other, output),
         "partial_cmp" => partial_compare(map, other, output),
         "new" => show_new(alloc, line.number(), output),
+        "new_with_capacity" => show_new_with_capacity(alloc, line, output),
         "hash" => show_hash(map, output),
         "debug" => output.show(map),
         "debug_pretty" => show_pretty(alloc, map, output),

@@ -1,12 +1,12 @@
 //! Iterators and loops over the pairs.
 
 use super::Map;
-use super::hasher::BuildKeyHasher;
 use super::key::Key;
 use super::line::Line;
+use super::making::take;
 use super::output::Output;
 use super::value::Value;
-use linked_hash_map::IterMut;
+use linked_hash_map::{IterMut, ValuesMut};
 use std::alloc::Global;
 use std::fmt::Debug;
 use std::mem;
@@ -95,6 +95,32 @@ pub fn iterate_and_write<'a>(
     output.drop_within(pairs);
 }
 
+/// Appends a value, and writes it.
+fn write_value<'a>(lent: &mut Value<'a>, value: Value<'a>, output: &mut Output<'a>) {
+    output.show(lent);
+    output.write(lent, value);
+}
+
+/// Iterates by what `values_mut` returns, and writes each value that is lent.
+fn iterate_values_and_write<'a>(
+    lent_values: ValuesMut<'_, Key<'a>, Value<'a>>,
+    line: &mut Line<'a>,
+    output: &mut Output<'a>,
+) {
+    let mut lent_values = lent_values;
+    let steps = line.word();
+    let mut values = line.values();
+    for letter in steps.bytes() {
+        output.begin();
+        match step(&mut lent_values, letter) {
+            Some(lent) => write_value(lent, values.take(), output),
+            None => output.push_str("end "),
+        }
+        output.show_two(&lent_values.size_hint(), &lent_values.len());
+    }
+    output.drop_within(lent_values);
+}
+
 /// Adds a number to every value in place, in a loop over the map.
 fn add<'a>(map: &mut Map<'a>, number: u64) {
     for (_key, value) in map {
@@ -108,11 +134,6 @@ fn show_all<'a>(map: &Map<'a>, output: &mut Output<'a>) {
         output.show_pair(key, value);
         output.begin();
     }
-}
-
-/// Takes the map, and leaves an empty one with the default hasher in its place.
-fn take<'a>(alloc: Global, map: &mut Map<'a>) -> Map<'a> {
-    mem::replace(map, Map::with_hasher(alloc, BuildKeyHasher::default()))
 }
 
 /// Iterates by `drain`, and drops or forgets the iterator.
@@ -133,6 +154,41 @@ fn iterate_and_forget<'a>(map: Map<'a>, steps: &str, output: &mut Output<'a>) {
     mem::forget(pairs);
 }
 
+/// Iterates, and drops or forgets the iterator.
+fn iterate_to_the_end<T: Debug + Drop, I: DoubleEndedIterator<Item = T> + ExactSizeIterator + Drop>(
+    items: I,
+    line: &mut Line<'_>,
+    output: &mut Output<'_>,
+)
+    requires { (items : I) → I.can_next items × I.can_next_back items }
+{
+    let mut items = items;
+    iterate(&mut items, line.word(), output);
+    if line.word() == "forget" {
+        mem::forget(items);
+    } else {
+        output.drop_within(items);
+    }
+}
+
+/// Runs the call of this name that takes the map, and returns whether there is one.
+fn run_owned<'a>(
+    alloc: Global,
+    name: &str,
+    line: &mut Line<'a>,
+    map: &mut Map<'a>,
+    output: &mut Output<'a>,
+) -> bool {
+    match name {
+        "into_iter" => iterate_and_clone(take(alloc, map).into_iter(), line, output),
+        "into_iter_forget" => iterate_and_forget(take(alloc, map), line.word(), output),
+        "into_keys" => iterate_to_the_end(take(alloc, map).into_keys(), line, output),
+        "into_values" => iterate_to_the_end(take(alloc, map).into_values(), line, output),
+        _ => return false,
+    }
+    true
+}
+
 /// Runs the call of this name, and returns whether there is one.
 pub fn run<'a>(
     alloc: Global,
@@ -146,12 +202,11 @@ pub fn run<'a>(
         "keys" => iterate_and_clone(map.keys(), line, output),
         "values" => iterate_and_clone(map.values(), line, output),
         "iter_mut" => iterate_and_write(map.iter_mut(), line, output),
-        "into_iter" => iterate_and_clone(take(alloc, map).into_iter(), line, output),
-        "into_iter_forget" => iterate_and_forget(take(alloc, map), line.word(), output),
+        "values_mut" => iterate_values_and_write(map.values_mut(), line, output),
         "drain" => drain(map, line, output),
         "loop" => show_all(map, output),
         "loop_mut" => add(map, line.number()),
-        _ => return false,
+        _ => return run_owned(alloc, name, line, map, output),
     }
     true
 }

@@ -33,6 +33,11 @@ impl<'a> Line<'a> {
         }
     }
 
+    /// Makes a key of a word.
+    pub fn key_of(&self, word: &str) -> Key<'a> {
+        Key::new(word, self.counts)
+    }
+
     /// Returns the next word as a key.
     pub fn key(&mut self) -> Key<'a> {
         Key::new(self.word(), self.counts)
@@ -51,6 +56,25 @@ impl<'a> Line<'a> {
     /// Returns the hasher that the next word names.
     pub fn hasher(&mut self) -> BuildKeyHasher<'a> {
         BuildKeyHasher::new(Choice::named(self.word()), self.counts)
+    }
+
+    /// Returns how many words are left.
+    pub fn words_left(&self) -> usize {
+        match self.words.clone() {
+            Ok(words) => words.count(),
+            Err(_) => 0,
+        }
+    }
+
+    /// Returns how many pairs the words that are left make.
+    pub fn pairs_left(&self) -> usize {
+        let words = self.words_left();
+        words / 2 + words % 2
+    }
+
+    /// Returns the counts.
+    pub fn counts(&self) -> &'a Counts {
+        self.counts
     }
 
     /// Makes what a closure owns.
@@ -128,6 +152,21 @@ impl<'a> Iterator for Keys<'a> {
 pub struct Pairs<'a> {
     words: SplitWhitespace<'a>,
     counts: &'a Counts,
+}
+
+impl<'a> Pairs<'a> {
+    /// Returns the next pair, whose words may be missing.
+    pub fn next_pair(&mut self) -> (Key<'a>, Value<'a>) {
+        let key = match self.words.next() {
+            Some(word) => Key::new(word, self.counts),
+            None => Key::new("", self.counts),
+        };
+        let number = match self.words.next() {
+            Some(word) => number_of(word),
+            None => 0,
+        };
+        (key, Value::new(number, self.counts))
+    }
 }
 
 impl<'a> Iterator for Pairs<'a> {

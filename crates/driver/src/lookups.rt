@@ -42,20 +42,40 @@ pub fn write_lent<'a>(lent: Option<&mut Value<'a>>, value: Value<'a>, output: &m
     }
 }
 
-/// Runs the call of this name, and returns whether there is one.
-pub fn run<'a>(
+/// Runs the call of this name by a key that reads, and returns whether there is one.
+fn run_by_key<'a>(name: &str, line: &mut Line<'a>, map: &Map<'a>, output: &mut Output<'a>) -> bool {
+    match name {
+        "get" => output.show(&map.get(&line.key())),
+        "get_key_value" => output.show(&map.get_key_value(&line.key())),
+        "get_counted" => output.show(&map.get_counted(&line.key())),
+        "contains_key" => output.show(&map.contains_key(&line.key())),
+        "index" => index(map, &line.key(), output),
+        _ => return false,
+    }
+    true
+}
+
+/// Runs the call of this name that writes one value, and returns whether there is one.
+fn run_by_write<'a>(
     name: &str,
     line: &mut Line<'a>,
     map: &mut Map<'a>,
     output: &mut Output<'a>,
 ) -> bool {
     match name {
-        "get" => output.show(&map.get(&line.key())),
-        "contains_key" => output.show(&map.contains_key(&line.key())),
-        "index" => index(map, &line.key(), output),
         "index_mut" => index_mut(map, line, output),
         "get_mut" => write_lent(map.get_mut(&line.key()), line.value(), output),
         "get_refresh" => write_lent(map.get_refresh(&line.key()), line.value(), output),
+        "front_mut" => write_lent(map.front_mut(), line.value(), output),
+        "back_mut" => write_lent(map.back_mut(), line.value(), output),
+        _ => return false,
+    }
+    true
+}
+
+/// Runs the call of this name that takes no word, and returns whether there is one.
+fn run_on_all<'a>(name: &str, map: &Map<'a>, output: &mut Output<'a>) -> bool {
+    match name {
         "front" => output.show(&map.front()),
         "back" => output.show(&map.back()),
         "len" => output.show_two(&map.len(), &map.is_empty()),
@@ -63,4 +83,16 @@ pub fn run<'a>(
         _ => return false,
     }
     true
+}
+
+/// Runs the call of this name, and returns whether there is one.
+pub fn run<'a>(
+    name: &str,
+    line: &mut Line<'a>,
+    map: &mut Map<'a>,
+    output: &mut Output<'a>,
+) -> bool {
+    run_by_key(name, line, map, output)
+        || run_by_write(name, line, map, output)
+        || run_on_all(name, map, output)
 }

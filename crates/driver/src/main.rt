@@ -15,11 +15,14 @@
 
 mod caches;
 mod changes;
+mod collecting;
 mod comparisons;
 mod counts;
 mod entries;
+mod fills;
 mod guard;
 mod hasher;
+mod insertions;
 mod iterators;
 mod key;
 mod line;
@@ -27,12 +30,18 @@ mod list;
 mod lookups;
 mod making;
 mod marks;
+mod order;
 mod ordered;
 mod output;
+mod pair_lists;
 mod refusal;
+mod refused_texts;
+mod replays;
+mod retaining;
 mod sets;
 mod stop;
 mod value;
+mod visits;
 
 use caches::Cache;
 use counts::Counts;
@@ -77,6 +86,34 @@ impl<'a> All<'a> {
     }
 }
 
+/// Runs the call of this name that goes by an entry, and returns whether there is one.
+fn run_on_entries<'a>(
+    alloc: Global,
+    name: &str,
+    line: &mut Line<'a>,
+    map: &mut Map<'a>,
+    output: &mut Output<'a>,
+) -> bool {
+    entries::run(name, line, map, output)
+        || insertions::run(alloc, name, line, map, output)
+        || visits::run(name, line, map, output)
+}
+
+/// Runs the call of this name that makes many steps, and returns whether there is one.
+fn run_on_many<'a>(
+    alloc: Global,
+    name: &str,
+    line: &mut Line<'a>,
+    map: &mut Map<'a>,
+    output: &mut Output<'a>,
+) -> bool {
+    retaining::run(name, line, map, output)
+        || replays::run(alloc, name, line, map, output)
+        || fills::run(alloc, name, line, map, output)
+        || pair_lists::run(alloc, name, line, map, output)
+        || refused_texts::run(name, line, output)
+}
+
 /// Runs the call of this name on `map` and, if it takes two, on `other` too, appends what it
 /// returns and the list of `map`, and returns whether there is such a call.
 fn run_on_map<'a>(
@@ -88,11 +125,14 @@ fn run_on_map<'a>(
     output: &mut Output<'a>,
 ) -> bool {
     let is_known = lookups::run(name, line, map, output)
-        || changes::run(name, line, map, output)
+        || changes::run(alloc, name, line, map, output)
+        || order::run(name, line, map, output)
         || making::run(alloc, name, line, map, other, output)
-        || entries::run(name, line, map, output)
+        || collecting::run(alloc, name, line, map, other, output)
+        || run_on_entries(alloc, name, line, map, output)
         || iterators::run(alloc, name, line, map, output)
-        || comparisons::run(alloc, name, line, map, other, output);
+        || comparisons::run(alloc, name, line, map, other, output)
+        || run_on_many(alloc, name, line, map, output);
     if is_known {
         list::list_pairs(map.iter(), output);
     }

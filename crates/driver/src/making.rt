@@ -5,6 +5,7 @@ use super::hasher::BuildKeyHasher;
 use super::line::Line;
 use super::output::Output;
 use std::alloc::Global;
+use std::default::{Emptied, MadeWith};
 use std::mem;
 
 /// Makes an empty map, with the hasher that the next word names.
@@ -29,10 +30,9 @@ fn with_default_hasher<'a>(alloc: Global, map: &mut Map<'a>, output: &mut Output
     output.replace(map, Map::with_hasher(alloc, BuildKeyHasher::default()));
 }
 
-/// Inserts copies of the pairs of another map.
-fn extend_by_copies<'a>(map: &mut Map<'a>, other: &Map<'a>, output: &mut Output<'a>) {
-    let copies = other.iter().map(|(key, value)| (key.copy(), value.copy()));
-    output.show_refusal(map.extend(copies));
+/// Takes a map, and leaves an empty one with the default hasher in its place.
+pub fn take<'a>(alloc: Global, map: &mut Map<'a>) -> Map<'a> {
+    mem::replace(map, Map::with_hasher(alloc, BuildKeyHasher::default()))
 }
 
 /// Runs the call of this name, and returns whether there is one.
@@ -48,10 +48,8 @@ pub fn run<'a>(
         "with_hasher" => with_hasher(alloc, line, map, output),
         "with_capacity" => with_capacity(alloc, line, map, output),
         "default" => with_default_hasher(alloc, map, output),
-        "from_iter" => output.store(map, Map::from_iter(alloc, line.pairs())),
-        "extend" => output.show_refusal(map.extend(line.pairs())),
-        "extend_refs" => extend_by_copies(map, other, output),
-        "extend_drain" => output.show_refusal(map.extend(other.drain())),
+        "made_with" => output.replace(map, MadeWith::made_with(alloc)),
+        "emptied" => output.store(map, Emptied::emptied(other)),
         "clone" => output.store(map, other.clone()),
         "swap" => mem::swap(map, other),
         _ => return false,

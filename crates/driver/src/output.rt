@@ -12,7 +12,7 @@ use super::refusal::Refusal;
 use super::stop::Stop;
 use super::value::Value;
 use std::alloc::Global;
-use std::fmt::Debug;
+use std::fmt::{Debug, Display};
 
 /// How many bytes of the output are reserved at the begin of a line.
 const LONGEST_LINE: usize = 65_536;
@@ -139,6 +139,46 @@ impl<'a> Output<'a> {
         self.note(written);
     }
 
+    /// Appends what a call returned, as that of a call that may be refused.
+    pub fn show_ok<T: Debug>(&mut self, item: &T) {
+        self.end();
+        let written = write!(self.text, "Ok({item:?}) ");
+        self.note(written);
+    }
+
+    /// Appends a key that a call handed out, or the given one if it handed that back.
+    pub fn show_key(&mut self, returned: Result<Key<'_>, Key<'_>>) {
+        self.end();
+        let (name, key) = match returned {
+            Ok(key) => ("Ok", key),
+            Err(key) => ("Err", key),
+        };
+        let serial = key.serial();
+        let written = write!(self.text, "{name}({key:?} #{serial}) ");
+        self.note(written);
+    }
+
+    /// Appends that the call of a number was refused.
+    pub fn show_refused_number(&mut self, number: u64) {
+        self.end();
+        let written = write!(self.text, "refused {number} ");
+        self.note(written);
+    }
+
+    /// Appends the text of an item.
+    pub fn show_text<T: Display>(&mut self, item: &T) {
+        self.end();
+        let written = write!(self.text, "{item} ");
+        self.note(written);
+    }
+
+    /// Appends the length and the capacity of a vector.
+    pub fn show_size(&mut self, len: usize, capacity: usize) {
+        self.end();
+        let written = write!(self.text, "{len}/{capacity} ");
+        self.note(written);
+    }
+
     /// Appends a pair that a refused call handed back.
     pub fn show_refused_pair(&mut self, key: &Key<'_>, value: &Value<'_>) {
         self.end();
@@ -197,6 +237,24 @@ impl<'a> Output<'a> {
         match returned {
             Ok(made) => *place = made,
             Err(refused) => self.show_refused(refused),
+        }
+    }
+
+    /// Returns whether a call was given memory, and drops what it returned or handed back.
+    pub fn is_given<T: Drop, E: Drop>(&mut self, returned: Result<T, E>) -> bool {
+        self.end();
+        returned.is_ok()
+    }
+
+    /// Stores what a call returned, if it was given memory, and returns whether it was.
+    pub fn is_stored<T: Drop, E: Drop>(&mut self, place: &mut T, returned: Result<T, E>) -> bool {
+        self.end();
+        match returned {
+            Ok(made) => {
+                *place = made;
+                true
+            }
+            Err(_refused) => false,
         }
     }
 

@@ -7,7 +7,7 @@ ghost use Rattle.std.specs.Ordering.{on, nat_cmp, as_partial_cmp};
 ghost use Rattle.std.proofs.Common.{rules};
 
 use super::counts::{Counts, Event, Kind};
-use super::key::COPY;
+use super::key::{COPY, Key};
 use std::alloc::AllocError;
 use std::cmp::Ordering;
 use std::fmt;
@@ -186,6 +186,11 @@ impl<'a> Values<'a> {
             Some(value) => value,
             None => Value::new(self.number, self.counts),
         }
+    }
+
+    /// Makes a key of a word, with the next serial number.
+    pub fn key(&self, word: &str) -> Key<'a> {
+        Key::new(word, self.counts)
     }
 
     /// Makes a value of the number 0, with the next serial number.
