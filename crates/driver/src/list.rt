@@ -6,28 +6,40 @@ use super::value::Value;
 use linked_hash_map::Iter;
 
 /// The longest list that is shown whole.
-const SHOWN: usize = 100;
+pub const SHOWN: usize = 100;
 
 /// Returns what a pair adds to a digest, before its place.
 fn mixed(key: &Key<'_>, value: &Value<'_>) -> u64 {
-    key.number() ^ value.number().wrapping_mul(1_099_511_628_211)
+    key.number() ^ spread(value.number())
+}
+
+/// Returns a number times an odd number that spreads its bits.
+pub fn spread(number: u64) -> u64 {
+    number.wrapping_mul(1_099_511_628_211)
 }
 
 /// The sum of what the items of a list are mixed to, each times its place, which counts from 1.
 #[derive(Clone, Copy)]
-struct Digest {
+pub struct Digest {
     sum: u64,
     place: u64,
 }
 
 impl Digest {
-    fn new() -> Digest {
+    /// Begins before the first item.
+    pub fn new() -> Digest {
         Digest { sum: 0, place: 0 }
     }
 
-    fn add(&mut self, number: u64) {
+    /// Adds the next item.
+    pub fn add(&mut self, number: u64) {
         self.place = self.place.wrapping_add(1);
         self.sum = self.sum.wrapping_add(self.place.wrapping_mul(number));
+    }
+
+    /// Returns the sum.
+    pub fn sum(&self) -> u64 {
+        self.sum
     }
 }
 

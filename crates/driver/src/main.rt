@@ -1,5 +1,5 @@
-//! Runs calls of the public API of the map, the cache and the set from standard input to standard
-//! output, one a line.
+//! Runs calls of the public API of the map, the cache, the set and the table of sessions from
+//! standard input to standard output, one a line.
 //!
 //! `compare/run` compares the output with that of the Rust crates linked-hash-map 0.5.6, lru-cache
 //! 0.1.2 and hashlink 0.8.0, and `compare/run --help` says what the lines are. What is proved of
@@ -38,6 +38,8 @@ mod refusal;
 mod refused_texts;
 mod replays;
 mod retaining;
+mod session_lists;
+mod sessions;
 mod sets;
 mod stop;
 mod value;
@@ -50,6 +52,7 @@ use key::Key;
 use line::Line;
 use linked_hash_map::LinkedHashMap;
 use output::Output;
+use sessions::Table;
 use sets::Set;
 use std::alloc::Global;
 use std::io;
@@ -61,7 +64,7 @@ use value::Value;
 /// The maps that the lines speak of.
 type Map<'a> = LinkedHashMap<Key<'a>, Value<'a>, BuildKeyHasher<'a>>;
 
-/// What the lines speak of: two maps, two caches and two sets.
+/// What the lines speak of: two maps, two caches, two sets and two tables of sessions.
 #[derive(Drop)]
 struct All<'a> {
     map_a: Map<'a>,
@@ -70,6 +73,8 @@ struct All<'a> {
     cache_b: Cache<'a>,
     set_a: Set<'a>,
     set_b: Set<'a>,
+    table_a: Table<'a>,
+    table_b: Table<'a>,
 }
 
 impl<'a> All<'a> {
@@ -82,6 +87,8 @@ impl<'a> All<'a> {
             cache_b: Cache::with_hasher(alloc, 0, BuildKeyHasher::default()),
             set_a: Set::with_hasher(alloc, BuildKeyHasher::default()),
             set_b: Set::with_hasher(alloc, BuildKeyHasher::default()),
+            table_a: Table::new(alloc, 0),
+            table_b: Table::new(alloc, 0),
         }
     }
 }
@@ -162,6 +169,12 @@ fn run_call<'a>(
         } else {
             sets::run(alloc, name, line, &mut all.set_a, &all.set_b, output)
         }
+    } else if let Some(name) = name.strip_prefix("sessions_") {
+        if is_b {
+            sessions::run(alloc, name, line, &mut all.table_b, output)
+        } else {
+            sessions::run(alloc, name, line, &mut all.table_a, output)
+        }
     } else if is_b {
         run_on_map(alloc, name, line, &mut all.map_b, &mut all.map_a, output)
     } else {
@@ -169,8 +182,8 @@ fn run_call<'a>(
     }
 }
 
-/// Runs the lines on new maps, caches and sets, and returns the whole text of the output. For a
-/// line that is no call that is `unknown`. A line that begins with `#` makes everything anew.
+/// Runs the lines on new maps, caches, sets and tables, and returns the whole text of the output.
+/// For a line that is no call that is `unknown`. A line that begins with `#` makes everything anew.
 fn respond(alloc: Global, lines: &str) -> Result<String, Stop> {
     let counts = Counts::new();
     let mut output = Output::new(alloc, &counts);

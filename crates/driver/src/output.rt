@@ -187,6 +187,21 @@ impl<'a> Output<'a> {
         self.note(written);
     }
 
+    /// Appends an item with its serial number.
+    pub fn show_numbered<T: Debug>(&mut self, item: &T, serial: u64) {
+        self.end();
+        let written = write!(self.text, "{item:?} #{serial} ");
+        self.note(written);
+    }
+
+    /// Appends a pair that a call sent away.
+    pub fn show_gone_pair(&mut self, key: &Key<'_>, value: &Value<'_>) {
+        self.end();
+        let (first, second) = (key.serial(), value.serial());
+        let written = write!(self.text, "Some({key:?}={value:?} #{first} #{second}) ");
+        self.note(written);
+    }
+
     /// Appends a key that a refused call handed back.
     pub fn show_refused_item(&mut self, item: &Key<'_>) {
         self.end();
