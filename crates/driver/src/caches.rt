@@ -1,15 +1,18 @@
 //! Calls of a cache.
 
 use super::hasher::BuildKeyHasher;
-use super::iterators::{iterate_and_clone, iterate_and_drop, iterate_and_write};
+use super::iterators::{iterate_and_clone, iterate_and_write, iterate_to_the_end};
 use super::key::Key;
 use super::line::Line;
 use super::list::list_pairs;
 use super::lookups::write_lent;
 use super::output::Output;
+use super::retaining::{Calls, keep_and_increase};
 use super::value::Value;
+use super::{cache_fills, cache_replays};
 use lru_cache::LruCache;
 use std::alloc::Global;
+use std::mem;
 
 /// The caches that the lines speak of.
 pub type Cache<'a> = LruCache<Key<'a>, Value<'a>, BuildKeyHasher<'a>>;
@@ -22,10 +25,7 @@ fn with_hasher<'a>(
     output: &mut Output<'a>,
 ) {
     let hasher = line.hasher();
-    output.replace(
-        cache,
-        Cache::with_hasher(alloc, line.small_number(), hasher),
-    );
+    output.replace(cache, Cache::with_hasher(alloc, line.size(), hasher));
 }
 
 /// Makes a cache of one pair with the default hasher, inserts two pairs, and appends its text.
@@ -34,6 +34,15 @@ fn show_new<'a>(alloc: Global, number: u64, output: &mut Output<'a>) {
     output.show_refusal(cache.insert(0, 0));
     output.show_refusal(cache.insert(number, 1));
     output.show(&cache);
+}
+
+/// Appends the pair that a put sent away, if one went, or what it handed back.
+fn put<'a>(cache: &mut Cache<'a>, line: &mut Line<'a>, output: &mut Output<'a>) {
+    match cache.put(line.key(), line.value()) {
+        Ok(Some((key, value))) => output.show_gone_pair(&key, &value),
+        Ok(None) => output.push_str("None "),
+        Err(refused) => output.show_refused(refused),
+    }
 }
 
 /// Runs the call of this name by a key, and returns whether there is one.
@@ -45,6 +54,7 @@ fn run_by_key<'a>(
 ) -> bool {
     match name {
         "insert" => output.show_result(cache.insert(line.key(), line.value())),
+        "put" => put(cache, line, output),
         "get_mut" => write_lent(cache.get_mut(&line.key()), line.value(), output),
         "peek_mut" => write_lent(cache.peek_mut(&line.key()), line.value(), output),
         "get" => output.show(&cache.get(&line.key())),
@@ -70,12 +80,53 @@ fn run_on_all<'a>(
         "with_hasher" => with_hasher(alloc, line, cache, output),
         "clone" => output.store(cache, other.clone()),
         "extend" => output.show_refusal(cache.extend(line.pairs())),
-        "set_capacity" => cache.set_capacity(line.small_number()),
+        "set_capacity" => cache.set_capacity(line.size()),
         "remove_lru" => output.show(&cache.remove_lru()),
         "clear" => cache.clear(),
         "len" => output.show_two(&cache.len(), &cache.is_empty()),
         "debug" => output.show(cache),
         "new" => show_new(alloc, line.number(), output),
+        _ => return false,
+    }
+    true
+}
+
+/// Keeps the pairs whose values are not a number modulo 7, and adds the number of the call to each.
+fn retain<'a>(cache: &mut Cache<'a>, line: &mut Line<'a>, output: &mut Output<'a>) {
+    let number = line.number();
+    let guard = line.guard();
+    let calls = Calls::new(line.counts());
+    let noted = &calls;
+    cache.retain(move |_key, value| {
+        guard.hold();
+        keep_and_increase(value, number, noted.note())
+    });
+    calls.show(output);
+}
+
+/// Drops a cache within a window, and leaves a new one of the limit 0 in its place.
+fn drop_cache<'a>(alloc: Global, cache: &mut Cache<'a>, output: &mut Output<'a>) {
+    let empty = Cache::with_hasher(alloc, 0, BuildKeyHasher::default());
+    let taken = mem::replace(cache, empty);
+    output.drop_within(taken);
+}
+
+/// Runs the call of this name that is of the cache alone, and not of the original, and returns
+/// whether there is one.
+fn run_further<'a>(
+    alloc: Global,
+    name: &str,
+    line: &mut Line<'a>,
+    cache: &mut Cache<'a>,
+    output: &mut Output<'a>,
+) -> bool {
+    match name {
+        "retain" => retain(cache, line, output),
+        "reserve" => output.show_refusal(cache.reserve(line.size())),
+        "room" => output.show(&cache.room()),
+        "replay" => cache_replays::replay_all(alloc, cache, line, output),
+        "fill" => cache_fills::fill(cache, line, output),
+        "drop" => drop_cache(alloc, cache, output),
         _ => return false,
     }
     true
@@ -97,9 +148,9 @@ fn show_all<'a>(cache: &Cache<'a>, output: &mut Output<'a>) {
 }
 
 /// Iterates over a clone that is taken.
-fn into_iter<'a>(cache: &Cache<'a>, steps: &str, output: &mut Output<'a>) {
+fn into_iter<'a>(cache: &Cache<'a>, line: &mut Line<'a>, output: &mut Output<'a>) {
     match cache.clone() {
-        Ok(copy) => iterate_and_drop(copy.into_iter(), steps, output),
+        Ok(copy) => iterate_to_the_end(copy.into_iter(), line, output),
         Err(refused) => output.show_refused(refused),
     }
 }
@@ -114,8 +165,8 @@ fn run_iterator<'a>(
     match name {
         "iter" => iterate_and_clone(cache.iter(), line, output),
         "iter_mut" => iterate_and_write(cache.iter_mut(), line, output),
-        "into_iter" => into_iter(cache, line.word(), output),
-        "drain" => iterate_and_drop(cache.drain(), line.word(), output),
+        "into_iter" => into_iter(cache, line, output),
+        "drain" => iterate_to_the_end(cache.drain(), line, output),
         "loop" => show_all(cache, output),
         "loop_mut" => add(cache, line.number()),
         _ => return false,
@@ -135,6 +186,7 @@ pub fn run<'a>(
 ) -> bool {
     let is_known = run_by_key(name, line, cache, output)
         || run_on_all(alloc, name, line, cache, other, output)
+        || run_further(alloc, name, line, cache, output)
         || run_iterator(name, line, cache, output);
     if is_known {
         output.push_str("| ");

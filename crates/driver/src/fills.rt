@@ -19,11 +19,22 @@ pub fn pair<'a>(number: u64, counts: &'a Counts) -> (Key<'a>, Value<'a>) {
 
 /// The pairs of a range of numbers, each of which is made when it is taken.
 #[derive(Drop)]
-struct Numbered<'l, 'a> {
+pub struct Numbered<'l, 'a> {
     numbers: Range<u64>,
     /// The number that was taken last.
     last: &'l Cell<u64>,
     counts: &'a Counts,
+}
+
+impl<'l, 'a> Numbered<'l, 'a> {
+    /// Begins before the pair of 0, with those of the numbers below a count.
+    pub fn new(count: u64, last: &'l Cell<u64>, counts: &'a Counts) -> Numbered<'l, 'a> {
+        Numbered {
+            numbers: 0..count,
+            last,
+            counts,
+        }
+    }
 }
 
 impl<'l, 'a> Iterator for Numbered<'l, 'a> {
@@ -179,11 +190,7 @@ fn fill_at_once<'a>(
     let is_given = if call == "from_iter" {
         make(alloc, 0..count, &last, counts, map, output)
     } else {
-        let items = Numbered {
-            numbers: 0..count,
-            last: &last,
-            counts,
-        };
+        let items = Numbered::new(count, &last, counts);
         take_in(alloc, call, items, map, output)
     };
     if is_given {

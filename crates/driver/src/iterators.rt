@@ -155,11 +155,10 @@ fn iterate_and_forget<'a>(map: Map<'a>, steps: &str, output: &mut Output<'a>) {
 }
 
 /// Iterates, and drops or forgets the iterator.
-fn iterate_to_the_end<T: Debug + Drop, I: DoubleEndedIterator<Item = T> + ExactSizeIterator + Drop>(
-    items: I,
-    line: &mut Line<'_>,
-    output: &mut Output<'_>,
-)
+pub fn iterate_to_the_end<
+    T: Debug + Drop,
+    I: DoubleEndedIterator<Item = T> + ExactSizeIterator + Drop,
+>(items: I, line: &mut Line<'_>, output: &mut Output<'_>)
     requires { (items : I) → I.can_next items × I.can_next_back items }
 {
     let mut items = items;

@@ -13,6 +13,8 @@
 //! or reading or writing fails.
 #![tactic(auto)]
 
+mod cache_fills;
+mod cache_replays;
 mod caches;
 mod changes;
 mod collecting;
