@@ -134,6 +134,16 @@ pub struct Keys<'a> {
     counts: &'a Counts,
 }
 
+impl<'a> Keys<'a> {
+    /// Returns the next key, whose word may be missing.
+    pub fn next_key(&mut self) -> Key<'a> {
+        match self.words.next() {
+            Some(word) => Key::new(word, self.counts),
+            None => Key::new("", self.counts),
+        }
+    }
+}
+
 impl<'a> Iterator for Keys<'a> {
     type Item = Key<'a>;
 

@@ -42,7 +42,7 @@ fn show_refused<'a>(line: &mut Line<'a>, output: &mut Output<'a>) {
 }
 
 /// Appends the text of an error of a reservation, and what it is turned into.
-fn show_reserve_errors(output: &mut Output<'_>) {
+pub fn show_reserve_errors(output: &mut Output<'_>) {
     output.show_text(&ReserveError::TooLarge);
     show_kind(io::Error::from(ReserveError::TooLarge), output);
     output.show(&AllocError::from(ReserveError::TooLarge));
@@ -52,7 +52,7 @@ fn show_reserve_errors(output: &mut Output<'_>) {
 }
 
 /// Appends the text of the error of a shrinking, and what it is turned into.
-fn show_no_room(output: &mut Output<'_>) {
+pub fn show_no_room(output: &mut Output<'_>) {
     output.show_text(&NoRoom);
     show_kind(io::Error::from(NoRoom), output);
     output.show(&AllocError::from(NoRoom));
