@@ -17,6 +17,7 @@ mod caches;
 mod changes;
 mod collecting;
 mod comparisons;
+mod copied;
 mod counts;
 mod entries;
 mod fills;
@@ -129,6 +130,7 @@ fn run_on_map<'a>(
         || order::run(name, line, map, output)
         || making::run(alloc, name, line, map, other, output)
         || collecting::run(alloc, name, line, map, other, output)
+        || copied::run(alloc, name, map, other, output)
         || run_on_entries(alloc, name, line, map, output)
         || iterators::run(alloc, name, line, map, output)
         || comparisons::run(alloc, name, line, map, other, output)
@@ -137,6 +139,15 @@ fn run_on_map<'a>(
         list::list_pairs(map.iter(), output);
     }
     is_known
+}
+
+/// Returns the name of a call of a set behind `set_`. `set_mode` is a call of a map.
+fn name_of_set_call(name: &str) -> Option<&str> {
+    if name == "set_mode" {
+        None
+    } else {
+        name.strip_prefix("set_")
+    }
 }
 
 /// Runs the call of a line on what it names, and returns whether there is such a call. The first
@@ -156,7 +167,7 @@ fn run_call<'a>(
         } else {
             caches::run(alloc, name, line, &mut all.cache_a, &all.cache_b, output)
         }
-    } else if let Some(name) = name.strip_prefix("set_") {
+    } else if let Some(name) = name_of_set_call(name) {
         if is_b {
             sets::run(alloc, name, line, &mut all.set_b, &all.set_a, output)
         } else {
