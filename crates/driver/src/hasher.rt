@@ -109,6 +109,15 @@ impl<'a> BuildKeyHasher<'a> {
         }
     }
 
+    /// Makes a copy, which is not counted as a clone.
+    pub fn copy(&self) -> BuildKeyHasher<'a> {
+        BuildKeyHasher {
+            choice: self.choice,
+            serial: self.serial.wrapping_add(COPY),
+            counts: self.counts,
+        }
+    }
+
     fn count(&self, event: Event) {
         if let Some(counts) = self.counts {
             counts.count(event);
@@ -142,11 +151,7 @@ impl<'a> Clone for BuildKeyHasher<'a> {
         if self.is_refused() {
             return Err(AllocError);
         }
-        Ok(BuildKeyHasher {
-            choice: self.choice,
-            serial: self.serial.wrapping_add(COPY),
-            counts: self.counts,
-        })
+        Ok(self.copy())
     }
 }
 

@@ -7,6 +7,7 @@ ghost use Rattle.std.specs.Ordering.{on};
 ghost use Rattle.std.proofs.Common.{rules};
 ghost use Rattle.driver.specs.Keys.{same_cmp, same_cmp_partial_order};
 
+use super::copied::CopiedKey;
 use super::counts::{Counts, Event, Kind};
 use super::ordered::OrderedKey;
 use std::alloc::AllocError;
@@ -79,6 +80,11 @@ impl<'a> Key<'a> {
     /// Returns the text as one number, whose order is that of the texts.
     pub fn number(&self) -> u64 {
         u64::from_be_bytes(self.text)
+    }
+
+    /// Returns the text in lower case as a key that is copied.
+    pub fn copied(&self) -> CopiedKey<'a> {
+        CopiedKey::new(self.text, self.folded, self.counts)
     }
 
     /// Returns the text as a key that is compared as it is.
@@ -173,11 +179,16 @@ impl<'a> Hash for Key<'a> {
 /// The text alone.
 impl<'a> fmt::Debug for Key<'a> {
     fn fmt<W: fmt::Write>(&self, f: &mut fmt::Formatter<W>) -> fmt::Result {
-        for byte in self.text {
-            if byte != 0 {
-                write!(f, "{}", char::from(byte))?;
-            }
-        }
-        Ok(())
+        write_text(self.text, f)
     }
+}
+
+/// Writes the bytes of a text that are not 0.
+pub fn write_text<W: fmt::Write>(text: [u8; 8], f: &mut fmt::Formatter<W>) -> fmt::Result {
+    for byte in text {
+        if byte != 0 {
+            write!(f, "{}", char::from(byte))?;
+        }
+    }
+    Ok(())
 }

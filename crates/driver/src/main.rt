@@ -19,6 +19,7 @@ mod caches;
 mod changes;
 mod collecting;
 mod comparisons;
+mod copied;
 mod counts;
 mod entries;
 mod fills;
@@ -142,6 +143,7 @@ fn run_on_map<'a>(
         || order::run(name, line, map, output)
         || making::run(alloc, name, line, map, other, output)
         || collecting::run(alloc, name, line, map, other, output)
+        || copied::run(alloc, name, map, other, output)
         || run_on_entries(alloc, name, line, map, output)
         || iterators::run(alloc, name, line, map, output)
         || comparisons::run(alloc, name, line, map, other, output)
@@ -150,6 +152,15 @@ fn run_on_map<'a>(
         list::list_pairs(map.iter(), output);
     }
     is_known
+}
+
+/// Returns the name of a call of a set behind `set_`. `set_mode` is a call of a map.
+fn name_of_set_call(name: &str) -> Option<&str> {
+    if name == "set_mode" {
+        None
+    } else {
+        name.strip_prefix("set_")
+    }
 }
 
 /// Runs the call of a line on what it names, and returns whether there is such a call. The first
@@ -169,7 +180,7 @@ fn run_call<'a>(
         } else {
             caches::run(alloc, name, line, &mut all.cache_a, &all.cache_b, output)
         }
-    } else if let Some(name) = name.strip_prefix("set_") {
+    } else if let Some(name) = name_of_set_call(name) {
         if is_b {
             sets::run(alloc, name, line, &mut all.set_b, &all.set_a, output)
         } else {
