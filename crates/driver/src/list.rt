@@ -110,6 +110,27 @@ pub fn list_pairs(pairs: Iter<'_, Key<'_>, Value<'_>>, output: &mut Output<'_>) 
     }
 }
 
+/// Returns a digest of the pairs of a slice in order.
+fn digest_of_slice(pairs: &[(Key<'_>, Value<'_>)]) -> u64 {
+    let mut digest = Digest::new();
+    for pair in pairs {
+        digest.add(mixed(&pair.0, &pair.1));
+    }
+    digest.sum
+}
+
+/// Appends how many pairs a slice has, the first, the last and a digest.
+pub fn list_ends(pairs: &[(Key<'_>, Value<'_>)], output: &mut Output<'_>) {
+    output.list(&pairs.len());
+    if let Some(pair) = pairs.first() {
+        output.list_pair(&pair.0, &pair.1);
+    }
+    if let Some(pair) = pairs.last() {
+        output.list_pair(&pair.0, &pair.1);
+    }
+    output.list(&digest_of_slice(pairs));
+}
+
 /// Appends the items in order, or if they are many, the first, the last and a digest.
 pub fn list_items(items: linked_hash_set::Iter<'_, Key<'_>>, output: &mut Output<'_>) {
     let len = items.len();

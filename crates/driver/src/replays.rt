@@ -3,6 +3,7 @@
 use super::Map;
 use super::key::Key;
 use super::line::Line;
+use super::list::{SHOWN, list_ends};
 use super::order::mode_named;
 use super::output::Output;
 use super::value::Value;
@@ -97,9 +98,31 @@ fn commands<'a>(alloc: Global, line: &mut Line<'a>, output: &mut Output<'a>) -> 
     commands
 }
 
+/// Returns whether an answer has so many pairs that not all are shown.
+fn has_many_pairs<'a>(answer: &Answer<Key<'a>, Value<'a>>) -> bool {
+    match answer {
+        Answer::Pairs(list) => list.len() > SHOWN,
+        _ => false,
+    }
+}
+
+/// Appends the ends of the list that an answer has, and the length and the capacity of the map.
+fn show_ends<'a>(reply: &Reply<Key<'a>, Value<'a>>, output: &mut Output<'a>) {
+    if let Answer::Pairs(list) = &reply.answer {
+        output.push_str("Pairs");
+        list_ends(list.as_slice(), output);
+        output.push_str(" ");
+        output.show_size(reply.len, reply.capacity);
+    }
+}
+
 /// Appends a reply, and of a list that it has the length and the capacity.
 fn show_reply<'a>(reply: Reply<Key<'a>, Value<'a>>, output: &mut Output<'a>) {
-    output.show(&reply);
+    if has_many_pairs(&reply.answer) {
+        show_ends(&reply, output);
+    } else {
+        output.show(&reply);
+    }
     if let Answer::Pairs(list) = reply.answer {
         let pairs = list.into_vec();
         output.push_str("pairs ");
