@@ -1,39 +1,62 @@
 //! Calls of a cache.
 
-use super::hasher::{BuildKeyHasher, Choice};
-use super::iterators::{iterate, iterate_and_clone, iterate_and_write};
+use super::hasher::BuildKeyHasher;
+use super::iterators::{iterate_and_clone, iterate_and_write, iterate_to_the_end};
 use super::key::Key;
 use super::line::Line;
 use super::list::list_pairs;
 use super::lookups::write_lent;
-use super::making::pairs;
 use super::output::Output;
+use super::retaining::{Calls, keep_and_increase};
+use super::value::Value;
+use super::{cache_fills, cache_replays};
 use lru_cache::LruCache;
 use std::alloc::Global;
+use std::mem;
 
 /// The caches that the lines speak of.
-pub type Cache = LruCache<Key, u64, BuildKeyHasher>;
+pub type Cache<'a> = LruCache<Key<'a>, Value<'a>, BuildKeyHasher<'a>>;
 
 /// Makes an empty cache, with the hasher that the next word names and the limit after it.
-fn new(alloc: Global, line: &mut Line<'_>) -> Cache {
-    let choice = Choice::named(line.word());
-    Cache::with_hasher(alloc, line.small_number(), BuildKeyHasher { choice })
+fn with_hasher<'a>(
+    alloc: Global,
+    line: &mut Line<'a>,
+    cache: &mut Cache<'a>,
+    output: &mut Output<'a>,
+) {
+    let hasher = line.hasher();
+    output.replace(cache, Cache::with_hasher(alloc, line.size(), hasher));
 }
 
 /// Makes a cache of one pair with the default hasher, inserts two pairs, and appends its text.
-fn show_new(alloc: Global, number: u64, output: &mut Output) {
+fn show_new<'a>(alloc: Global, number: u64, output: &mut Output<'a>) {
     let mut cache = LruCache::new(alloc, 1);
-    output.note(cache.insert(0, 0));
-    output.note(cache.insert(number, 1));
+    output.show_refusal(cache.insert(0, 0));
+    output.show_refusal(cache.insert(number, 1));
     output.show(&cache);
 }
 
+/// Appends the pair that a put sent away, if one went, or what it handed back.
+fn put<'a>(cache: &mut Cache<'a>, line: &mut Line<'a>, output: &mut Output<'a>) {
+    match cache.put(line.key(), line.value()) {
+        Ok(Some((key, value))) => output.show_gone_pair(&key, &value),
+        Ok(None) => output.push_str("None "),
+        Err(refused) => output.show_refused(refused),
+    }
+}
+
 /// Runs the call of this name by a key, and returns whether there is one.
-fn run_by_key(name: &str, line: &mut Line<'_>, cache: &mut Cache, output: &mut Output) -> bool {
+fn run_by_key<'a>(
+    name: &str,
+    line: &mut Line<'a>,
+    cache: &mut Cache<'a>,
+    output: &mut Output<'a>,
+) -> bool {
     match name {
-        "insert" => output.show_result(cache.insert(line.key(), line.number())),
-        "get_mut" => write_lent(cache.get_mut(&line.key()), line.number(), output),
-        "peek_mut" => write_lent(cache.peek_mut(&line.key()), line.number(), output),
+        "insert" => output.show_result(cache.insert(line.key(), line.value())),
+        "put" => put(cache, line, output),
+        "get_mut" => write_lent(cache.get_mut(&line.key()), line.value(), output),
+        "peek_mut" => write_lent(cache.peek_mut(&line.key()), line.value(), output),
         "get" => output.show(&cache.get(&line.key())),
         "peek" => output.show(&cache.peek(&line.key())),
         "contains_key" => output.show(&cache.contains_key(&line.key())),
@@ -43,26 +66,21 @@ fn run_by_key(name: &str, line: &mut Line<'_>, cache: &mut Cache, output: &mut O
     true
 }
 
-fn extend(alloc: Global, line: &mut Line<'_>, cache: &mut Cache, output: &mut Output) {
-    let pairs = pairs(alloc, line, output);
-    output.note(cache.extend(pairs));
-}
-
 /// Runs the call of this name that makes a cache or changes what it has, and returns whether there
 /// is one.
-fn run_on_all(
+fn run_on_all<'a>(
     alloc: Global,
     name: &str,
-    line: &mut Line<'_>,
-    cache: &mut Cache,
-    other: &Cache,
-    output: &mut Output,
+    line: &mut Line<'a>,
+    cache: &mut Cache<'a>,
+    other: &Cache<'a>,
+    output: &mut Output<'a>,
 ) -> bool {
     match name {
-        "with_hasher" => *cache = new(alloc, line),
+        "with_hasher" => with_hasher(alloc, line, cache, output),
         "clone" => output.store(cache, other.clone()),
-        "extend" => extend(alloc, line, cache, output),
-        "set_capacity" => cache.set_capacity(line.small_number()),
+        "extend" => output.show_refusal(cache.extend(line.pairs())),
+        "set_capacity" => cache.set_capacity(line.size()),
         "remove_lru" => output.show(&cache.remove_lru()),
         "clear" => cache.clear(),
         "len" => output.show_two(&cache.len(), &cache.is_empty()),
@@ -73,35 +91,82 @@ fn run_on_all(
     true
 }
 
-/// Adds a number to every value, in a loop over the cache.
-fn add(cache: &mut Cache, number: u64) {
+/// Keeps the pairs whose values are not a number modulo 7, and adds the number of the call to each.
+fn retain<'a>(cache: &mut Cache<'a>, line: &mut Line<'a>, output: &mut Output<'a>) {
+    let number = line.number();
+    let guard = line.guard();
+    let calls = Calls::new(line.counts());
+    let noted = &calls;
+    cache.retain(move |_key, value| {
+        guard.hold();
+        keep_and_increase(value, number, noted.note())
+    });
+    calls.show(output);
+}
+
+/// Drops a cache within a window, and leaves a new one of the limit 0 in its place.
+fn drop_cache<'a>(alloc: Global, cache: &mut Cache<'a>, output: &mut Output<'a>) {
+    let empty = Cache::with_hasher(alloc, 0, BuildKeyHasher::default());
+    let taken = mem::replace(cache, empty);
+    output.drop_within(taken);
+}
+
+/// Runs the call of this name that is of the cache alone, and not of the original, and returns
+/// whether there is one.
+fn run_further<'a>(
+    alloc: Global,
+    name: &str,
+    line: &mut Line<'a>,
+    cache: &mut Cache<'a>,
+    output: &mut Output<'a>,
+) -> bool {
+    match name {
+        "retain" => retain(cache, line, output),
+        "reserve" => output.show_refusal(cache.reserve(line.size())),
+        "room" => output.show(&cache.room()),
+        "replay" => cache_replays::replay_all(alloc, cache, line, output),
+        "fill" => cache_fills::fill(cache, line, output),
+        "drop" => drop_cache(alloc, cache, output),
+        _ => return false,
+    }
+    true
+}
+
+/// Adds a number to every value in place, in a loop over the cache.
+fn add<'a>(cache: &mut Cache<'a>, number: u64) {
     for (_key, value) in cache {
-        *value = value.wrapping_add(number);
+        value.increase(number);
     }
 }
 
-/// Appends every pair, in a loop over the cache.
-fn show_all(cache: &Cache, output: &mut Output) {
+/// Appends every pair, in a loop over the cache. Each step is within a window.
+fn show_all<'a>(cache: &Cache<'a>, output: &mut Output<'a>) {
     for (key, value) in cache {
-        output.show_pair(key, *value);
+        output.show_pair(key, value);
+        output.begin();
     }
 }
 
 /// Iterates over a clone that is taken.
-fn into_iter(cache: &Cache, steps: &str, output: &mut Output) {
+fn into_iter<'a>(cache: &Cache<'a>, line: &mut Line<'a>, output: &mut Output<'a>) {
     match cache.clone() {
-        Ok(copy) => iterate(&mut copy.into_iter(), steps, output),
-        Err(_) => output.refuse(),
+        Ok(copy) => iterate_to_the_end(copy.into_iter(), line, output),
+        Err(refused) => output.show_refused(refused),
     }
 }
 
 /// Runs the call of this name that iterates, and returns whether there is one.
-fn run_iterator(name: &str, line: &mut Line<'_>, cache: &mut Cache, output: &mut Output) -> bool {
+fn run_iterator<'a>(
+    name: &str,
+    line: &mut Line<'a>,
+    cache: &mut Cache<'a>,
+    output: &mut Output<'a>,
+) -> bool {
     match name {
         "iter" => iterate_and_clone(cache.iter(), line, output),
-        "iter_mut" => iterate_and_write(cache.iter_mut(), line.word(), line.number(), output),
-        "into_iter" => into_iter(cache, line.word(), output),
-        "drain" => iterate(&mut cache.drain(), line.word(), output),
+        "iter_mut" => iterate_and_write(cache.iter_mut(), line, output),
+        "into_iter" => into_iter(cache, line, output),
+        "drain" => iterate_to_the_end(cache.drain(), line, output),
         "loop" => show_all(cache, output),
         "loop_mut" => add(cache, line.number()),
         _ => return false,
@@ -111,16 +176,17 @@ fn run_iterator(name: &str, line: &mut Line<'_>, cache: &mut Cache, output: &mut
 
 /// Runs the call of this name, appends what it returns, the limit and the list, and returns whether
 /// there is such a call.
-pub fn run(
+pub fn run<'a>(
     alloc: Global,
     name: &str,
-    line: &mut Line<'_>,
-    cache: &mut Cache,
-    other: &Cache,
-    output: &mut Output,
+    line: &mut Line<'a>,
+    cache: &mut Cache<'a>,
+    other: &Cache<'a>,
+    output: &mut Output<'a>,
 ) -> bool {
     let is_known = run_by_key(name, line, cache, output)
         || run_on_all(alloc, name, line, cache, other, output)
+        || run_further(alloc, name, line, cache, output)
         || run_iterator(name, line, cache, output);
     if is_known {
         output.push_str("| ");

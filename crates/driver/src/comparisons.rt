@@ -1,74 +1,107 @@
 //! Calls that compare two maps, hash one or show it.
 
 use super::Map;
-use super::hasher::{BuildKeyHasher, Choice};
+use super::hasher::BuildKeyHasher;
 use super::line::Line;
+use super::ordered::OrderedKey;
 use super::output::Output;
-use linked_hash_map::LinkedHashMap;
+use super::value::Value;
+use linked_hash_map::{LinkedHashMap, ReserveError};
 use std::alloc::Global;
 use std::hash::BuildHasher;
 
 /// A map whose keys are compared as they are.
-type Plain = LinkedHashMap<u64, u64>;
+type Ordered<'a> = LinkedHashMap<OrderedKey<'a>, Value<'a>>;
 
 /// Makes a map of the same pairs whose keys are compared as they are.
-fn plain(alloc: Global, map: &Map, output: &mut Output) -> Plain {
-    let mut plain = Plain::new(alloc);
-    output.store(&mut plain, Plain::with_capacity(alloc, map.len()));
+fn ordered<'a>(alloc: Global, map: &Map<'a>, output: &mut Output<'a>) -> Ordered<'a> {
+    let mut ordered = Ordered::new(alloc);
     for (key, value) in map.iter() {
-        output.note(plain.insert(key.number(), *value));
+        output.note(ordered.insert(key.ordered(), value.copy()));
     }
-    plain
+    ordered
 }
 
 /// Appends the debug text of a map with the default hasher and the pair of a number.
-fn show_new(alloc: Global, number: u64, output: &mut Output) {
-    let mut map = Plain::new(alloc);
-    output.note(map.insert(number, number));
+fn show_new<'a>(alloc: Global, number: u64, output: &mut Output<'a>) {
+    let mut map: LinkedHashMap<u64, u64> = LinkedHashMap::new(alloc);
+    output.show_refusal(map.insert(number, number));
     output.show(&map);
 }
 
-/// Appends the debug text of a map over several lines, as that of a string.
-fn show_pretty(alloc: Global, map: &Map, output: &mut Output) {
-    output.show_result(format!(in alloc; "{map:#?}"));
+/// Does so with a map of a capacity, and appends the capacity too.
+fn show_new_with_capacity<'a>(alloc: Global, line: &mut Line<'a>, output: &mut Output<'a>) {
+    let (capacity, number) = (line.size(), line.number());
+    let made: Result<LinkedHashMap<u64, u64>, ReserveError> = LinkedHashMap::with_capacity(
+        alloc, capacity,
+    );
+    match made {
+        Ok(mut map) => {
+            output.show_refusal(map.insert(number, number));
+            output.show_two(&map, &map.capacity());
+        }
+        Err(refused) => output.show_refusal(Err::<(), _>(refused)),
+    }
 }
 
-/// Appends which of two maps is less, if they have an order.
-fn partial_compare<M: PartialOrd>(map: &M, other: &M, output: &mut Output) {
+/// Appends the debug text of a map over several lines, as that of a string.
+fn show_pretty<'a>(alloc: Global, map: &Map<'a>, output: &mut Output<'a>) {
+    output.end();
+    match format!(in alloc; "{map:#?}") {
+        Ok(text) => output.show(&text),
+        Err(refused) => output.note(Err::<(), _>(refused)),
+    }
+}
+
+/// Appends whether two maps are equal. Each comparison is within a window.
+fn show_equal<'a>(map: &Map<'a>, other: &Map<'a>, output: &mut Output<'a>) {
+    output.show(&(*map == *other));
+    output.begin();
+    output.show(&(*map != *other));
+}
+
+/// Appends which of two maps is less, if they have an order. Each comparison is within a window.
+fn partial_compare<M: PartialOrd>(map: &M, other: &M, output: &mut Output<'_>) {
+    output.begin();
     output.show(&map.partial_cmp(other));
+    output.begin();
     output.show_two(&(*map < *other), &(*map <= *other));
+    output.begin();
     output.show_two(&(*map > *other), &(*map >= *other));
 }
 
 /// Appends which of two maps of the same pairs is less.
-fn compare(alloc: Global, map: &Map, other: &Map, output: &mut Output) {
-    let map = plain(alloc, map, output);
-    let other = plain(alloc, other, output);
+fn compare<'a>(alloc: Global, map: &Map<'a>, other: &Map<'a>, output: &mut Output<'a>) {
+    output.end();
+    let map = ordered(alloc, map, output);
+    let other = ordered(alloc, other, output);
+    output.begin();
     output.show(&map.cmp(&other));
     partial_compare(&map, &other, output);
 }
 
-/// Returns the hash that a hasher gives a map.
-fn hash_of(map: &Map) -> u64 {
-    let choice = Choice::Spread;
-    BuildKeyHasher { choice }.hash_one(map)
+/// Appends the hash that a hasher which is not counted gives a map.
+fn show_hash<'a>(map: &Map<'a>, output: &mut Output<'a>) {
+    let hasher = BuildKeyHasher::default();
+    output.show(&hasher.hash_one(map));
 }
 
 /// Runs the call of this name, and returns whether there is one.
-pub fn run(
+pub fn run<'a>(
     alloc: Global,
     name: &str,
-    line: &mut Line<'_>,
-    map: &Map,
-    other: &Map,
-    output: &mut Output,
+    line: &mut Line<'a>,
+    map: &Map<'a>,
+    other: &Map<'a>,
+    output: &mut Output<'a>,
 ) -> bool {
     match name {
-        "eq" => output.show_two(&(*map == *other), &(*map != *other)),
+        "eq" => show_equal(map, other, output),
         "cmp" => compare(alloc, map, other, output),
         "partial_cmp" => partial_compare(map, other, output),
         "new" => show_new(alloc, line.number(), output),
-        "hash" => output.show(&hash_of(map)),
+        "new_with_capacity" => show_new_with_capacity(alloc, line, output),
+        "hash" => show_hash(map, output),
         "debug" => output.show(map),
         "debug_pretty" => show_pretty(alloc, map, output),
         _ => return false,

@@ -1,154 +1,190 @@
-//! Calls that go by an entry.
+//! Calls that go by an entry, and make an edit that a letter names.
 
 use super::Map;
 use super::hasher::BuildKeyHasher;
 use super::key::Key;
 use super::line::Line;
 use super::output::Output;
-use linked_hash_map::{Entries, Entry, OccupiedEntry, Refused};
+use super::value::{Value, Values};
+use linked_hash_map::{Entry, OccupiedEntry, Refused, VacantEntry};
+use std::mem;
 
-type Occupied<'m> = OccupiedEntry<'m, Key, u64, BuildKeyHasher>;
+type Occupied<'m, 'a> = OccupiedEntry<'m, Key<'a>, Value<'a>, BuildKeyHasher<'a>>;
+
+type Vacant<'m, 'a> = VacantEntry<'m, Key<'a>, Value<'a>, BuildKeyHasher<'a>>;
 
 /// A value that a call lends, if it was given memory.
-type Lent<'m> = Result<&'m mut u64, Refused<Key, u64>>;
+pub type Lent<'m, 'a> = Result<&'m mut Value<'a>, Refused<Key<'a>, Value<'a>>>;
 
-/// Shows an entry, and writes the value at `w`, inserts it at `i`, or inserts it and then 0 at `t`.
-fn edit_in_place(entry: &mut Occupied<'_>, edit: u8, value: u64, output: &mut Output) {
-    output.show_pair(entry.key(), *entry.get());
-    match edit {
-        b'w' => *entry.get_mut() = value,
-        b'i' => output.show(&entry.insert(value)),
-        b't' => {
-            output.show(&entry.insert(value));
-            output.show(&entry.insert(0));
+/// An edit: its letter, and what it takes.
+#[derive(Drop)]
+pub struct Edit<'a> {
+    pub letter: u8,
+    values: Values<'a>,
+    key: &'a str,
+}
+
+impl<'a> Edit<'a> {
+    /// Makes an edit of no letter, of a word of a key and of the next word as values.
+    pub fn new(key: &'a str, line: &mut Line<'a>) -> Edit<'a> {
+        Edit {
+            letter: 0,
+            values: line.values(),
+            key,
         }
+    }
+
+    /// Makes a key of the word.
+    fn key(&self) -> Key<'a> {
+        self.values.key(self.key)
+    }
+}
+
+/// Inserts a value by an entry, and appends the one that was there.
+fn show_replaced<'a>(entry: &mut Occupied<'_, 'a>, value: Value<'a>, output: &mut Output<'a>) {
+    output.begin();
+    output.show(&entry.insert(value));
+}
+
+/// Inserts a value and then 0.
+fn insert_twice<'a>(
+    entry: &mut Occupied<'_, 'a>,
+    values: &mut Values<'a>,
+    output: &mut Output<'a>,
+) {
+    let value = values.take();
+    let zero = values.zero();
+    show_replaced(entry, value, output);
+    show_replaced(entry, zero, output);
+}
+
+/// Writes the value of an entry at `w`, inserts one at `i`, or inserts one and then 0 at `t`.
+fn edit_value<'a>(entry: &mut Occupied<'_, 'a>, edit: &mut Edit<'a>, output: &mut Output<'a>) {
+    match edit.letter {
+        b'w' => output.write(entry.get_mut(), edit.values.take()),
+        b'i' => show_replaced(entry, edit.values.take(), output),
+        b't' => insert_twice(entry, &mut edit.values, output),
         _ => {}
     }
 }
 
-/// Makes an edit by the entry of a key that is present: one in place, a removal at `r`, or a write
-/// to what the entry turns into at `m`.
-fn edit_occupied(map: &mut Map, key: Key, edit: u8, value: u64, output: &mut Output) {
-    let Entry::Occupied(mut entry) = map.entry(key) else {
-        return;
-    };
-    edit_in_place(&mut entry, edit, value, output);
-    match edit {
+/// Replaces the key of an entry.
+fn replace_key<'a>(entry: &mut Occupied<'_, 'a>, key: Key<'a>, output: &mut Output<'a>) {
+    output.begin();
+    output.show_key(entry.replace_key(key));
+}
+
+/// Moves the pair of an entry to the back at `b` or to the front at `f`, or replaces its key at `p`.
+fn edit_place_or_key<'a>(entry: &mut Occupied<'_, 'a>, edit: &Edit<'a>, output: &mut Output<'a>) {
+    match edit.letter {
+        b'b' => entry.move_to_back(),
+        b'f' => entry.move_to_front(),
+        b'p' => replace_key(entry, edit.key(), output),
+        _ => {}
+    }
+}
+
+/// Makes an edit in place, and drops the entry.
+fn edit_in_place<'a>(entry: Occupied<'_, 'a>, edit: &mut Edit<'a>, output: &mut Output<'a>) {
+    let mut entry = entry;
+    edit_value(&mut entry, edit, output);
+    edit_place_or_key(&mut entry, edit, output);
+    output.drop_within(entry);
+}
+
+/// Shows an entry and makes an edit by it: a removal at `r` or `e`, a write to what the entry turns
+/// into at `m`, one in place, or at `o` none, and the entry is forgotten.
+pub fn edit_occupied<'a>(entry: Occupied<'_, 'a>, edit: &mut Edit<'a>, output: &mut Output<'a>) {
+    output.show_pair(entry.key(), entry.get());
+    output.begin();
+    match edit.letter {
         b'r' => output.show(&entry.remove()),
-        b'm' => *entry.into_mut() = value,
-        _ => {}
+        b'e' => output.show(&entry.remove_entry()),
+        b'm' => output.write(entry.into_mut(), edit.values.take()),
+        b'o' => mem::forget(entry),
+        _ => edit_in_place(entry, edit, output),
     }
-}
-
-/// Appends a value that was inserted.
-fn show_inserted(lent: Lent<'_>, output: &mut Output) {
-    match lent {
-        Ok(lent) => output.show(lent),
-        Err(_) => output.refuse(),
-    }
+    output.end();
 }
 
 /// Writes to a value that was inserted.
-fn write_inserted(lent: Lent<'_>, value: u64, output: &mut Output) {
+fn write_inserted<'a>(lent: Lent<'_, 'a>, value: Value<'a>, output: &mut Output<'a>) {
     match lent {
-        Ok(lent) => *lent = value,
-        Err(_) => output.refuse(),
+        Ok(lent) => output.write(lent, value),
+        Err(refused) => output.show_refused(refused),
     }
 }
 
-/// Makes an edit by the entry of a key that is absent: an insertion at `i`, one of 0 that is then
-/// written at `m`, or none.
-fn edit_vacant(map: &mut Map, key: Key, edit: u8, value: u64, output: &mut Output) {
-    let Entry::Vacant(entry) = map.entry(key) else {
-        return;
-    };
+/// Shows the key of an entry and makes an edit by it: an insertion at `i`, one of 0 that is then
+/// written at `m`, at `y` its key is taken, at `o` it is forgotten, or none.
+fn edit_vacant<'a>(entry: Vacant<'_, 'a>, edit: &mut Edit<'a>, output: &mut Output<'a>) {
     output.push_str("vacant ");
     output.show(entry.key());
-    match edit {
-        b'i' => show_inserted(entry.insert(value), output),
-        b'm' => write_inserted(entry.insert(0), value, output),
-        _ => {}
+    output.begin();
+    match edit.letter {
+        b'i' => output.show_result(entry.insert(edit.values.take())),
+        b'm' => {
+            let zero = edit.values.zero();
+            write_inserted(entry.insert(zero), edit.values.take(), output);
+        }
+        b'y' => output.show(&entry.into_key()),
+        b'o' => mem::forget(entry),
+        _ => output.drop_within(entry),
     }
+    output.end();
 }
 
 /// Makes an edit by the entry of a key.
-fn edit(map: &mut Map, line: &mut Line<'_>, output: &mut Output) {
-    let key = line.key();
-    let edit = first_byte(line.word());
-    let value = line.number();
-    if map.contains_key(&key) {
-        edit_occupied(map, key, edit, value, output);
-    } else {
-        edit_vacant(map, key, edit, value, output);
+fn edit_entry<'a>(map: &mut Map<'a>, line: &mut Line<'a>, output: &mut Output<'a>) {
+    let word = line.word();
+    let key = line.key_of(word);
+    let letter = first_byte(line.word());
+    let mut edit = Edit::new(word, line);
+    edit.letter = letter;
+    match map.entry(key) {
+        Entry::Occupied(entry) => edit_occupied(entry, &mut edit, output),
+        Entry::Vacant(entry) => edit_vacant(entry, &mut edit, output),
     }
 }
 
 /// Returns the first byte of a word, or 0 if there is none.
-fn first_byte(word: &str) -> u8 {
+pub fn first_byte(word: &str) -> u8 {
     match word.as_bytes().first() {
         Some(byte) => *byte,
         None => 0,
     }
 }
 
-/// Makes an edit by the next entry of a cursor.
-fn visit_next(
-    entries: &mut Entries<'_, Key, u64, BuildKeyHasher>,
-    edit: u8,
-    value: u64,
-    output: &mut Output,
-) {
-    let Some(mut entry) = entries.next() else {
-        output.push_str("end ");
-        return;
-    };
-    edit_in_place(&mut entry, edit, value, output);
-    match edit {
-        b'r' => output.show(&entry.remove()),
-        b'm' => *entry.into_mut() = value,
-        _ => {}
-    }
+/// Appends the key of an entry, and drops the entry.
+fn show_entry_key<'a>(map: &mut Map<'a>, key: Key<'a>, output: &mut Output<'a>) {
+    let entry = map.entry(key);
+    output.show(entry.key());
+    output.drop_within(entry);
 }
 
-/// Makes an edit by each entry of a cursor, up to the end of the word.
-fn visit(map: &mut Map, edits: &str, value: u64, output: &mut Output) {
-    let mut entries = map.entries();
-    for edit in edits.bytes() {
-        output.show(&entries.remaining());
-        visit_next(&mut entries, edit, value, output);
-    }
-}
-
-/// Appends a value that is lent, and writes the number after it.
-fn show_and_increase(lent: Lent<'_>, output: &mut Output) {
-    match lent {
-        Ok(lent) => {
-            output.show(lent);
-            *lent = lent.wrapping_add(1);
+/// Replaces the key of a present entry by another.
+fn replace_entry_key<'a>(map: &mut Map<'a>, line: &mut Line<'a>, output: &mut Output<'a>) {
+    let (key, other) = (line.key(), line.key());
+    match map.entry(key) {
+        Entry::Occupied(mut entry) => output.show_key(entry.replace_key(other)),
+        Entry::Vacant(entry) => {
+            output.drop_within(entry);
+            output.push_str("absent ");
         }
-        Err(_) => output.refuse(),
     }
-}
-
-fn and_modify(map: &mut Map, key: Key, value: u64, output: &mut Output) {
-    let entry = map.entry(key).and_modify(|lent| *lent = value);
-    show_and_increase(entry.or_insert(0), output);
-}
-
-fn or_insert_with(map: &mut Map, key: Key, value: u64, output: &mut Output) {
-    show_and_increase(map.entry(key).or_insert_with(|| value), output);
 }
 
 /// Runs the call of this name, and returns whether there is one.
-pub fn run(name: &str, line: &mut Line<'_>, map: &mut Map, output: &mut Output) -> bool {
+pub fn run<'a>(
+    name: &str,
+    line: &mut Line<'a>,
+    map: &mut Map<'a>,
+    output: &mut Output<'a>,
+) -> bool {
     match name {
-        "entry" => edit(map, line, output),
-        "entry_key" => output.show(map.entry(line.key()).key()),
-        "or_insert" => show_and_increase(map.entry(line.key()).or_insert(line.number()), output),
-        "or_insert_with" => or_insert_with(map, line.key(), line.number(), output),
-        "or_default" => show_and_increase(map.entry(line.key()).or_default(), output),
-        "and_modify" => and_modify(map, line.key(), line.number(), output),
-        "entries" => visit(map, line.word(), line.number(), output),
+        "entry" => edit_entry(map, line, output),
+        "entry_key" => show_entry_key(map, line.key(), output),
+        "entry_replace_key" => replace_entry_key(map, line, output),
         _ => return false,
     }
     true

@@ -2,10 +2,17 @@
 ghost use Rattle.std.specs.Prelude.{◌≡◌, ◌==◌, ◌+◌, ◌*◌, ◌%◌, fold, get_or, if◌then◌else◌};
 ghost use Rattle.driver.specs.Hashers.{hash_of};
 
+use super::counts::{Counts, Event, Kind};
+use super::key::COPY;
+use std::alloc::AllocError;
+use std::fmt;
 use std::hash::{BuildHasher, Hasher};
 
 /// An odd number whose multiples have changing bits up to the highest.
 const MULTIPLIER: u64 = 0x9E37_79B9_7F4A_7C15;
+
+/// What makes a byte the highest of eight: 2^56.
+const HIGHEST_BYTE: u64 = 0x0100_0000_0000_0000;
 
 /// What a hasher makes of the bytes that are written.
 #[derive(Clone, Copy, Debug)]
@@ -18,6 +25,8 @@ pub enum Choice {
     Letter,
     /// A hash that differs for most keys in each of its 64 bits.
     Wide,
+    /// The first byte as the highest of the eight of the hash.
+    High,
 }
 
 impl Choice {
@@ -27,6 +36,7 @@ impl Choice {
             "same" => Choice::Same,
             "letter" => Choice::Letter,
             "wide" => Choice::Wide,
+            "high" => Choice::High,
             _ => Choice::Spread,
         }
     }
@@ -55,6 +65,7 @@ impl Hasher for KeyHasher {
             Choice::Same => 0,
             Choice::Letter => self.first,
             Choice::Wide => self.number.wrapping_mul(MULTIPLIER),
+            Choice::High => self.first.wrapping_mul(HIGHEST_BYTE),
         }
     }
 
@@ -80,18 +91,77 @@ fn first_of(bytes: &[u8]) -> u64
     }
 }
 
-/// Makes the hashers of a choice.
-#[derive(Clone, Copy, Debug)]
-pub struct BuildKeyHasher {
-    pub choice: Choice,
+/// Makes the hashers of a choice. One that is made by default counts nothing, and its serial number
+/// is 0.
+pub struct BuildKeyHasher<'a> {
+    choice: Choice,
+    serial: u64,
+    counts: Option<&'a Counts>,
 }
 
-impl BuildHasher for BuildKeyHasher {
+impl<'a> BuildKeyHasher<'a> {
+    /// Makes the builder of a choice, with the next serial number.
+    pub fn new(choice: Choice, counts: &'a Counts) -> BuildKeyHasher<'a> {
+        BuildKeyHasher {
+            choice,
+            serial: counts.next_serial(),
+            counts: Some(counts),
+        }
+    }
+
+    /// Makes a copy, which is not counted as a clone.
+    pub fn copy(&self) -> BuildKeyHasher<'a> {
+        BuildKeyHasher {
+            choice: self.choice,
+            serial: self.serial.wrapping_add(COPY),
+            counts: self.counts,
+        }
+    }
+
+    fn count(&self, event: Event) {
+        if let Some(counts) = self.counts {
+            counts.count(event);
+        }
+    }
+
+    fn is_refused(&self) -> bool {
+        match self.counts {
+            Some(counts) => counts.refuses_clone(),
+            None => false,
+        }
+    }
+}
+
+impl<'a> Drop for BuildKeyHasher<'a> {
+    fn drop(self) {
+        if let Some(counts) = self.counts {
+            counts.count_drop(Kind::Hasher, self.serial);
+        }
+        let BuildKeyHasher {
+            choice: _,
+            serial: _,
+            counts: _,
+        } = self;
+    }
+}
+
+impl<'a> Clone for BuildKeyHasher<'a> {
+    fn clone(&self) -> Result<BuildKeyHasher<'a>, AllocError> {
+        self.count(Event::CloneHasher);
+        if self.is_refused() {
+            return Err(AllocError);
+        }
+        Ok(self.copy())
+    }
+}
+
+impl<'a> BuildHasher for BuildKeyHasher<'a> {
     type Hasher = KeyHasher;
 
     ghost build_hasher = { λ build. record { choice = build.choice; number = 0; first = 0 } };
 
     fn build_hasher(&self) -> KeyHasher {
+        self.count(Event::BuildHasher);
         KeyHasher {
             choice: self.choice,
             number: 0,
@@ -100,11 +170,20 @@ impl BuildHasher for BuildKeyHasher {
     }
 }
 
-/// Spreads the keys.
-impl Default for BuildKeyHasher {
-    fn default() -> BuildKeyHasher {
+/// Spreads the keys, and counts nothing.
+impl<'a> Default for BuildKeyHasher<'a> {
+    fn default() -> BuildKeyHasher<'a> {
         BuildKeyHasher {
             choice: Choice::Spread,
+            serial: 0,
+            counts: None,
         }
+    }
+}
+
+/// The choice alone.
+impl<'a> fmt::Debug for BuildKeyHasher<'a> {
+    fn fmt<W: fmt::Write>(&self, f: &mut fmt::Formatter<W>) -> fmt::Result {
+        write!(f, "BuildKeyHasher {{ choice: {:?} }}", self.choice)
     }
 }

@@ -1,11 +1,12 @@
 //! Iterators and loops over the pairs.
 
 use super::Map;
-use super::hasher::BuildKeyHasher;
 use super::key::Key;
 use super::line::Line;
+use super::making::take;
 use super::output::Output;
-use linked_hash_map::IterMut;
+use super::value::Value;
+use linked_hash_map::{IterMut, ValuesMut};
 use std::alloc::Global;
 use std::fmt::Debug;
 use std::mem;
@@ -21,115 +22,190 @@ fn step<T, I: DoubleEndedIterator<Item = T>>(items: &mut I, letter: u8) -> Optio
     }
 }
 
-/// Makes a step for each letter, and appends what each gives and how much is left.
+/// Makes a step for each letter, and appends what each gives and how much is left. Each step is
+/// within a window.
 pub fn iterate<T: Debug + Drop, I: DoubleEndedIterator<Item = T> + ExactSizeIterator>(
     items: &mut I,
     steps: &str,
-    output: &mut Output,
+    output: &mut Output<'_>,
 )
     requires { (items : I) → I.can_next items × I.can_next_back items }
 {
     for letter in steps.bytes() {
+        output.begin();
         output.show(&step(items, letter));
         output.show_two(&items.size_hint(), &items.len());
     }
+}
+
+/// Iterates, and drops the iterator within a window.
+pub fn iterate_and_drop<
+    T: Debug + Drop,
+    I: DoubleEndedIterator<Item = T> + ExactSizeIterator + Drop,
+>(items: I, steps: &str, output: &mut Output<'_>)
+    requires { (items : I) → I.can_next items × I.can_next_back items }
+{
+    let mut items = items;
+    iterate(&mut items, steps, output);
+    output.drop_within(items);
 }
 
 /// Iterates, clones the iterator, and iterates by the clone and then by the iterator itself.
 pub fn iterate_and_clone<
     T: Debug + Drop,
     I: DoubleEndedIterator<Item = T> + ExactSizeIterator + Clone + Drop,
->(items: I, line: &mut Line<'_>, output: &mut Output)
+>(items: I, line: &mut Line<'_>, output: &mut Output<'_>)
     requires { (items : I) → I.can_next items × I.can_next_back items }
 {
     let mut items = items;
     iterate(&mut items, line.word(), output);
     let steps = line.word();
+    output.begin();
     match items.clone() {
-        Ok(mut copy) => iterate(&mut copy, steps, output),
-        Err(_) => output.refuse(),
+        Ok(copy) => iterate_and_drop(copy, steps, output),
+        Err(refused) => output.show_refused(refused),
     }
     output.push_str("/ ");
-    iterate(&mut items, steps, output);
+    iterate_and_drop(items, steps, output);
 }
 
 /// Appends a pair, and writes its value.
-fn write_pair(key: &Key, lent: &mut u64, value: u64, output: &mut Output) {
-    output.show_pair(key, *lent);
-    *lent = value;
+fn write_pair<'a>(key: &Key<'a>, lent: &mut Value<'a>, value: Value<'a>, output: &mut Output<'a>) {
+    output.show_pair(key, lent);
+    output.write(lent, value);
 }
 
 /// Iterates by what `iter_mut` returns, and writes each value that is lent.
-pub fn iterate_and_write(
-    pairs: IterMut<'_, Key, u64>,
-    steps: &str,
-    value: u64,
-    output: &mut Output,
+pub fn iterate_and_write<'a>(
+    pairs: IterMut<'_, Key<'a>, Value<'a>>,
+    line: &mut Line<'a>,
+    output: &mut Output<'a>,
 ) {
     let mut pairs = pairs;
+    let steps = line.word();
+    let mut values = line.values();
     for letter in steps.bytes() {
+        output.begin();
         match step(&mut pairs, letter) {
-            Some((key, lent)) => write_pair(key, lent, value, output),
+            Some((key, lent)) => write_pair(key, lent, values.take(), output),
             None => output.push_str("end "),
         }
         output.show_two(&pairs.size_hint(), &pairs.len());
     }
+    output.drop_within(pairs);
 }
 
-/// Adds a number to every value, in a loop over the map.
-fn add(map: &mut Map, number: u64) {
+/// Appends a value, and writes it.
+fn write_value<'a>(lent: &mut Value<'a>, value: Value<'a>, output: &mut Output<'a>) {
+    output.show(lent);
+    output.write(lent, value);
+}
+
+/// Iterates by what `values_mut` returns, and writes each value that is lent.
+fn iterate_values_and_write<'a>(
+    lent_values: ValuesMut<'_, Key<'a>, Value<'a>>,
+    line: &mut Line<'a>,
+    output: &mut Output<'a>,
+) {
+    let mut lent_values = lent_values;
+    let steps = line.word();
+    let mut values = line.values();
+    for letter in steps.bytes() {
+        output.begin();
+        match step(&mut lent_values, letter) {
+            Some(lent) => write_value(lent, values.take(), output),
+            None => output.push_str("end "),
+        }
+        output.show_two(&lent_values.size_hint(), &lent_values.len());
+    }
+    output.drop_within(lent_values);
+}
+
+/// Adds a number to every value in place, in a loop over the map.
+fn add<'a>(map: &mut Map<'a>, number: u64) {
     for (_key, value) in map {
-        *value = value.wrapping_add(number);
+        value.increase(number);
     }
 }
 
-/// Appends every pair, in a loop over the map.
-fn show_all(map: &Map, output: &mut Output) {
+/// Appends every pair, in a loop over the map. Each step is within a window.
+fn show_all<'a>(map: &Map<'a>, output: &mut Output<'a>) {
     for (key, value) in map {
-        output.show_pair(key, *value);
+        output.show_pair(key, value);
+        output.begin();
     }
-}
-
-/// Takes the map, and leaves an empty one with the default hasher in its place.
-fn take(alloc: Global, map: &mut Map) -> Map {
-    mem::replace(map, Map::with_hasher(alloc, BuildKeyHasher::default()))
 }
 
 /// Iterates by `drain`, and drops or forgets the iterator.
-fn drain(map: &mut Map, line: &mut Line<'_>, output: &mut Output) {
+fn drain<'a>(map: &mut Map<'a>, line: &mut Line<'a>, output: &mut Output<'a>) {
     let mut pairs = map.drain();
     iterate(&mut pairs, line.word(), output);
     if line.word() == "forget" {
         mem::forget(pairs);
+    } else {
+        output.drop_within(pairs);
     }
 }
 
 /// Iterates over a map that is taken, and forgets what is left.
-fn iterate_and_forget(map: Map, steps: &str, output: &mut Output) {
+fn iterate_and_forget<'a>(map: Map<'a>, steps: &str, output: &mut Output<'a>) {
     let mut pairs = map.into_iter();
     iterate(&mut pairs, steps, output);
     mem::forget(pairs);
 }
 
-/// Runs the call of this name, and returns whether there is one.
-pub fn run(
+/// Iterates, and drops or forgets the iterator.
+pub fn iterate_to_the_end<
+    T: Debug + Drop,
+    I: DoubleEndedIterator<Item = T> + ExactSizeIterator + Drop,
+>(items: I, line: &mut Line<'_>, output: &mut Output<'_>)
+    requires { (items : I) → I.can_next items × I.can_next_back items }
+{
+    let mut items = items;
+    iterate(&mut items, line.word(), output);
+    if line.word() == "forget" {
+        mem::forget(items);
+    } else {
+        output.drop_within(items);
+    }
+}
+
+/// Runs the call of this name that takes the map, and returns whether there is one.
+fn run_owned<'a>(
     alloc: Global,
     name: &str,
-    line: &mut Line<'_>,
-    map: &mut Map,
-    output: &mut Output,
+    line: &mut Line<'a>,
+    map: &mut Map<'a>,
+    output: &mut Output<'a>,
+) -> bool {
+    match name {
+        "into_iter" => iterate_and_clone(take(alloc, map).into_iter(), line, output),
+        "into_iter_forget" => iterate_and_forget(take(alloc, map), line.word(), output),
+        "into_keys" => iterate_to_the_end(take(alloc, map).into_keys(), line, output),
+        "into_values" => iterate_to_the_end(take(alloc, map).into_values(), line, output),
+        _ => return false,
+    }
+    true
+}
+
+/// Runs the call of this name, and returns whether there is one.
+pub fn run<'a>(
+    alloc: Global,
+    name: &str,
+    line: &mut Line<'a>,
+    map: &mut Map<'a>,
+    output: &mut Output<'a>,
 ) -> bool {
     match name {
         "iter" => iterate_and_clone(map.iter(), line, output),
         "keys" => iterate_and_clone(map.keys(), line, output),
         "values" => iterate_and_clone(map.values(), line, output),
-        "iter_mut" => iterate_and_write(map.iter_mut(), line.word(), line.number(), output),
-        "into_iter" => iterate_and_clone(take(alloc, map).into_iter(), line, output),
-        "into_iter_forget" => iterate_and_forget(take(alloc, map), line.word(), output),
+        "iter_mut" => iterate_and_write(map.iter_mut(), line, output),
+        "values_mut" => iterate_values_and_write(map.values_mut(), line, output),
         "drain" => drain(map, line, output),
         "loop" => show_all(map, output),
         "loop_mut" => add(map, line.number()),
-        _ => return false,
+        _ => return run_owned(alloc, name, line, map, output),
     }
     true
 }

@@ -7,22 +7,30 @@ ghost use Rattle.std.specs.Ordering.{on};
 ghost use Rattle.std.proofs.Common.{rules};
 ghost use Rattle.driver.specs.Keys.{same_cmp, same_cmp_partial_order};
 
+use super::copied::CopiedKey;
+use super::counts::{Counts, Event, Kind};
+use super::ordered::OrderedKey;
+use std::alloc::AllocError;
 use std::cmp::Ordering;
 use std::fmt;
 use std::hash::{Hash, Hasher};
 
+/// What is added to the serial number of a key or a value to give that of a copy.
+pub const COPY: u64 = 4_294_967_296;
+
 /// The first eight bytes of a text. Two keys are the same if they differ in case alone, so what
 /// a map has stored shows which of them it keeps.
-#[derive(Clone, Copy)]
-pub struct Key {
+pub struct Key<'a> {
     text: [u8; 8],
     /// The text in lower case, as one number.
     folded: u64,
+    serial: u64,
+    counts: &'a Counts,
 }
 
-impl Key {
-    /// Makes a key of a text.
-    pub fn new(text: &str) -> Key {
+impl<'a> Key<'a> {
+    /// Makes a key of a text, with the next serial number.
+    pub fn new(text: &str, counts: &'a Counts) -> Key<'a> {
         let mut bytes = [0; 8];
         for (place, byte) in bytes.iter_mut().zip(text.bytes()) {
             *place = byte;
@@ -34,6 +42,38 @@ impl Key {
         Key {
             text: bytes,
             folded: u64::from_le_bytes(lower),
+            serial: counts.next_serial(),
+            counts,
+        }
+    }
+
+    /// Makes a key of the decimal text of a number, with the next serial number.
+    pub fn decimal(number: u64, counts: &'a Counts) -> Key<'a> {
+        let text = decimal_text(number);
+        Key {
+            text,
+            folded: u64::from_le_bytes(text),
+            serial: counts.next_serial(),
+            counts,
+        }
+    }
+
+    /// Makes a key of the same text, with the next serial number.
+    pub fn again(&self) -> Key<'a> {
+        self.with_serial(self.counts.next_serial())
+    }
+
+    /// Makes a copy, which is not counted as a clone.
+    pub fn copy(&self) -> Key<'a> {
+        self.with_serial(self.serial.wrapping_add(COPY))
+    }
+
+    fn with_serial(&self, serial: u64) -> Key<'a> {
+        Key {
+            text: self.text,
+            folded: self.folded,
+            serial,
+            counts: self.counts,
         }
     }
 
@@ -41,29 +81,82 @@ impl Key {
     pub fn number(&self) -> u64 {
         u64::from_be_bytes(self.text)
     }
+
+    /// Returns the text in lower case as a key that is copied.
+    pub fn copied(&self) -> CopiedKey<'a> {
+        CopiedKey::new(self.text, self.folded, self.counts)
+    }
+
+    /// Returns the text as a key that is compared as it is.
+    pub fn ordered(&self) -> OrderedKey<'a> {
+        OrderedKey::new(self.number(), self.counts)
+    }
+
+    /// Returns the serial number.
+    pub fn serial(&self) -> u64 {
+        self.serial
+    }
 }
 
-impl PartialEq for Key {
+/// Returns the last eight digits of a number.
+fn decimal_text(number: u64) -> [u8; 8] {
+    let mut text = 0;
+    let mut rest = number;
+    for _ in 0..8 {
+        text = text >> 8 | (rest % 10 + 48) << 56;
+        rest /= 10;
+        if rest == 0 {
+            break;
+        }
+    }
+    u64::to_be_bytes(text)
+}
+
+impl<'a> Drop for Key<'a> {
+    fn drop(self) {
+        self.counts.count_drop(Kind::Key, self.serial);
+        let Key {
+            text: _,
+            folded: _,
+            serial: _,
+            counts: _,
+        } = self;
+    }
+}
+
+impl<'a> Clone for Key<'a> {
+    fn clone(&self) -> Result<Key<'a>, AllocError> {
+        self.counts.count(Event::CloneKey);
+        if self.counts.refuses_clone() {
+            return Err(AllocError);
+        }
+        Ok(self.copy())
+    }
+}
+
+impl<'a> PartialEq for Key<'a> {
     ghost eq = { on (λ key. key.folded) ◌==◌ };
 
     ghost laws = { Prim.search (comparing, rules) };
 
-    fn eq(&self, other: &Key) -> bool {
+    fn eq(&self, other: &Key<'a>) -> bool {
+        self.counts.count(Event::EqKey);
         self.folded == other.folded
     }
 }
 
-impl Eq for Key {
+impl<'a> Eq for Key<'a> {
     ghost laws = { Prim.search (comparing, rules) };
 }
 
 /// Keys that are not the same have no order.
-impl PartialOrd for Key {
+impl<'a> PartialOrd for Key<'a> {
     ghost partial_cmp = { on (λ key. key.folded) same_cmp };
 
     ghost laws = { on_po (λ key. key.folded) same_cmp_partial_order };
 
-    fn partial_cmp(&self, other: &Key) -> Option<Ordering> {
+    fn partial_cmp(&self, other: &Key<'a>) -> Option<Ordering> {
+        self.counts.count(Event::CmpKey);
         if self.folded == other.folded {
             Some(Ordering::Equal)
         } else {
@@ -72,24 +165,30 @@ impl PartialOrd for Key {
     }
 }
 
-impl Hash for Key {
+impl<'a> Hash for Key<'a> {
     ghost hash_input = { λ key. fed.u64 key.folded };
 
     ghost respects_eq = { Prim.search (hashing, rules) };
 
     fn hash<H: Hasher>(&self, state: &mut H) {
+        self.counts.count(Event::HashKey);
         state.write_u64(self.folded);
     }
 }
 
 /// The text alone.
-impl fmt::Debug for Key {
+impl<'a> fmt::Debug for Key<'a> {
     fn fmt<W: fmt::Write>(&self, f: &mut fmt::Formatter<W>) -> fmt::Result {
-        for byte in self.text {
-            if byte != 0 {
-                write!(f, "{}", char::from(byte))?;
-            }
-        }
-        Ok(())
+        write_text(self.text, f)
     }
+}
+
+/// Writes the bytes of a text that are not 0.
+pub fn write_text<W: fmt::Write>(text: [u8; 8], f: &mut fmt::Formatter<W>) -> fmt::Result {
+    for byte in text {
+        if byte != 0 {
+            write!(f, "{}", char::from(byte))?;
+        }
+    }
+    Ok(())
 }

@@ -1,51 +1,197 @@
 //! The words of a line.
 
+use super::counts::Counts;
+use super::guard::Guard;
+use super::hasher::{BuildKeyHasher, Choice};
 use super::key::Key;
+use super::value::{Value, Values};
+use std::mem;
 use std::str::SplitWhitespace;
 
 /// The words of a line that are left. A word that is missing is empty, and one that is no number
-/// is 0.
+/// is 0. Each key, value and hasher that is made of a word has the next serial number.
 #[derive(Drop)]
 pub struct Line<'a> {
     words: SplitWhitespace<'a>,
+    counts: &'a Counts,
 }
 
 impl<'a> Line<'a> {
     /// Begins a line.
-    pub fn new(text: &'a str) -> Line<'a> {
+    pub fn new(text: &'a str, counts: &'a Counts) -> Line<'a> {
         Line {
             words: text.split_whitespace(),
+            counts,
         }
-    }
-
-    /// Returns the next word, or `None` at the end.
-    pub fn next_word(&mut self) -> Option<&'a str> {
-        self.words.next()
     }
 
     /// Returns the next word.
     pub fn word(&mut self) -> &'a str {
-        match self.next_word() {
+        match self.words.next() {
             Some(word) => word,
             None => "",
         }
     }
 
+    /// Makes a key of a word.
+    pub fn key_of(&self, word: &str) -> Key<'a> {
+        Key::new(word, self.counts)
+    }
+
     /// Returns the next word as a key.
-    pub fn key(&mut self) -> Key {
-        Key::new(self.word())
+    pub fn key(&mut self) -> Key<'a> {
+        Key::new(self.word(), self.counts)
+    }
+
+    /// Returns the next word as a value.
+    pub fn value(&mut self) -> Value<'a> {
+        Value::new(self.number(), self.counts)
+    }
+
+    /// Returns the next word as the values of a call that is made more than once.
+    pub fn values(&mut self) -> Values<'a> {
+        Values::new(self.value(), self.counts)
+    }
+
+    /// Returns the hasher that the next word names.
+    pub fn hasher(&mut self) -> BuildKeyHasher<'a> {
+        BuildKeyHasher::new(Choice::named(self.word()), self.counts)
+    }
+
+    /// Returns how many words are left.
+    pub fn words_left(&self) -> usize {
+        match self.words.clone() {
+            Ok(words) => words.count(),
+            Err(_) => 0,
+        }
+    }
+
+    /// Returns how many pairs the words that are left make.
+    pub fn pairs_left(&self) -> usize {
+        let words = self.words_left();
+        words / 2 + words % 2
+    }
+
+    /// Returns the counts.
+    pub fn counts(&self) -> &'a Counts {
+        self.counts
+    }
+
+    /// Makes what a closure owns.
+    pub fn guard(&self) -> Guard<'a> {
+        Guard::new(self.counts)
+    }
+
+    /// Makes a value of the number 0.
+    pub fn zero(&self) -> Value<'a> {
+        Value::new(0, self.counts)
     }
 
     /// Returns the next word as a number.
     pub fn number(&mut self) -> u64 {
-        match self.word().parse::<u64>() {
-            Ok(number) => number,
-            Err(_) => 0,
-        }
+        number_of(self.word())
+    }
+
+    /// Returns the next word as a size.
+    pub fn size(&mut self) -> usize {
+        self.number() as usize
     }
 
     /// Returns the next word as a number below 1,000.
     pub fn small_number(&mut self) -> usize {
         (self.number() % 1000) as usize
+    }
+
+    /// Returns the words that are left as keys.
+    pub fn keys(&mut self) -> Keys<'a> {
+        Keys {
+            words: mem::replace(&mut self.words, "".split_whitespace()),
+            counts: self.counts,
+        }
+    }
+
+    /// Returns the words that are left as pairs of a key and a value.
+    pub fn pairs(&mut self) -> Pairs<'a> {
+        Pairs {
+            words: mem::replace(&mut self.words, "".split_whitespace()),
+            counts: self.counts,
+        }
+    }
+}
+
+/// Returns the number that a word is, or 0.
+fn number_of(word: &str) -> u64 {
+    match word.parse::<u64>() {
+        Ok(number) => number,
+        Err(_) => 0,
+    }
+}
+
+/// Words as keys, each of which is made when it is taken.
+#[derive(Drop)]
+pub struct Keys<'a> {
+    words: SplitWhitespace<'a>,
+    counts: &'a Counts,
+}
+
+impl<'a> Keys<'a> {
+    /// Returns the next key, whose word may be missing.
+    pub fn next_key(&mut self) -> Key<'a> {
+        match self.words.next() {
+            Some(word) => Key::new(word, self.counts),
+            None => Key::new("", self.counts),
+        }
+    }
+}
+
+impl<'a> Iterator for Keys<'a> {
+    type Item = Key<'a>;
+
+    ghost can_next = { λ keys. ⟦<SplitWhitespace<'a> as Iterator>⟧.can_next keys.words };
+
+    ghost remaining = { λ keys. ⟦<SplitWhitespace<'a> as Iterator>⟧.remaining keys.words };
+
+    fn next(&mut self) -> Option<Key<'a>> {
+        let word = self.words.next()?;
+        Some(Key::new(word, self.counts))
+    }
+}
+
+/// Words as pairs, each of which is made when it is taken.
+#[derive(Drop)]
+pub struct Pairs<'a> {
+    words: SplitWhitespace<'a>,
+    counts: &'a Counts,
+}
+
+impl<'a> Pairs<'a> {
+    /// Returns the next pair, whose words may be missing.
+    pub fn next_pair(&mut self) -> (Key<'a>, Value<'a>) {
+        let key = match self.words.next() {
+            Some(word) => Key::new(word, self.counts),
+            None => Key::new("", self.counts),
+        };
+        let number = match self.words.next() {
+            Some(word) => number_of(word),
+            None => 0,
+        };
+        (key, Value::new(number, self.counts))
+    }
+}
+
+impl<'a> Iterator for Pairs<'a> {
+    type Item = (Key<'a>, Value<'a>);
+
+    ghost can_next = { λ pairs. ⟦<SplitWhitespace<'a> as Iterator>⟧.can_next pairs.words };
+
+    ghost remaining = { λ pairs. ⟦<SplitWhitespace<'a> as Iterator>⟧.remaining pairs.words };
+
+    fn next(&mut self) -> Option<(Key<'a>, Value<'a>)> {
+        let key = Key::new(self.words.next()?, self.counts);
+        let number = match self.words.next() {
+            Some(word) => number_of(word),
+            None => 0,
+        };
+        Some((key, Value::new(number, self.counts)))
     }
 }

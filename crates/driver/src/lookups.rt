@@ -4,20 +4,27 @@ use super::Map;
 use super::key::Key;
 use super::line::Line;
 use super::output::Output;
+use super::value::Value;
 
 /// Reads by index, if the key is present.
-fn index(map: &Map, key: Key, output: &mut Output) {
-    if map.contains_key(&key) {
-        output.show(&map[&key]);
+fn index<'a>(map: &Map<'a>, key: &Key<'a>, output: &mut Output<'a>) {
+    output.end();
+    if map.contains_key(key) {
+        output.begin();
+        output.show(&map[key]);
     } else {
         output.push_str("absent ");
     }
 }
 
 /// Writes by index, if the key is present.
-fn index_mut(map: &mut Map, key: Key, value: u64, output: &mut Output) {
+fn index_mut<'a>(map: &mut Map<'a>, line: &mut Line<'a>, output: &mut Output<'a>) {
+    let key = line.key();
+    let value = line.value();
+    output.end();
     if map.contains_key(&key) {
-        map[&key] = value;
+        output.begin();
+        output.write(&mut map[&key], value);
         output.push_str("written ");
     } else {
         output.push_str("absent ");
@@ -25,25 +32,50 @@ fn index_mut(map: &mut Map, key: Key, value: u64, output: &mut Output) {
 }
 
 /// Appends a value that is lent, and writes another, if there is one.
-pub fn write_lent(lent: Option<&mut u64>, value: u64, output: &mut Output) {
+pub fn write_lent<'a>(lent: Option<&mut Value<'a>>, value: Value<'a>, output: &mut Output<'a>) {
     match lent {
         Some(lent) => {
             output.show(lent);
-            *lent = value;
+            output.write(lent, value);
         }
         None => output.push_str("absent "),
     }
 }
 
-/// Runs the call of this name, and returns whether there is one.
-pub fn run(name: &str, line: &mut Line<'_>, map: &mut Map, output: &mut Output) -> bool {
+/// Runs the call of this name by a key that reads, and returns whether there is one.
+fn run_by_key<'a>(name: &str, line: &mut Line<'a>, map: &Map<'a>, output: &mut Output<'a>) -> bool {
     match name {
         "get" => output.show(&map.get(&line.key())),
+        "get_key_value" => output.show(&map.get_key_value(&line.key())),
+        "get_counted" => output.show(&map.get_counted(&line.key())),
         "contains_key" => output.show(&map.contains_key(&line.key())),
-        "index" => index(map, line.key(), output),
-        "index_mut" => index_mut(map, line.key(), line.number(), output),
-        "get_mut" => write_lent(map.get_mut(&line.key()), line.number(), output),
-        "get_refresh" => write_lent(map.get_refresh(&line.key()), line.number(), output),
+        "index" => index(map, &line.key(), output),
+        _ => return false,
+    }
+    true
+}
+
+/// Runs the call of this name that writes one value, and returns whether there is one.
+fn run_by_write<'a>(
+    name: &str,
+    line: &mut Line<'a>,
+    map: &mut Map<'a>,
+    output: &mut Output<'a>,
+) -> bool {
+    match name {
+        "index_mut" => index_mut(map, line, output),
+        "get_mut" => write_lent(map.get_mut(&line.key()), line.value(), output),
+        "get_refresh" => write_lent(map.get_refresh(&line.key()), line.value(), output),
+        "front_mut" => write_lent(map.front_mut(), line.value(), output),
+        "back_mut" => write_lent(map.back_mut(), line.value(), output),
+        _ => return false,
+    }
+    true
+}
+
+/// Runs the call of this name that takes no word, and returns whether there is one.
+fn run_on_all<'a>(name: &str, map: &Map<'a>, output: &mut Output<'a>) -> bool {
+    match name {
         "front" => output.show(&map.front()),
         "back" => output.show(&map.back()),
         "len" => output.show_two(&map.len(), &map.is_empty()),
@@ -51,4 +83,16 @@ pub fn run(name: &str, line: &mut Line<'_>, map: &mut Map, output: &mut Output) 
         _ => return false,
     }
     true
+}
+
+/// Runs the call of this name, and returns whether there is one.
+pub fn run<'a>(
+    name: &str,
+    line: &mut Line<'a>,
+    map: &mut Map<'a>,
+    output: &mut Output<'a>,
+) -> bool {
+    run_by_key(name, line, map, output)
+        || run_by_write(name, line, map, output)
+        || run_on_all(name, map, output)
 }

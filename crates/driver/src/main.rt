@@ -1,108 +1,196 @@
-//! Runs calls of the public API of the map, the cache and the set from standard input to standard
-//! output, one a line.
+//! Runs calls of the public API of the map, the cache, the set and the table of sessions from
+//! standard input to standard output, one a line.
 //!
 //! `compare/run` compares the output with that of the Rust crates linked-hash-map 0.5.6, lru-cache
 //! 0.1.2 and hashlink 0.8.0, and `compare/run --help` says what the lines are. What is proved of
 //! this program is that it is safe and ends.
 //!
-//! The exit status is 0; 3 if an allocation fails; 4 if the input is no text, or reading or writing
-//! fails.
+//! A line of the output ends with the effects of the call: what it dropped, and how often it
+//! hashed, compared and cloned. A call that is refused memory answers what it hands back. A line
+//! that begins with `#` is printed as it is, and everything is made anew.
+//!
+//! The exit status is 0; 3 if an allocation of the program itself fails; 4 if the input is no text,
+//! or reading or writing fails.
 #![tactic(auto)]
 
+mod cache_fills;
+mod cache_replays;
 mod caches;
 mod changes;
+mod collecting;
 mod comparisons;
+mod copied;
+mod counts;
 mod entries;
+mod fills;
+mod guard;
 mod hasher;
+mod insertions;
 mod iterators;
 mod key;
 mod line;
 mod list;
 mod lookups;
 mod making;
+mod marks;
+mod order;
+mod ordered;
 mod output;
+mod pair_lists;
+mod refusal;
+mod refused_texts;
+mod replays;
+mod retaining;
+mod session_lists;
+mod sessions;
+mod set_fills;
+mod set_making;
+mod set_operations;
+mod set_refused_texts;
 mod sets;
 mod stop;
+mod value;
+mod visits;
 
 use caches::Cache;
+use counts::Counts;
 use hasher::BuildKeyHasher;
 use key::Key;
 use line::Line;
 use linked_hash_map::LinkedHashMap;
 use output::Output;
+use sessions::Table;
 use sets::Set;
 use std::alloc::Global;
 use std::io;
 use std::io::{Read, Write};
 use std::process::ExitCode;
 use stop::Stop;
+use value::Value;
 
 /// The maps that the lines speak of.
-type Map = LinkedHashMap<Key, u64, BuildKeyHasher>;
+type Map<'a> = LinkedHashMap<Key<'a>, Value<'a>, BuildKeyHasher<'a>>;
 
-/// What the lines speak of: two maps, two caches and two sets.
+/// What the lines speak of: two maps, two caches, two sets and two tables of sessions.
 #[derive(Drop)]
-struct All {
-    map_a: Map,
-    map_b: Map,
-    cache_a: Cache,
-    cache_b: Cache,
-    set_a: Set,
-    set_b: Set,
+struct All<'a> {
+    map_a: Map<'a>,
+    map_b: Map<'a>,
+    cache_a: Cache<'a>,
+    cache_b: Cache<'a>,
+    set_a: Set<'a>,
+    set_b: Set<'a>,
+    table_a: Table<'a>,
+    table_b: Table<'a>,
 }
 
-impl All {
+impl<'a> All<'a> {
     /// Makes them, all empty.
-    fn new(alloc: Global) -> All {
-        let hasher = BuildKeyHasher::default();
+    fn new(alloc: Global) -> All<'a> {
         All {
-            map_a: Map::with_hasher(alloc, hasher),
-            map_b: Map::with_hasher(alloc, hasher),
-            cache_a: Cache::with_hasher(alloc, 0, hasher),
-            cache_b: Cache::with_hasher(alloc, 0, hasher),
-            set_a: Set::with_hasher(alloc, hasher),
-            set_b: Set::with_hasher(alloc, hasher),
+            map_a: Map::with_hasher(alloc, BuildKeyHasher::default()),
+            map_b: Map::with_hasher(alloc, BuildKeyHasher::default()),
+            cache_a: Cache::with_hasher(alloc, 0, BuildKeyHasher::default()),
+            cache_b: Cache::with_hasher(alloc, 0, BuildKeyHasher::default()),
+            set_a: Set::with_hasher(alloc, BuildKeyHasher::default()),
+            set_b: Set::with_hasher(alloc, BuildKeyHasher::default()),
+            table_a: Table::new(alloc, 0),
+            table_b: Table::new(alloc, 0),
         }
     }
 }
 
-/// Runs the call of this name on `map` and, if it takes two, on `other` too, appends what it
-/// returns and the list of `map`, and returns whether there is such a call.
-fn run_on_map(
+/// Runs the call of this name that goes by an entry, and returns whether there is one.
+fn run_on_entries<'a>(
     alloc: Global,
     name: &str,
-    line: &mut Line<'_>,
-    map: &mut Map,
-    other: &mut Map,
-    output: &mut Output,
+    line: &mut Line<'a>,
+    map: &mut Map<'a>,
+    output: &mut Output<'a>,
+) -> bool {
+    entries::run(name, line, map, output)
+        || insertions::run(alloc, name, line, map, output)
+        || visits::run(name, line, map, output)
+}
+
+/// Runs the call of this name that makes many steps, and returns whether there is one.
+fn run_on_many<'a>(
+    alloc: Global,
+    name: &str,
+    line: &mut Line<'a>,
+    map: &mut Map<'a>,
+    output: &mut Output<'a>,
+) -> bool {
+    retaining::run(name, line, map, output)
+        || replays::run(alloc, name, line, map, output)
+        || fills::run(alloc, name, line, map, output)
+        || pair_lists::run(alloc, name, line, map, output)
+        || refused_texts::run(name, line, output)
+}
+
+/// Runs the call of this name on `map` and, if it takes two, on `other` too, appends what it
+/// returns and the list of `map`, and returns whether there is such a call.
+fn run_on_map<'a>(
+    alloc: Global,
+    name: &str,
+    line: &mut Line<'a>,
+    map: &mut Map<'a>,
+    other: &mut Map<'a>,
+    output: &mut Output<'a>,
 ) -> bool {
     let is_known = lookups::run(name, line, map, output)
-        || changes::run(name, line, map, output)
+        || changes::run(alloc, name, line, map, output)
+        || order::run(name, line, map, output)
         || making::run(alloc, name, line, map, other, output)
-        || entries::run(name, line, map, output)
+        || collecting::run(alloc, name, line, map, other, output)
+        || copied::run(alloc, name, map, other, output)
+        || run_on_entries(alloc, name, line, map, output)
         || iterators::run(alloc, name, line, map, output)
-        || comparisons::run(alloc, name, line, map, other, output);
+        || comparisons::run(alloc, name, line, map, other, output)
+        || run_on_many(alloc, name, line, map, output);
     if is_known {
         list::list_pairs(map.iter(), output);
     }
     is_known
 }
 
-/// Runs the call of a line on what it names, and returns whether there is such a call.
-fn run_call(alloc: Global, line: &mut Line<'_>, all: &mut All, output: &mut Output) -> bool {
+/// Returns the name of a call of a set behind `set_`. `set_mode` is a call of a map.
+fn name_of_set_call(name: &str) -> Option<&str> {
+    if name == "set_mode" {
+        None
+    } else {
+        name.strip_prefix("set_")
+    }
+}
+
+/// Runs the call of a line on what it names, and returns whether there is such a call. The first
+/// window is open when the call begins.
+fn run_call<'a>(
+    alloc: Global,
+    line: &mut Line<'a>,
+    all: &mut All<'a>,
+    output: &mut Output<'a>,
+) -> bool {
     let name = line.word();
     let is_b = line.word() == "b";
+    output.begin();
     if let Some(name) = name.strip_prefix("cache_") {
         if is_b {
             caches::run(alloc, name, line, &mut all.cache_b, &all.cache_a, output)
         } else {
             caches::run(alloc, name, line, &mut all.cache_a, &all.cache_b, output)
         }
-    } else if let Some(name) = name.strip_prefix("set_") {
+    } else if let Some(name) = name_of_set_call(name) {
         if is_b {
             sets::run(alloc, name, line, &mut all.set_b, &all.set_a, output)
         } else {
             sets::run(alloc, name, line, &mut all.set_a, &all.set_b, output)
+        }
+    } else if let Some(name) = name.strip_prefix("sessions_") {
+        if is_b {
+            sessions::run(alloc, name, line, &mut all.table_b, output)
+        } else {
+            sessions::run(alloc, name, line, &mut all.table_a, output)
         }
     } else if is_b {
         run_on_map(alloc, name, line, &mut all.map_b, &mut all.map_a, output)
@@ -111,13 +199,21 @@ fn run_call(alloc: Global, line: &mut Line<'_>, all: &mut All, output: &mut Outp
     }
 }
 
-/// Runs the lines on new maps, caches and sets, and returns the whole text of the output. For a
-/// line that is no call that is `unknown`.
+/// Runs the lines on new maps, caches, sets and tables, and returns the whole text of the output.
+/// For a line that is no call that is `unknown`. A line that begins with `#` makes everything anew.
 fn respond(alloc: Global, lines: &str) -> Result<String, Stop> {
-    let mut output = Output::new(alloc);
+    let counts = Counts::new();
+    let mut output = Output::new(alloc, &counts);
     let mut all = All::new(alloc);
-    for line in lines.lines() {
-        if !run_call(alloc, &mut Line::new(line), &mut all, &mut output) {
+    for text in lines.lines() {
+        output.begin_line();
+        if text.starts_with('#') {
+            all = All::new(alloc);
+            output.push_str(text);
+            output.push_str("\n");
+        } else if run_call(alloc, &mut Line::new(text, &counts), &mut all, &mut output) {
+            output.end_line();
+        } else {
             output.push_str("unknown\n");
         }
     }

@@ -1,67 +1,55 @@
 //! Calls that make a map, and those that take in the pairs of another.
 
 use super::Map;
-use super::hasher::{BuildKeyHasher, Choice};
-use super::key::Key;
+use super::hasher::BuildKeyHasher;
 use super::line::Line;
 use super::output::Output;
 use std::alloc::Global;
+use std::default::{Emptied, MadeWith};
 use std::mem;
 
 /// Makes an empty map, with the hasher that the next word names.
-fn new(alloc: Global, line: &mut Line<'_>) -> Map {
-    let choice = Choice::named(line.word());
-    Map::with_hasher(alloc, BuildKeyHasher { choice })
+fn with_hasher<'a>(alloc: Global, line: &mut Line<'a>, map: &mut Map<'a>, output: &mut Output<'a>) {
+    output.replace(map, Map::with_hasher(alloc, line.hasher()));
 }
 
 /// Makes an empty map, with that hasher and the capacity after it.
-fn with_capacity(alloc: Global, line: &mut Line<'_>, map: &mut Map, output: &mut Output) {
-    let choice = Choice::named(line.word());
-    let capacity = line.small_number();
-    let hasher = BuildKeyHasher { choice };
+fn with_capacity<'a>(
+    alloc: Global,
+    line: &mut Line<'a>,
+    map: &mut Map<'a>,
+    output: &mut Output<'a>,
+) {
+    let hasher = line.hasher();
+    let capacity = line.size();
     output.store(map, Map::with_capacity_and_hasher(alloc, capacity, hasher));
 }
 
-/// Reads the pairs that are left of a line.
-pub fn pairs(alloc: Global, line: &mut Line<'_>, output: &mut Output) -> Vec<(Key, u64)> {
-    let mut pairs = Vec::new(alloc);
-    for _ in 0..u64::MAX {
-        let Some(text) = line.next_word() else {
-            break;
-        };
-        output.note(pairs.push((Key::new(text), line.number())));
-    }
-    pairs
+/// Makes an empty map with the default hasher.
+fn with_default_hasher<'a>(alloc: Global, map: &mut Map<'a>, output: &mut Output<'a>) {
+    output.replace(map, Map::with_hasher(alloc, BuildKeyHasher::default()));
 }
 
-/// Collects the pairs that are left of a line.
-fn collect(alloc: Global, line: &mut Line<'_>, map: &mut Map, output: &mut Output) {
-    let pairs = pairs(alloc, line, output);
-    output.store(map, Map::from_iter(alloc, pairs));
-}
-
-fn extend(alloc: Global, line: &mut Line<'_>, map: &mut Map, output: &mut Output) {
-    let pairs = pairs(alloc, line, output);
-    output.note(map.extend(pairs));
+/// Takes a map, and leaves an empty one with the default hasher in its place.
+pub fn take<'a>(alloc: Global, map: &mut Map<'a>) -> Map<'a> {
+    mem::replace(map, Map::with_hasher(alloc, BuildKeyHasher::default()))
 }
 
 /// Runs the call of this name, and returns whether there is one.
-pub fn run(
+pub fn run<'a>(
     alloc: Global,
     name: &str,
-    line: &mut Line<'_>,
-    map: &mut Map,
-    other: &mut Map,
-    output: &mut Output,
+    line: &mut Line<'a>,
+    map: &mut Map<'a>,
+    other: &mut Map<'a>,
+    output: &mut Output<'a>,
 ) -> bool {
     match name {
-        "with_hasher" => *map = new(alloc, line),
+        "with_hasher" => with_hasher(alloc, line, map, output),
         "with_capacity" => with_capacity(alloc, line, map, output),
-        "default" => *map = Map::with_hasher(alloc, BuildKeyHasher::default()),
-        "from_iter" => collect(alloc, line, map, output),
-        "extend" => extend(alloc, line, map, output),
-        "extend_refs" => output.note(map.extend_refs(other.iter())),
-        "extend_drain" => output.note(map.extend(other.drain())),
+        "default" => with_default_hasher(alloc, map, output),
+        "made_with" => output.replace(map, MadeWith::made_with(alloc)),
+        "emptied" => output.store(map, Emptied::emptied(other)),
         "clone" => output.store(map, other.clone()),
         "swap" => mem::swap(map, other),
         _ => return false,

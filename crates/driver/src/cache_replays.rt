@@ -1,0 +1,62 @@
+//! `replay` of a cache: commands that are read first and run by one call.
+
+use super::caches::Cache;
+use super::key::Key;
+use super::line::Line;
+use super::output::Output;
+use super::value::Value;
+use lru_cache::replay::{Answer, replay};
+use std::alloc::Global;
+
+/// A command of the words of a line.
+type Command<'a> = lru_cache::replay::Command<Key<'a>, Value<'a>>;
+
+/// Reads the next command, which is none if its name is not known.
+fn next_command<'a>(line: &mut Line<'a>) -> Option<Command<'a>> {
+    match line.word() {
+        "insert" => Some(Command::Insert(line.key(), line.value())),
+        "get" => Some(Command::Get(line.key())),
+        "remove" => Some(Command::Remove(line.key())),
+        "removelru" => Some(Command::RemoveLru),
+        "setcapacity" => Some(Command::SetCapacity(line.size())),
+        "clear" => Some(Command::Clear),
+        _ => None,
+    }
+}
+
+/// Reads all commands of a line.
+fn commands<'a>(alloc: Global, line: &mut Line<'a>, output: &mut Output<'a>) -> Vec<Command<'a>> {
+    let mut commands = Vec::new(alloc);
+    for _ in 0..line.words_left() {
+        if let Some(command) = next_command(line) {
+            output.note(commands.push(command));
+        }
+    }
+    commands
+}
+
+/// Appends how long the list of answers is, and each of them.
+fn show_answers<'a>(answers: Vec<Answer<Key<'a>, Value<'a>>>, output: &mut Output<'a>) {
+    output.show_size(answers.len(), answers.capacity());
+    for answer in answers {
+        output.show(&answer);
+    }
+}
+
+/// Runs the commands of a line.
+pub fn replay_all<'a>(
+    alloc: Global,
+    cache: &mut Cache<'a>,
+    line: &mut Line<'a>,
+    output: &mut Output<'a>,
+) {
+    output.end();
+    let commands = commands(alloc, line, output);
+    output.begin();
+    let returned = replay(cache, commands);
+    output.end();
+    match returned {
+        Ok(answers) => show_answers(answers, output),
+        Err(_commands) => output.push_str("refused "),
+    }
+}

@@ -1,0 +1,94 @@
+//! Calls that take in the pairs of an iterator, or make a map of them.
+
+use super::Map;
+use super::fills::pair;
+use super::key::Key;
+use super::line::Line;
+use super::output::Output;
+use super::value::Value;
+use linked_hash_map::LIMIT;
+use std::alloc::{AllocError, Global};
+
+/// Makes a map of the pairs of the words, by an iterator that knows how many they are.
+fn from_iter<'a>(alloc: Global, line: &mut Line<'a>, map: &mut Map<'a>, output: &mut Output<'a>) {
+    let count = line.pairs_left();
+    let mut pairs = line.pairs();
+    let items = (0..count).map(move |_| pairs.next_pair());
+    output.store(map, Map::from_iter(alloc, items));
+}
+
+/// Makes a map of more pairs than are allowed, of which none is taken.
+fn from_iter_too_large<'a>(
+    alloc: Global,
+    line: &Line<'a>,
+    map: &mut Map<'a>,
+    output: &mut Output<'a>,
+) {
+    let guard = line.guard();
+    let counts = line.counts();
+    let items = (0..LIMIT + 1).map(move |number| {
+        guard.hold();
+        pair(number as u64, counts)
+    });
+    output.store(map, Map::from_iter(alloc, items));
+}
+
+/// Makes a map of the pairs of the words by `collect`.
+fn collect<'a>(alloc: Global, line: &mut Line<'a>, map: &mut Map<'a>, output: &mut Output<'a>) {
+    let made: Result<Map<'a>, AllocError> = line.pairs().collect(alloc);
+    output.store(map, made);
+}
+
+/// Inserts the pairs of the words by the trait.
+fn extend_trait<'a>(line: &mut Line<'a>, map: &mut Map<'a>, output: &mut Output<'a>) {
+    let extended = <Map<'a> as Extend<(Key<'a>, Value<'a>)>>::extend(map, line.pairs());
+    output.show_refusal(extended);
+}
+
+/// Inserts copies of the pairs of another map.
+fn extend_by_copies<'a>(map: &mut Map<'a>, other: &Map<'a>, output: &mut Output<'a>) {
+    let copies = other.iter().map(|(key, value)| (key.copy(), value.copy()));
+    output.show_refusal(map.extend(copies));
+}
+
+/// Runs the call of this name that makes a map, and returns whether there is one.
+fn run_to_make<'a>(
+    alloc: Global,
+    name: &str,
+    line: &mut Line<'a>,
+    map: &mut Map<'a>,
+    output: &mut Output<'a>,
+) -> bool {
+    match name {
+        "from_iter" => from_iter(alloc, line, map, output),
+        "from_iter_unhinted" => output.store(map, Map::from_iter(alloc, line.pairs())),
+        "from_iter_too_large" => from_iter_too_large(alloc, line, map, output),
+        "collect" => collect(alloc, line, map, output),
+        _ => return false,
+    }
+    true
+}
+
+/// Runs the call of this name, and returns whether there is one.
+pub fn run<'a>(
+    alloc: Global,
+    name: &str,
+    line: &mut Line<'a>,
+    map: &mut Map<'a>,
+    other: &mut Map<'a>,
+    output: &mut Output<'a>,
+) -> bool {
+    match name {
+        "extend" => output.show_refusal(map.extend(line.pairs())),
+        "extend_trait" => extend_trait(line, map, output),
+        "extend_refs" => extend_by_copies(map, other, output),
+        "extend_drain" => output.show_refusal(map.extend(other.drain())),
+        _ => {
+            if !run_to_make(alloc, name, line, map, output) {
+                return false;
+            }
+        }
+    }
+    output.show(map.hasher());
+    true
+}

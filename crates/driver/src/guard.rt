@@ -1,0 +1,32 @@
+//! What closures own, so that their drops are counted.
+
+use super::counts::{Counts, Kind};
+
+/// Counts the drop of the closure that owns it.
+pub struct Guard<'a> {
+    serial: u64,
+    counts: &'a Counts,
+}
+
+impl<'a> Guard<'a> {
+    /// Makes one, with the next serial number.
+    pub fn new(counts: &'a Counts) -> Guard<'a> {
+        Guard {
+            serial: counts.next_serial(),
+            counts,
+        }
+    }
+
+    /// Does nothing. A closure that is called more than once calls it to own the guard.
+    pub fn hold(&self) {}
+}
+
+impl<'a> Drop for Guard<'a> {
+    fn drop(self) {
+        self.counts.count_drop(Kind::Closure, self.serial);
+        let Guard {
+            serial: _,
+            counts: _,
+        } = self;
+    }
+}

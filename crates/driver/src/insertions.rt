@@ -1,0 +1,91 @@
+//! Insertions by the entry of an absent key.
+
+use super::Map;
+use super::entries::Lent;
+use super::line::Line;
+use super::output::Output;
+use std::alloc::Global;
+
+/// Appends a value that is lent, and adds 1 to its number after that.
+fn show_and_increase<'a>(lent: Lent<'_, 'a>, output: &mut Output<'a>) {
+    match lent {
+        Ok(lent) => {
+            output.show(lent);
+            lent.increase(1);
+        }
+        Err(refused) => output.show_refusal(Err::<(), _>(refused)),
+    }
+}
+
+fn and_modify<'a>(map: &mut Map<'a>, line: &mut Line<'a>, output: &mut Output<'a>) {
+    let (key, value) = (line.key(), line.value());
+    let guard = line.guard();
+    let zero = line.zero();
+    let entry = map.entry(key).and_modify(move |lent| {
+        drop(guard);
+        *lent = value;
+    });
+    show_and_increase(entry.or_insert(zero), output);
+}
+
+fn or_insert_with<'a>(map: &mut Map<'a>, line: &mut Line<'a>, output: &mut Output<'a>) {
+    let (key, value) = (line.key(), line.value());
+    let guard = line.guard();
+    let make = move || {
+        drop(guard);
+        value
+    };
+    show_and_increase(map.entry(key).or_insert_with(make), output);
+}
+
+fn or_insert_with_key<'a>(map: &mut Map<'a>, line: &mut Line<'a>, output: &mut Output<'a>) {
+    let (key, value) = (line.key(), line.value());
+    let guard = line.guard();
+    let make = move |_key: &_| {
+        drop(guard);
+        value
+    };
+    show_and_increase(map.entry(key).or_insert_with_key(make), output);
+}
+
+/// Asks for one box, whether or not it is given.
+fn ask_for_box(alloc: Global) {
+    let _ = Box::new(alloc, 0u64);
+}
+
+/// Inserts what a closure makes that asks for memory too.
+fn or_insert_with_box<'a>(
+    alloc: Global,
+    map: &mut Map<'a>,
+    line: &mut Line<'a>,
+    output: &mut Output<'a>,
+) {
+    let (key, value) = (line.key(), line.value());
+    let guard = line.guard();
+    let make = move || {
+        drop(guard);
+        ask_for_box(alloc);
+        value
+    };
+    show_and_increase(map.entry(key).or_insert_with(make), output);
+}
+
+/// Runs the call of this name, and returns whether there is one.
+pub fn run<'a>(
+    alloc: Global,
+    name: &str,
+    line: &mut Line<'a>,
+    map: &mut Map<'a>,
+    output: &mut Output<'a>,
+) -> bool {
+    match name {
+        "or_insert" => show_and_increase(map.entry(line.key()).or_insert(line.value()), output),
+        "or_insert_with" => or_insert_with(map, line, output),
+        "or_insert_with_key" => or_insert_with_key(map, line, output),
+        "or_insert_with_box" => or_insert_with_box(alloc, map, line, output),
+        "or_default" => show_and_increase(map.entry(line.key()).or_default(), output),
+        "and_modify" => and_modify(map, line, output),
+        _ => return false,
+    }
+    true
+}

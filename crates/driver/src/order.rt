@@ -1,0 +1,52 @@
+//! Calls about the order of the pairs, the mode and the capacity.
+
+use super::Map;
+use super::line::Line;
+use super::output::Output;
+use linked_hash_map::Mode;
+
+/// Moves pairs from the front to the back, if there are so many.
+fn rotate_left<'a>(map: &mut Map<'a>, count: usize, output: &mut Output<'a>) {
+    if count <= map.len() {
+        map.rotate_left(count);
+    } else {
+        output.push_str("too many ");
+    }
+}
+
+/// Returns the mode of this name, `Touch` for any that is not known.
+pub fn mode_named(name: &str) -> Mode {
+    if name == "keep" {
+        Mode::Keep
+    } else {
+        Mode::Touch
+    }
+}
+
+/// Runs the call of this name that reads a number or the mode, and returns whether there is one.
+fn run_to_read<'a>(name: &str, map: &Map<'a>, output: &mut Output<'a>) -> bool {
+    match name {
+        "capacity" => output.show(&map.capacity()),
+        "rechained" => output.show(&map.rechained()),
+        "mode" => output.show(&map.mode()),
+        _ => return false,
+    }
+    true
+}
+
+/// Runs the call of this name, and returns whether there is one.
+pub fn run<'a>(
+    name: &str,
+    line: &mut Line<'a>,
+    map: &mut Map<'a>,
+    output: &mut Output<'a>,
+) -> bool {
+    match name {
+        "move_to_back" => output.show(&map.move_to_back(&line.key())),
+        "move_to_front" => output.show(&map.move_to_front(&line.key())),
+        "rotate_left" => rotate_left(map, line.size(), output),
+        "set_mode" => map.set_mode(mode_named(line.word())),
+        _ => return run_to_read(name, map, output),
+    }
+    true
+}

@@ -1,0 +1,58 @@
+//! The answer of a call that was refused memory: what it hands back.
+
+use super::key::Key;
+use super::output::Output;
+use super::value::Value;
+use linked_hash_map::{NoRoom, Refused, ReserveError};
+use std::alloc::AllocError;
+
+/// The error of a call that was refused memory.
+pub trait Refusal {
+    /// Appends what it hands back, with its serial numbers.
+    fn show(&self, output: &mut Output<'_>);
+}
+
+impl<'a> Refusal for Refused<Key<'a>, Value<'a>> {
+    fn show(&self, output: &mut Output<'_>) {
+        output.show_refused_pair(&self.key, &self.value);
+    }
+}
+
+impl Refusal for Refused<u64, u64> {
+    fn show(&self, output: &mut Output<'_>) {
+        output.push_str("refused ");
+    }
+}
+
+impl<'a> Refusal for linked_hash_set::Refused<Key<'a>> {
+    fn show(&self, output: &mut Output<'_>) {
+        output.show_refused_item(&self.item);
+    }
+}
+
+impl Refusal for linked_hash_set::Refused<u64> {
+    fn show(&self, output: &mut Output<'_>) {
+        output.push_str("refused ");
+    }
+}
+
+/// Says which of the two reasons it is.
+impl Refusal for ReserveError {
+    fn show(&self, output: &mut Output<'_>) {
+        output.push_str("refused ");
+        output.show(self);
+    }
+}
+
+impl Refusal for NoRoom {
+    fn show(&self, output: &mut Output<'_>) {
+        output.push_str("refused ");
+        output.show(self);
+    }
+}
+
+impl Refusal for AllocError {
+    fn show(&self, output: &mut Output<'_>) {
+        output.push_str("refused ");
+    }
+}

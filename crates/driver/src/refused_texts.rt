@@ -1,0 +1,70 @@
+//! The errors of a map, and what they are turned into.
+
+use super::counts::Counts;
+use super::key::Key;
+use super::line::Line;
+use super::output::Output;
+use super::value::Value;
+use linked_hash_map::{NoRoom, Refused, ReserveError};
+use std::alloc::AllocError;
+use std::io;
+
+/// A pair that was handed back.
+type Pair<'a> = Refused<Key<'a>, Value<'a>>;
+
+/// Makes the error of a pair of the same words.
+fn again<'a>(refused: &Pair<'a>, counts: &'a Counts) -> Pair<'a> {
+    let key = refused.key.again();
+    Refused {
+        key,
+        value: Value::new(refused.value.number(), counts),
+    }
+}
+
+/// Appends the kind of an error, which was made within a window.
+pub fn show_kind(error: io::Error, output: &mut Output<'_>) {
+    output.show(&error.kind());
+}
+
+/// Appends the text of an error of a pair, and what it is turned into.
+fn show_refused<'a>(line: &mut Line<'a>, output: &mut Output<'a>) {
+    let first = Refused {
+        key: line.key(),
+        value: line.value(),
+    };
+    let second = again(&first, line.counts());
+    let third = again(&first, line.counts());
+    output.show_text(&first);
+    output.begin();
+    show_kind(io::Error::from(second), output);
+    output.begin();
+    output.show(&AllocError::from(third));
+}
+
+/// Appends the text of an error of a reservation, and what it is turned into.
+pub fn show_reserve_errors(output: &mut Output<'_>) {
+    output.show_text(&ReserveError::TooLarge);
+    show_kind(io::Error::from(ReserveError::TooLarge), output);
+    output.show(&AllocError::from(ReserveError::TooLarge));
+    output.show_text(&ReserveError::NoRoom);
+    show_kind(io::Error::from(ReserveError::NoRoom), output);
+    output.show(&AllocError::from(ReserveError::NoRoom));
+}
+
+/// Appends the text of the error of a shrinking, and what it is turned into.
+pub fn show_no_room(output: &mut Output<'_>) {
+    output.show_text(&NoRoom);
+    show_kind(io::Error::from(NoRoom), output);
+    output.show(&AllocError::from(NoRoom));
+}
+
+/// Runs the call of this name, and returns whether there is one.
+pub fn run<'a>(name: &str, line: &mut Line<'a>, output: &mut Output<'a>) -> bool {
+    if name == "refused_texts" {
+        show_refused(line, output);
+        show_no_room(output);
+        show_reserve_errors(output);
+        return true;
+    }
+    false
+}

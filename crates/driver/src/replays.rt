@@ -1,0 +1,167 @@
+//! `replay`: commands that are read first and run by one call.
+
+use super::Map;
+use super::key::Key;
+use super::line::Line;
+use super::list::{SHOWN, list_ends};
+use super::order::mode_named;
+use super::output::Output;
+use super::value::Value;
+use linked_hash_map::replay::{Answer, PairList, Reply, replay};
+use std::alloc::Global;
+
+/// A command of the words of a line.
+type Command<'a> = linked_hash_map::replay::Command<Key<'a>, Value<'a>>;
+
+/// Reads the command of this name that takes a pair.
+fn command_by_pair<'a>(name: &str, line: &mut Line<'a>) -> Option<Command<'a>> {
+    match name {
+        "insert" => Some(Command::Insert(line.key(), line.value())),
+        "write" => Some(Command::Write(line.key(), line.value())),
+        "orinsert" => Some(Command::OrInsert(line.key(), line.value())),
+        "entryinsert" => Some(Command::EntryInsert(line.key(), line.value())),
+        _ => None,
+    }
+}
+
+/// Reads the command of this name that takes a key.
+fn command_by_key<'a>(name: &str, line: &mut Line<'a>) -> Option<Command<'a>> {
+    match name {
+        "refresh" => Some(Command::Refresh(line.key())),
+        "remove" => Some(Command::Remove(line.key())),
+        "entryremove" => Some(Command::EntryRemove(line.key())),
+        _ => command_by_pair(name, line),
+    }
+}
+
+/// Reads a number of pairs, and as many of them.
+fn list_of_pairs<'a>(
+    alloc: Global,
+    line: &mut Line<'a>,
+    output: &mut Output<'a>,
+) -> PairList<Key<'a>, Value<'a>> {
+    let mut pairs = Vec::new(alloc);
+    for _ in 0..line.number() {
+        output.note(pairs.push((line.key(), line.value())));
+    }
+    PairList::from_vec(pairs)
+}
+
+/// Reads the command of this name, if there is one.
+fn command<'a>(
+    alloc: Global,
+    name: &str,
+    line: &mut Line<'a>,
+    output: &mut Output<'a>,
+) -> Option<Command<'a>> {
+    match name {
+        "reserve" => Some(Command::Reserve(line.size())),
+        "setmode" => Some(Command::SetMode(mode_named(line.word()))),
+        "extend" => Some(Command::Extend(list_of_pairs(alloc, line, output))),
+        _ => command_by_key(name, line),
+    }
+}
+
+/// Returns the command of this name that takes nothing, if there is one.
+fn bare_command<'a>(name: &str) -> Option<Command<'a>> {
+    match name {
+        "popfront" => Some(Command::PopFront),
+        "popback" => Some(Command::PopBack),
+        "clear" => Some(Command::Clear),
+        "drain" => Some(Command::Drain),
+        "shrink" => Some(Command::Shrink),
+        _ => None,
+    }
+}
+
+/// Reads the next command, which is none if its name is not known.
+fn next_command<'a>(
+    alloc: Global,
+    line: &mut Line<'a>,
+    output: &mut Output<'a>,
+) -> Option<Command<'a>> {
+    let name = line.word();
+    match bare_command(name) {
+        Some(command) => Some(command),
+        None => command(alloc, name, line, output),
+    }
+}
+
+/// Reads all commands of a line.
+fn commands<'a>(alloc: Global, line: &mut Line<'a>, output: &mut Output<'a>) -> Vec<Command<'a>> {
+    let mut commands = Vec::new(alloc);
+    for _ in 0..line.words_left() {
+        if let Some(command) = next_command(alloc, line, output) {
+            output.note(commands.push(command));
+        }
+    }
+    commands
+}
+
+/// Returns whether an answer has so many pairs that not all are shown.
+fn has_many_pairs<'a>(answer: &Answer<Key<'a>, Value<'a>>) -> bool {
+    match answer {
+        Answer::Pairs(list) => list.len() > SHOWN,
+        _ => false,
+    }
+}
+
+/// Appends the ends of the list that an answer has, and the length and the capacity of the map.
+fn show_ends<'a>(reply: &Reply<Key<'a>, Value<'a>>, output: &mut Output<'a>) {
+    if let Answer::Pairs(list) = &reply.answer {
+        output.push_str("Pairs");
+        list_ends(list.as_slice(), output);
+        output.push_str(" ");
+        output.show_size(reply.len, reply.capacity);
+    }
+}
+
+/// Appends a reply, and of a list that it has the length and the capacity.
+fn show_reply<'a>(reply: Reply<Key<'a>, Value<'a>>, output: &mut Output<'a>) {
+    if has_many_pairs(&reply.answer) {
+        show_ends(&reply, output);
+    } else {
+        output.show(&reply);
+    }
+    if let Answer::Pairs(list) = reply.answer {
+        let pairs = list.into_vec();
+        output.push_str("pairs ");
+        output.show_size(pairs.len(), pairs.capacity());
+    }
+}
+
+/// Appends how long the list of replies is, and each of them.
+fn show_replies<'a>(replies: Vec<Reply<Key<'a>, Value<'a>>>, output: &mut Output<'a>) {
+    output.show_size(replies.len(), replies.capacity());
+    for reply in replies {
+        show_reply(reply, output);
+    }
+}
+
+/// Runs the commands of a line.
+fn replay_all<'a>(alloc: Global, map: &mut Map<'a>, line: &mut Line<'a>, output: &mut Output<'a>) {
+    output.end();
+    let commands = commands(alloc, line, output);
+    output.begin();
+    let returned = replay(map, commands);
+    output.end();
+    match returned {
+        Ok(replies) => show_replies(replies, output),
+        Err(_commands) => output.push_str("refused "),
+    }
+}
+
+/// Runs the call of this name, and returns whether there is one.
+pub fn run<'a>(
+    alloc: Global,
+    name: &str,
+    line: &mut Line<'a>,
+    map: &mut Map<'a>,
+    output: &mut Output<'a>,
+) -> bool {
+    if name == "replay" {
+        replay_all(alloc, map, line, output);
+        return true;
+    }
+    false
+}

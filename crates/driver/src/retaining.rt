@@ -1,0 +1,76 @@
+//! Calls that keep the pairs that a closure chooses.
+
+use super::Map;
+use super::counts::Counts;
+use super::line::Line;
+use super::output::Output;
+use super::value::Value;
+use std::cell::Cell;
+
+/// How often a closure was called, and how many keys and values the line had dropped at the last
+/// call.
+#[derive(Drop)]
+pub struct Calls<'a> {
+    calls: Cell<u64>,
+    dropped: Cell<u64>,
+    counts: &'a Counts,
+}
+
+impl<'a> Calls<'a> {
+    /// Begins before the first call.
+    pub fn new(counts: &'a Counts) -> Calls<'a> {
+        Calls {
+            calls: Cell::new(0),
+            dropped: Cell::new(0),
+            counts,
+        }
+    }
+
+    /// Notes a call, and returns its number, 1 for the first.
+    pub fn note(&self) -> u64 {
+        self.calls.set(self.calls.get().wrapping_add(1));
+        self.dropped.set(self.counts.dropped());
+        self.calls.get()
+    }
+
+    /// Appends both numbers.
+    pub fn show(&self, output: &mut Output<'_>) {
+        output.show_two(&self.calls.get(), &self.dropped.get());
+    }
+}
+
+/// Returns whether a value is not a number modulo 7, and then adds to it.
+pub fn keep_and_increase(value: &mut Value<'_>, number: u64, by: u64) -> bool {
+    if value.number() % 7 == number % 7 {
+        return false;
+    }
+    value.increase(by);
+    true
+}
+
+/// Keeps the pairs whose values are not a number modulo 7, and adds the number of the call to each.
+fn retain<'a>(map: &mut Map<'a>, line: &mut Line<'a>, output: &mut Output<'a>) {
+    let number = line.number();
+    let guard = line.guard();
+    let calls = Calls::new(line.counts());
+    let noted = &calls;
+    map.retain(move |_key, value| {
+        guard.hold();
+        keep_and_increase(value, number, noted.note())
+    });
+    calls.show(output);
+}
+
+/// Runs the call of this name, and returns whether there is one.
+pub fn run<'a>(
+    name: &str,
+    line: &mut Line<'a>,
+    map: &mut Map<'a>,
+    output: &mut Output<'a>,
+) -> bool {
+    if name == "retain" {
+        retain(map, line, output);
+        return true;
+    }
+    false
+}

@@ -1,0 +1,218 @@
+//! Calls of a table of sessions.
+
+use super::line::Line;
+use super::lookups::write_lent;
+use super::output::Output;
+use super::refusal::Refusal;
+use super::retaining::{Calls, keep_and_increase};
+use super::session_lists::{list_sessions, show_sessions};
+use super::stop::Stop;
+use super::value::Value;
+use linked_hash_map::sessions::{Put, PutRefused, Sessions};
+use std::alloc::Global;
+use std::mem;
+
+/// The tables that the lines speak of.
+pub type Table<'a> = Sessions<Value<'a>>;
+
+/// Says which of the two reasons it is, and the payload.
+impl<'a> Refusal for PutRefused<Value<'a>> {
+    fn show(&self, output: &mut Output<'_>) {
+        output.push_str("refused ");
+        output.show(&self.reason);
+        output.show_numbered(&self.payload, self.payload.serial());
+    }
+}
+
+/// Makes an empty table of a limit and a capacity.
+fn with_capacity<'a>(
+    alloc: Global,
+    line: &mut Line<'a>,
+    table: &mut Table<'a>,
+    output: &mut Output<'a>,
+) {
+    let limit = line.number();
+    output.store(table, Table::with_capacity(alloc, limit, line.size()));
+}
+
+/// Drops a table within a window, and leaves a new one of the limit 0 in its place.
+fn drop_table<'a>(alloc: Global, table: &mut Table<'a>, output: &mut Output<'a>) {
+    let taken = mem::replace(table, Table::new(alloc, 0));
+    output.drop_within(taken);
+}
+
+/// Appends what a put returned: the old payload, and those that went.
+fn show_put<'a>(put: Put<Value<'a>>, output: &mut Output<'a>) {
+    output.show(&put.old);
+    output.push_str("gone ");
+    output.show_size(put.gone.len(), put.gone.capacity());
+    show_sessions(put.gone.as_slice(), output);
+}
+
+fn put<'a>(table: &mut Table<'a>, line: &mut Line<'a>, output: &mut Output<'a>) {
+    let (id, weight) = (line.number(), line.number());
+    match table.put(id, weight, line.value()) {
+        Ok(put) => show_put(put, output),
+        Err(refused) => output.show_refused(refused),
+    }
+}
+
+/// Puts a session, and hands those that go to a closure, which keeps them in a vector with room.
+fn put_into<'a>(
+    table: &mut Table<'a>,
+    line: &mut Line<'a>,
+    handed: &mut Vec<(u64, u64, Value<'a>)>,
+    output: &mut Output<'a>,
+) -> Result<Option<Value<'a>>, PutRefused<Value<'a>>> {
+    let (id, weight) = (line.number(), line.number());
+    let payload = line.value();
+    let guard = line.guard();
+    output.begin();
+    let returned = table.put_with(id, weight, payload, move |id, weight, payload| {
+        guard.hold();
+        let _ = handed.push((id, weight, payload));
+    });
+    output.end();
+    returned
+}
+
+/// Appends what a put returned: the old payload, and those that were handed out.
+fn show_handed<'a>(
+    old: Option<Value<'a>>,
+    handed: Vec<(u64, u64, Value<'a>)>,
+    output: &mut Output<'a>,
+) {
+    output.show(&old);
+    output.push_str("handed ");
+    show_sessions(handed.as_slice(), output);
+}
+
+fn put_with<'a>(
+    alloc: Global,
+    table: &mut Table<'a>,
+    line: &mut Line<'a>,
+    output: &mut Output<'a>,
+) {
+    output.end();
+    let Ok(mut handed) = Vec::with_capacity(alloc, table.len()) else {
+        return output.note(Err::<(), _>(Stop::OutOfMemory));
+    };
+    match put_into(table, line, &mut handed, output) {
+        Ok(old) => show_handed(old, handed, output),
+        Err(refused) => output.show_refused(refused),
+    }
+}
+
+/// Keeps the payloads that are not a number modulo 7, and adds the number of the call to each.
+fn retain<'a>(table: &mut Table<'a>, line: &mut Line<'a>, output: &mut Output<'a>) {
+    let number = line.number();
+    let guard = line.guard();
+    let calls = Calls::new(line.counts());
+    let noted = &calls;
+    table.retain(move |_id, _weight, payload| {
+        guard.hold();
+        keep_and_increase(payload, number, noted.note())
+    });
+    calls.show(output);
+}
+
+/// Puts the ids below a count, each in a window, until one is refused.
+fn fill<'a>(table: &mut Table<'a>, line: &mut Line<'a>, output: &mut Output<'a>) {
+    let (count, weight) = (line.number(), line.number());
+    for number in 0..count {
+        let payload = Value::new(number, line.counts());
+        output.begin();
+        if !output.is_given(table.put(number, weight, payload)) {
+            return output.show_refused_number(number);
+        }
+    }
+    output.show(&count);
+}
+
+/// Makes a step for each letter, and appends what each gives and how much is left. Each step is
+/// within a window.
+fn iterate<'a>(table: &Table<'a>, steps: &str, output: &mut Output<'a>) {
+    let mut sessions = table.iter();
+    for _letter in steps.bytes() {
+        output.begin();
+        output.show(&sessions.next());
+        output.show_two(&sessions.size_hint(), &sessions.len());
+    }
+    output.drop_within(sessions);
+}
+
+/// Runs the call of this name by one session, and returns whether there is one.
+fn run_by_id<'a>(
+    alloc: Global,
+    name: &str,
+    line: &mut Line<'a>,
+    table: &mut Table<'a>,
+    output: &mut Output<'a>,
+) -> bool {
+    match name {
+        "put" => put(table, line, output),
+        "put_with" => put_with(alloc, table, line, output),
+        "touch" => output.show(&table.touch(line.number())),
+        "touch_mut" => write_lent(table.touch(line.number()), line.value(), output),
+        "remove" => output.show(&table.remove(line.number())),
+        _ => return false,
+    }
+    true
+}
+
+/// Runs the call of this name on a whole table, and returns whether there is one.
+fn run_on_all<'a>(
+    name: &str,
+    line: &mut Line<'a>,
+    table: &mut Table<'a>,
+    output: &mut Output<'a>,
+) -> bool {
+    match name {
+        "retain" => retain(table, line, output),
+        "reserve" => output.show_refusal(table.reserve(line.size())),
+        "capacity" => output.show(&table.capacity()),
+        "total" => output.show(&table.total()),
+        "len" => output.show(&table.len()),
+        "iter" => iterate(table, line.word(), output),
+        "fill" => fill(table, line, output),
+        _ => return false,
+    }
+    true
+}
+
+/// Runs the call of this name that leaves another table, and returns whether there is one.
+fn run_to_make<'a>(
+    alloc: Global,
+    name: &str,
+    line: &mut Line<'a>,
+    table: &mut Table<'a>,
+    output: &mut Output<'a>,
+) -> bool {
+    match name {
+        "new" => output.replace(table, Table::new(alloc, line.number())),
+        "with_capacity" => with_capacity(alloc, line, table, output),
+        "drop" => drop_table(alloc, table, output),
+        _ => return false,
+    }
+    true
+}
+
+/// Runs the call of this name, appends what it returns, the total and the list, and returns whether
+/// there is such a call.
+pub fn run<'a>(
+    alloc: Global,
+    name: &str,
+    line: &mut Line<'a>,
+    table: &mut Table<'a>,
+    output: &mut Output<'a>,
+) -> bool {
+    let is_known = run_by_id(alloc, name, line, table, output)
+        || run_on_all(name, line, table, output)
+        || run_to_make(alloc, name, line, table, output);
+    if is_known {
+        output.push_str("| ");
+        output.show(&table.total());
+        list_sessions(table, output);
+    }
+    is_known
+}

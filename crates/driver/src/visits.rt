@@ -1,0 +1,75 @@
+//! Visits of the pairs, one entry after the other.
+
+use super::Map;
+use super::entries::{Edit, edit_occupied, first_byte};
+use super::hasher::BuildKeyHasher;
+use super::key::Key;
+use super::line::Line;
+use super::output::Output;
+use super::value::Value;
+use linked_hash_map::Entries;
+use std::mem;
+
+/// Makes an edit by the next entry of a cursor.
+fn edit_next<'a>(
+    entries: &mut Entries<'_, Key<'a>, Value<'a>, BuildKeyHasher<'a>>,
+    edit: &mut Edit<'a>,
+    output: &mut Output<'a>,
+) {
+    output.begin();
+    match entries.next() {
+        Some(entry) => edit_occupied(entry, edit, output),
+        None => output.push_str("end "),
+    }
+}
+
+/// Makes an edit by each entry of a cursor, up to the end of the word, and drops or forgets the
+/// cursor.
+fn edit_each<'a>(map: &mut Map<'a>, line: &mut Line<'a>, output: &mut Output<'a>) {
+    let edits = line.word();
+    let mut edit = Edit::new("", line);
+    let mut entries = map.entries();
+    for letter in edits.bytes() {
+        output.show(&entries.remaining());
+        edit.letter = letter;
+        edit_next(&mut entries, &mut edit, output);
+    }
+    if line.word() == "forget" {
+        mem::forget(entries);
+    } else {
+        output.drop_within(entries);
+    }
+}
+
+/// Makes an edit by the next entry of a visit.
+fn edit_next_entry<'a>(map: &mut Map<'a>, line: &mut Line<'a>, output: &mut Output<'a>) {
+    let letter = first_byte(line.word());
+    let mut edit = Edit::new("", line);
+    edit.letter = letter;
+    match map.next_entry() {
+        Some(entry) => edit_occupied(entry, &mut edit, output),
+        None => output.push_str("end "),
+    }
+}
+
+/// Begins a visit.
+fn visit<'a>(map: &mut Map<'a>) {
+    let _map = map.visit();
+}
+
+/// Runs the call of this name, and returns whether there is one.
+pub fn run<'a>(
+    name: &str,
+    line: &mut Line<'a>,
+    map: &mut Map<'a>,
+    output: &mut Output<'a>,
+) -> bool {
+    match name {
+        "entries" => edit_each(map, line, output),
+        "visit" => visit(map),
+        "next_entry" => edit_next_entry(map, line, output),
+        "unvisited" => output.show(&map.unvisited()),
+        _ => return false,
+    }
+    true
+}
