@@ -38,10 +38,10 @@ LENGTH = 100
 RUNS_OF_FEW, RUNS_OF_MANY = 20, 10
 
 # What is refused, in the batches in turn: each request with a chance, and those behind it too.
-CHANCES = (("", False), ("1/8", False), ("1/50", True), ("1/2", False),
-           ("", False), ("1/50", False), ("1/8", True), ("1/2", True))
+CHANCES = ((0, False), (1 / 8, False), (1 / 50, True), (1 / 2, False),
+           (0, False), (1 / 50, False), (1 / 8, True), (1 / 2, True))
 # A run of many keys is refused no more, since its map would stay small.
-CHANCES_OF_MANY = (("", False), ("1/50", False))
+CHANCES_OF_MANY = ((0, False), (1 / 50, False))
 # Capacities that are drawn beside small ones.
 ROOMS = (0, 500, 999, 2**59, 2**59 + 1, 2**64 - 1)
 

@@ -24,24 +24,25 @@ Record = collections.namedtuple("Record", "requests refused windows")
 
 
 class Refusals(collections.namedtuple("Refusals", "chance seed next_too at")):
-    """What is refused: each request with a chance, as 1/8, drawn from a seed, with or without those
-    behind it in a line, and those of the numbers `at`, pairs of a line and a request."""
+    """What is refused: each request with a chance, 0 for none, drawn from a seed, with or without
+    those behind it in a line, and those of the numbers `at`, pairs of a line and a request."""
 
     def environment(self):
         """Returns the variables that tell the C library so."""
         named = ",".join(f"{line}:{request}" for line, request in self.at)
-        words = {"REFUSE_CHANCE": self.chance, "REFUSE_AT": named}
+        words = {"REFUSE_AT": named}
         if self.chance:
-            words.update(REFUSE_SEED=str(self.seed), REFUSE_NEXT_TOO=str(int(self.next_too)))
+            words.update(REFUSE_CHANCE=str(self.chance), REFUSE_SEED=str(self.seed),
+                         REFUSE_NEXT_TOO="1" if self.next_too else "")
         return {name: word for name, word in words.items() if word}
 
 
-NO_REFUSALS = Refusals("", 0, False, ())
+NO_REFUSALS = Refusals(0, 0, False, ())
 
 
 def refusals_at(pairs):
     """Returns the refusals of requests, each by the number of its line and its own."""
-    return Refusals("", 0, False, tuple(pairs))
+    return Refusals(0, 0, False, tuple(pairs))
 
 
 def build_library(folder):
@@ -65,11 +66,11 @@ def read_log(text):
     records, blocks = [], None
     for line in text.splitlines():
         words = line.split()
-        if words[0] == "marks":
-            blocks = int(words[3])
-            continue
-        requests, first, windows, *further = map(int, words)
-        records.append(Record(requests, (first, *further) if first else (), windows))
+        if words[0] == "blocks":
+            blocks = int(words[1])
+        else:
+            windows, requests, *refused = map(int, words)
+            records.append(Record(requests, tuple(refused), windows))
     return records, blocks
 
 

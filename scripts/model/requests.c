@@ -3,154 +3,58 @@
  * line begins, 4242 where a window opens and 4243 where it closes. Only requests within a window
  * count.
  *
- * REQUESTS_LOG=FILE      what is written: for each line how many requests it made, the number of
- *                        the first refused or 0, how many windows it had, and the numbers of the
- *                        others refused; at the end how many marks there were, and what was asked
- *                        for in a window and never given back
- * REFUSE_AT=N,LINE:N,..  refuses the Nth request of all, or the Nth of a line
- * REFUSE_CHANCE=1/20     refuses each with this chance, drawn from REFUSE_SEED=N
+ * REQUESTS_LOG=FILE      what is written: for each line how many windows it had, how many requests
+ *                        it made, and the numbers of those refused; at the end how many blocks were
+ *                        asked for in a window and never given back
+ * REFUSE_AT=LINE:N,..    refuses the Nth request of a line
+ * REFUSE_CHANCE=0.05     refuses each with this chance, drawn from REFUSE_SEED=N
  * REFUSE_NEXT_TOO=1      refuses each behind a refused one in a line with a chance of 1/2
  *
  * It is built without headers: the toolchain has none. glibc has each call under a second name. */
 typedef __SIZE_TYPE__ size_t;
-typedef __UINT64_TYPE__ u64;
+typedef unsigned long u64;
 
 void *__libc_malloc(size_t bytes);
 void *__libc_calloc(size_t count, size_t bytes);
 void *__libc_realloc(void *block, size_t bytes);
-void *__libc_memalign(size_t alignment, size_t bytes);
 void __libc_free(void *block);
 char *getenv(const char *name);
+u64 strtoul(const char *text, char **end, int base);
+double strtod(const char *text, char **end);
+void srand48(long seed);
+double drand48(void);
+int dprintf(int file, const char *format, ...);
 int open(const char *path, int flags, ...);
-long write(int file, const void *bytes, size_t count);
 void _exit(int status);
 
 enum { LINE_BEGINS = 4240, WINDOW_OPENS = 4242, WINDOW_CLOSES = 4243 };
-enum { PLACES = 1 << 18, MOST_REFUSED = 4096, MOST_OF_LINE = 4096 };
-enum { NO_MEMORY = 12, CREATE_AND_WRITE = 01 | 0100 | 01000 };
+enum { MOST_NAMED = 4096, MOST_OF_LINE = 4096, CREATE_AND_WRITE = 01 | 0100 | 01000 };
 
-/* The blocks that were asked for in a window, by their addresses: a table with linear probing. */
-static struct { u64 address, bytes; } blocks[PLACES];
-static u64 block_count, byte_count;
+/* What stands before each block. A block for which more than 16 bytes of alignment are asked would
+ * have none: the program asks for no such block. */
+typedef struct { u64 is_counted, padding; } Head;
 
-/* What REFUSE_AT names: requests of a line, or of the whole run if the line is 0. */
-static struct { u64 line, request; } refused[MOST_REFUSED];
-static u64 refused_count, chance, out_of, state;
+/* The requests that REFUSE_AT names. */
+static struct { u64 line, request; } named[MOST_NAMED];
+static u64 named_count;
+static double chance;
 static int refuses_next_too;
 
-static u64 line, marks, all_requests;
+static int log_file = -1, is_open;
+static u64 line, blocks;
 /* Of the line. */
-static u64 requests, windows, refused_of_line[MOST_OF_LINE], refused_of_line_count;
-static int is_open;
-
-static int log_file = -1;
-static char buffer[1 << 16];
-static size_t buffered;
-
-static void flush(void)
-{
-    if (log_file >= 0 && write(log_file, buffer, buffered) != (long)buffered)
-        _exit(99);
-    buffered = 0;
-}
-
-static void put_text(const char *text)
-{
-    if (buffered + 64 > sizeof buffer)
-        flush();
-    while (*text)
-        buffer[buffered++] = *text++;
-}
-
-/* Writes a number with a text before it. */
-static void put(const char *text, u64 number)
-{
-    char digits[24], *digit = digits + sizeof digits - 1;
-    *digit = 0;
-    do
-        *--digit = '0' + number % 10;
-    while (number /= 10);
-    put_text(text);
-    put_text(digit);
-}
+static u64 requests, windows, refused[MOST_OF_LINE], refused_count;
 
 /* Writes the record of the line that ends. */
 static void end_line(void)
 {
     if (line) {
-        put("", requests);
-        put(" ", refused_of_line_count ? refused_of_line[0] : 0);
-        put(" ", windows);
-        for (u64 place = 1; place < refused_of_line_count; place++)
-            put(" ", refused_of_line[place]);
-        put_text("\n");
+        dprintf(log_file, "%lu %lu", windows, requests);
+        for (u64 place = 0; place < refused_count; place++)
+            dprintf(log_file, " %lu", refused[place]);
+        dprintf(log_file, "\n");
     }
-    requests = windows = refused_of_line_count = 0;
-}
-
-static u64 place_of(u64 address)
-{
-    return (address >> 4) * 0x9e3779b97f4a7c15 >> 46;
-}
-
-static void remember(void *block, size_t bytes)
-{
-    u64 place = place_of((u64)block);
-    if (block_count == PLACES / 2)
-        _exit(98);
-    while (blocks[place].address)
-        place = (place + 1) % PLACES;
-    blocks[place].address = (u64)block;
-    blocks[place].bytes = bytes;
-    block_count++;
-    byte_count += bytes;
-}
-
-/* Moves back the blocks behind an empty place that would not be found past it. */
-static void close_gap(u64 gap)
-{
-    for (u64 place = (gap + 1) % PLACES; blocks[place].address; place = (place + 1) % PLACES) {
-        u64 home = place_of(blocks[place].address);
-        if ((place - home) % PLACES >= (place - gap) % PLACES) {
-            blocks[gap] = blocks[place];
-            blocks[place].address = 0;
-            gap = place;
-        }
-    }
-}
-
-/* Returns whether the block was asked for in a window. It is that no more. */
-static int forget(void *block)
-{
-    u64 place = place_of((u64)block);
-    while (blocks[place].address && blocks[place].address != (u64)block)
-        place = (place + 1) % PLACES;
-    if (!block || !blocks[place].address)
-        return 0;
-    block_count--;
-    byte_count -= blocks[place].bytes;
-    blocks[place].address = 0;
-    close_gap(place);
-    return 1;
-}
-
-/* Returns the next number of a generator of its own (splitmix64). */
-static u64 next_random(void)
-{
-    u64 mixed = state += 0x9e3779b97f4a7c15;
-    mixed = (mixed ^ mixed >> 30) * 0xbf58476d1ce4e5b9;
-    mixed = (mixed ^ mixed >> 27) * 0x94d049bb133111eb;
-    return mixed ^ mixed >> 31;
-}
-
-/* Returns whether REFUSE_AT names the request that is made. */
-static int is_named(void)
-{
-    for (u64 place = 0; place < refused_count; place++)
-        if (refused[place].line ? refused[place].line == line && refused[place].request == requests
-                                : refused[place].request == all_requests)
-            return 1;
-    return 0;
+    requests = windows = refused_count = 0;
 }
 
 /* Takes note of a mark, and returns whether the number of bytes is one. */
@@ -167,137 +71,102 @@ static int is_mark(size_t bytes)
     } else {
         return 0;
     }
-    marks++;
     return 1;
 }
 
-/* Counts a request in a window, and returns whether it is refused. */
-static int refuses(void)
+/* Returns whether REFUSE_AT names the request that is made. */
+static int is_named(void)
 {
-    all_requests++;
+    for (u64 place = 0; place < named_count; place++)
+        if (named[place].line == line && named[place].request == requests)
+            return 1;
+    return 0;
+}
+
+/* Counts a request, and returns whether it is refused. */
+static int is_refused(void)
+{
     requests++;
-    int is_refused = is_named() || (out_of && next_random() % out_of < chance);
-    if (refuses_next_too && refused_of_line_count)
-        is_refused |= next_random() % 2;
-    if (!is_refused || refused_of_line_count == MOST_OF_LINE)
+    int drawn = chance > 0 && drand48() < chance;
+    if (refuses_next_too && refused_count)
+        drawn |= drand48() < 0.5;
+    if (!(drawn || is_named()) || refused_count == MOST_OF_LINE)
         return 0;
-    refused_of_line[refused_of_line_count++] = requests;
+    refused[refused_count++] = requests;
     return 1;
 }
 
-/* Makes a request by the call of glibc, if it is not refused. */
-#define REQUEST(bytes, call)                \
-    do {                                    \
-        if (is_mark(bytes) || !is_open)     \
-            return call;                    \
-        if (refuses())                      \
-            return 0;                       \
-        void *block = call;                 \
-        if (block)                          \
-            remember(block, bytes);         \
-        return block;                       \
-    } while (0)
+/* Returns the block behind a head, if there is one. */
+static void *block_of(Head *head, u64 is_counted)
+{
+    if (!head)
+        return 0;
+    head->is_counted = is_counted;
+    blocks += is_counted;
+    return head + 1;
+}
 
 void *malloc(size_t bytes)
 {
-    REQUEST(bytes, __libc_malloc(bytes));
+    int is_counted = !is_mark(bytes) && is_open;
+    if (is_counted && is_refused())
+        return 0;
+    return block_of(__libc_malloc(sizeof(Head) + bytes), is_counted);
 }
 
 void *calloc(size_t count, size_t bytes)
 {
-    REQUEST(count * bytes, __libc_calloc(count, bytes));
-}
-
-void *memalign(size_t alignment, size_t bytes)
-{
-    REQUEST(bytes, __libc_memalign(alignment, bytes));
-}
-
-void *aligned_alloc(size_t alignment, size_t bytes)
-{
-    return memalign(alignment, bytes);
-}
-
-int posix_memalign(void **block, size_t alignment, size_t bytes)
-{
-    void *given = memalign(alignment, bytes);
-    if (!given)
-        return NO_MEMORY;
-    *block = given;
-    return 0;
+    if (is_open && is_refused())
+        return 0;
+    return block_of(__libc_calloc(1, sizeof(Head) + count * bytes), is_open);
 }
 
 void *realloc(void *block, size_t bytes)
 {
     if (!block)
         return malloc(bytes);
-    int is_mark_alone = is_mark(bytes);
-    if (!is_mark_alone && is_open && refuses())
+    int is_counted = !is_mark(bytes) && is_open;
+    if (is_counted && is_refused())
         return 0;
-    int is_counted = forget(block) || (is_open && !is_mark_alone);
-    void *moved = __libc_realloc(block, bytes);
-    if (is_counted && bytes)
-        remember(moved ? moved : block, bytes);
-    return moved;
+    u64 was_counted = ((Head *)block - 1)->is_counted;
+    Head *head = __libc_realloc((Head *)block - 1, sizeof(Head) + bytes);
+    blocks -= head ? was_counted : 0;
+    return block_of(head, was_counted || is_counted);
 }
 
 void free(void *block)
 {
-    forget(block);
-    __libc_free(block);
+    if (block) {
+        Head *head = (Head *)block - 1;
+        blocks -= head->is_counted;
+        __libc_free(head);
+    }
 }
 
-static u64 read_number(const char **text)
+/* Reads pairs of a line and a request, as 3:1,7:2. */
+static void read_named(char *text)
 {
-    u64 number = 0;
-    while (**text >= '0' && **text <= '9')
-        number = number * 10 + (u64)(*(*text)++ - '0');
-    return number;
-}
-
-/* Returns the number that a variable has, or the one that is given. */
-static u64 number_of(const char *name, u64 otherwise)
-{
-    const char *text = getenv(name);
-    return text ? read_number(&text) : otherwise;
-}
-
-static void read_refused(const char *text)
-{
-    for (; text && *text && refused_count < MOST_REFUSED; refused_count++) {
-        u64 number = read_number(&text), of_line = 0;
-        if (*text == ':') {
-            text++;
-            of_line = number;
-            number = read_number(&text);
-        }
-        refused[refused_count].line = of_line;
-        refused[refused_count].request = number;
+    while (text && *text && named_count < MOST_NAMED) {
+        named[named_count].line = strtoul(text, &text, 10);
+        named[named_count++].request = strtoul(text + 1, &text, 10);
         text += *text != 0;
     }
 }
 
 __attribute__((constructor)) static void begin(void)
 {
-    const char *text = getenv("REFUSE_CHANCE"), *path = getenv("REQUESTS_LOG");
-    if (text) {
-        chance = read_number(&text);
-        text += *text == '/';
-        out_of = read_number(&text);
-    }
-    state = number_of("REFUSE_SEED", 1);
-    refuses_next_too = number_of("REFUSE_NEXT_TOO", 0) != 0;
-    read_refused(getenv("REFUSE_AT"));
-    if (path)
-        log_file = open(path, CREATE_AND_WRITE, 0600);
+    const char *drawn = getenv("REFUSE_CHANCE"), *seed = getenv("REFUSE_SEED");
+    chance = drawn ? strtod(drawn, 0) : 0;
+    srand48(seed ? (long)strtoul(seed, 0, 10) : 1);
+    refuses_next_too = getenv("REFUSE_NEXT_TOO") != 0;
+    read_named(getenv("REFUSE_AT"));
+    log_file = open(getenv("REQUESTS_LOG"), CREATE_AND_WRITE, 0600);
+    if (log_file < 0)
+        _exit(99);
 }
 
 __attribute__((destructor)) static void end(void)
 {
     end_line();
-    put("marks ", marks);
-    put(" blocks ", block_count);
-    put(" bytes ", byte_count);
-    put_text("\n");
-    flush();
+    dprintf(log_file, "blocks %lu\n", blocks);
 }
