@@ -4,6 +4,8 @@ our own ones, which only scripts/model-tests draws too."""
 import collections
 
 HASHERS = ("spread", "same", "letter", "wide")
+# One that the originals do not have: the first letter in the upper bits of the hash.
+OWN_HASHERS = ("high",)
 
 # The calls that leave most of a map, each with how often it comes and the forms of its words.
 MAP_CALLS = (
@@ -90,13 +92,23 @@ OWN_MAP_CALLS = (
     ("entry", 6, "key own_edit value"),
     ("entries", 3, "own_edits value forget"),
     ("or_insert_with_key", 3, "key value"),
+    ("or_insert_with_box", 3, "key value"),
+    ("entry_replace_key", 4, "key key"),
     ("extend_trait", 1, "pairs"),
+    ("extend_copied_refs", 1, ""),
+    ("extend_trait_refs", 1, ""),
+    ("fill", 3, "numbers map_fill"),
     ("replay", 4, "commands"),
+    ("pair_lists", 1, "pairs"),
+    ("new_with_capacity", 1, "room value"),
+    ("from_iter_too_large", 1, ""),
+    ("refused_texts", 1, "key value"),
 )
 RARE_OWN_MAP_CALLS = (
     ("into_keys", 2, "steps forget"),
     ("into_values", 2, "steps forget"),
     ("collect", 2, "pairs"),
+    ("from_iter_unhinted", 2, "pairs"),
     ("emptied", 2, ""),
     ("made_with", 1, ""),
     ("drop", 2, ""),
@@ -136,9 +148,12 @@ OWN_CACHE_CALLS = (
     ("retain", 2, "value"),
     ("reserve", 1, "room"),
     ("room", 1, ""),
+    ("fill", 2, "numbers cache_fill"),
     ("replay", 3, "cache_commands"),
 )
 RARE_OWN_CACHE_CALLS = (
+    ("drain", 1, "steps forget"),
+    ("into_iter", 1, "steps forget"),
     ("drop", 1, ""),
 )
 
@@ -192,9 +207,19 @@ RARE_SET_CALLS = (
 OWN_SET_CALLS = (
     ("insert_if_absent", 6, "key"),
     ("refresh", 4, "key"),
+    ("difference", 2, "steps steps"),
+    ("symmetric_difference", 2, "steps steps"),
+    ("intersection", 2, "steps steps"),
+    ("union", 2, "steps steps"),
     ("capacity", 1, ""),
+    ("hasher", 1, ""),
+    ("fill", 2, "numbers set_fill"),
+    ("new_with_capacity", 1, "room value"),
+    ("refused_texts", 1, "key"),
 )
 RARE_OWN_SET_CALLS = (
+    ("drain", 2, "steps forget"),
+    ("into_iter", 1, "steps forget"),
     ("collect", 2, "items"),
     ("emptied", 1, ""),
     ("made_with", 1, ""),
@@ -206,6 +231,7 @@ SESSION_CALLS = (
     ("put", 20, "id weight value"),
     ("put_with", 8, "id weight value"),
     ("touch", 6, "id"),
+    ("touch_mut", 4, "id value"),
     ("remove", 5, "id"),
     ("retain", 1, "value"),
     ("reserve", 1, "room"),
@@ -213,6 +239,7 @@ SESSION_CALLS = (
     ("total", 1, ""),
     ("len", 1, ""),
     ("iter", 2, "steps"),
+    ("fill", 1, "numbers weight"),
 )
 RARE_SESSION_CALLS = (
     ("new", 2, "weights"),

@@ -31,8 +31,8 @@ REFUSED_OF_HUGE = {7: refusals_at([(3, 200)])}
 PAIRS_OF_LINE = 20_000
 # The least chance of a call after which little or all else is left.
 LEAST_RARE = 0.02
-# The most keys under the hasher that makes one hash of all.
-MOST_OF_SAME = 200
+# The hashers under which all keys are in one bucket, and the most keys that they are drawn for.
+OF_ONE_BUCKET, MOST_OF_ONE_BUCKET = ("same", "high"), 200
 # How long a run is, and how many there are of few keys and of many in a batch.
 LENGTH = 100
 RUNS_OF_FEW, RUNS_OF_MANY = 20, 10
@@ -44,6 +44,12 @@ CHANCES = ((0, False), (1 / 8, False), (1 / 50, True), (1 / 2, False),
 CHANCES_OF_MANY = ((0, False), (1 / 50, False))
 # Capacities that are drawn beside small ones.
 ROOMS = (0, 500, 999, 2**59, 2**59 + 1, 2**64 - 1)
+# How many numbered keys a fill has, beside small numbers, and with what chance.
+FILLS, CHANCE_OF_FILLS = (100, 101, 300, 1000), 0.05
+# The chance that a key is a numbered one, as fills put in.
+CHANCE_OF_NUMBERED = 0.1
+# The line that refuses a clone, which is of no kind, its chance, and the bound of its number.
+REFUSE_CLONE, CHANCE_OF_CLONES, MOST_CLONES = "refuse_clone", 0.01, 12
 
 # A batch, which is run in one process: its runs, and what is refused.
 Batch = collections.namedtuple("Batch", "runs refusals")
@@ -59,6 +65,14 @@ CACHE_COMMANDS = (
     ("insert", 8, "key value"), ("get", 4, "key"), ("remove", 3, "key"), ("removelru", 2, ""),
     ("setcapacity", 1, "limit"), ("clear", 1, ""),
 )
+# The calls that fill a map, a cache and a set.
+FILLING = {
+    "map_fill": ("insert", "or_insert", "or_insert_with", "or_default", "vacant", "extend",
+                 "extend_trait", "from_iter", "collect"),
+    "cache_fill": ("insert", "put", "extend"),
+    "set_fill": ("insert", "insert_if_absent", "replace", "get_or_insert", "get_or_insert_with",
+                 "extend", "from_iter"),
+}
 
 
 class Drawing(calls.Drawing):
@@ -76,11 +90,17 @@ class Drawing(calls.Drawing):
         """Returns the calls of a table that may be drawn."""
         return tuple(row for row in table if self.forgets or row[0] != "into_iter_forget")
 
+    def key(self):
+        if self.rng.random() < CHANCE_OF_NUMBERED:
+            return str(self.rng.randrange(self.keys))
+        return super().key()
+
     def word(self, form):
         rng = self.rng
         if form == "hasher":
-            few = self.keys <= MOST_OF_SAME
-            return rng.choice([it for it in calls.HASHERS if few or it != "same"])
+            few = self.keys <= MOST_OF_ONE_BUCKET
+            return rng.choice([it for it in calls.HASHERS + calls.OWN_HASHERS
+                               if few or it not in OF_ONE_BUCKET])
         if form == "forget":
             return rng.choice(("drop", "forget")) if self.forgets else "drop"
         if form == "own_edit":
@@ -93,6 +113,11 @@ class Drawing(calls.Drawing):
             return str(rng.choice(ROOMS))
         if form == "count":
             return str(rng.randrange(self.keys + 2))
+        if form == "numbers":
+            return str(rng.choice(FILLS) if rng.random() < CHANCE_OF_FILLS
+                       else rng.randrange(min(self.keys + 2, FILLS[0])))
+        if form in FILLING:
+            return rng.choice(FILLING[form])
         if form == "id":
             return str(rng.randrange(self.keys))
         if form == "weight":
@@ -118,6 +143,8 @@ class Drawing(calls.Drawing):
         return " ".join(filter(None, words))
 
     def call(self):
+        if self.kind.many and self.rng.random() < CHANCE_OF_CLONES:
+            return f"{REFUSE_CLONE} a {self.rng.randrange(MOST_CLONES)}"
         table = self.rare_calls if self.rng.random() < self.rare else self.calls
         (name, _, forms), = self.rng.choices(table, cum_weights=self.weights[id(table)])
         return self.line(name, self.rng.choice("aab"), forms)
@@ -130,13 +157,16 @@ class Drawing(calls.Drawing):
             for _ in range(calls.MOST_AT_FIRST, self.keys, calls.MOST_AT_FIRST):
                 taken = self.many(self.kind.many, calls.MOST_AT_FIRST)
                 lines.insert(2, f"{self.kind.prefix}extend a {taken}")
+            # No clone of the next run is refused.
+            lines.append(f"{REFUSE_CLONE} a 0")
         return lines
 
 
 def names():
     """Returns the names of all calls that are drawn."""
-    return [kind.prefix + name for kind in dict.fromkeys(KINDS)
-            for name in (kind.first, *(row[0] for table in kind[4:] for row in table))]
+    return [REFUSE_CLONE] + [
+        kind.prefix + name for kind in dict.fromkeys(KINDS)
+        for name in (kind.first, *(row[0] for table in kind[4:] for row in table))]
 
 
 def add_up(table):
@@ -158,8 +188,9 @@ def huge_run(rng, pairs):
                  for number in numbers[first:first + PAIRS_OF_LINE])
         lines.append("extend a " + " ".join(words))
     lines += [drawing.call() for _ in range(HUGE_CALLS)]
-    return lines + ["clone b", "eq a", "retain a 3", "shrink_to_fit a", "rotate_left a 777",
-                    "hash a", "extend_drain b", "drain b ffb", "drop b", "drop a"]
+    return lines + [f"{REFUSE_CLONE} a 0", "clone b", "eq a", "retain a 3", "shrink_to_fit a",
+                    "rotate_left a 777", "hash a", "extend_drain b", "drain b ffb", "drop b",
+                    "drop a"]
 
 
 def runs_of_batch(number):

@@ -5,6 +5,7 @@ import re
 import model
 from effects import ORDER
 from expected import BETWEEN
+from listed import List
 from program import NO_REFUSALS, Ran, Record
 
 # The chapters of the self-test. Most faults are planted at the line AT, or at FOUND, whose key
@@ -25,9 +26,11 @@ entry b k1 r 0
 AT, FOUND = "remove b k2", "get a xerox"
 CALLS_TXT = """# A comment.
 LinkedHashMap::insert: insert MAP KEY VALUE
-OccupiedEntry::remove: entry r, entries r
+OccupiedEntry::remove: entry r
 Refused::fmt: none: a text
 """
+PUBLIC = {"LinkedHashMap::insert", "OccupiedEntry::remove", "Refused::fmt"}
+LISTED = List(CALLS_TXT, PUBLIC)
 
 
 def count_of(wanted):

@@ -1,24 +1,29 @@
 """The public calls, and the lines that make them: crates/driver/calls.txt.
 
 A line of the list is `CALL: NAME, NAME ..`. A name is the first word of a line of the driver, and
-maybe one of its edits, commands or modes behind it, as `entry r`; words in capitals say nothing. Of
-a call that no line makes it is `CALL: none: REASON`."""
+maybe one of its edits, commands or modes behind it, as `entry r`, the call of a fill, as
+`fill extend`, or `forget`; words in capitals say nothing. Of a call that no line makes it is
+`CALL: none: REASON`."""
 
 # The lines of which the edits of entries matter, and which word has them.
 EDITED = {"entry": 3, "entries": 2, "next_entry": 2}
 # The lines of which each word behind the name may be one of the names.
 WORDED = {"replay", "cache_replay", "set_mode"}
+# Which word of a fill is the call that it makes.
+CALL_OF_FILL = 3
 
 
 def names_of(line):
     """Returns the names by which the list may speak of a line: its first word, and this with each
-    edit of an entry, each command, and the word `forget`."""
+    edit of an entry, each command, the call of a fill, and the word `forget`."""
     words = line.split()
     name, further = words[0], []
     if name in EDITED:
         further = list("".join(words[EDITED[name]:EDITED[name] + 1]))
     if name in WORDED:
         further = [word for word in words[2:] if word.isalpha()]
+    if name.endswith("fill"):
+        further = words[CALL_OF_FILL:CALL_OF_FILL + 1]
     if "forget" in words[2:]:
         further.append("forget")
     return {name, *(f"{name} {word}" for word in further)}
@@ -27,7 +32,7 @@ def names_of(line):
 def shape_of(line):
     """Returns a line without words that have no name, so that many lines have one shape."""
     words = line.split()
-    if words[0] in EDITED or words[0] in WORDED:
+    if words[0] in EDITED or words[0] in WORDED or words[0].endswith("fill"):
         return line
     return words[0] + (" a forget" if "forget" in words[2:] else "")
 
@@ -37,21 +42,36 @@ def names_of_all(lines):
     return set().union(*map(names_of, set(map(shape_of, lines))))
 
 
-def calls_of(text):
-    """Returns the calls of the list that lines make, each with the names of these."""
-    calls = {}
-    for line in text.splitlines():
-        call, _, lines = line.rpartition(": ")
-        if call and not line.startswith("#") and ": none: " not in line:
-            calls[call] = set(map(name_of, lines.split(",")))
-    return calls
-
-
 def name_of(listed):
     """Returns a name of the list without words in capitals."""
     return " ".join(word for word in listed.split() if not word.isupper())
 
 
-def missing_calls(text, names):
-    """Returns the calls of the list that no line of these names makes."""
-    return [call for call, lines in calls_of(text).items() if not names & lines]
+def entries_of(text):
+    """Returns each call of the list with the names of the lines that make it, which are none if it
+    says why."""
+    entries = []
+    for line in text.splitlines():
+        if line and not line.startswith("#"):
+            call, _, names = line.partition(": ")
+            is_none = names.startswith("none: ")
+            entries.append((call, [] if is_none else list(map(name_of, names.split(",")))))
+    return entries
+
+
+class List:
+    """The text of the list, and the public calls that have to be in it."""
+
+    def __init__(self, text, calls):
+        self.entries = entries_of(text)
+        self.calls = calls
+
+    def faults(self, made):
+        """Returns what is wrong with the list if lines of these names are made."""
+        listed = [call for call, _ in self.entries]
+        faults = [f"no entry for {call}" for call in sorted(self.calls.difference(listed))]
+        faults += [f"two entries for {call}" for call in set(listed) if listed.count(call) > 1]
+        faults += [f"there is no public call {call}" for call in listed if call not in self.calls]
+        faults += [f"no line `{name}` is made, which {call} names"
+                   for call, names in self.entries for name in names if name not in made]
+        return [f"crates/driver/calls.txt: {fault}" for fault in faults]
