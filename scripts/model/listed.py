@@ -9,8 +9,8 @@ maybe one of its edits, commands or modes behind it, as `entry r`, the call of a
 EDITED = {"entry": 3, "entries": 2, "next_entry": 2}
 # The lines of which each word behind the name may be one of the names.
 WORDED = {"replay", "cache_replay", "set_mode"}
-# Which word of a fill is the call that it makes.
-CALL_OF_FILL = 3
+# The lines that make a call several times, and which word has it.
+FILLS = {"fill": 3, "cache_fill": 3, "set_fill": 3}
 
 
 def names_of(line):
@@ -22,8 +22,8 @@ def names_of(line):
         further = list("".join(words[EDITED[name]:EDITED[name] + 1]))
     if name in WORDED:
         further = [word for word in words[2:] if word.isalpha()]
-    if name.endswith("fill"):
-        further = words[CALL_OF_FILL:CALL_OF_FILL + 1]
+    if name in FILLS:
+        further = words[FILLS[name]:FILLS[name] + 1]
     if "forget" in words[2:]:
         further.append("forget")
     return {name, *(f"{name} {word}" for word in further)}
@@ -32,7 +32,7 @@ def names_of(line):
 def shape_of(line):
     """Returns a line without words that have no name, so that many lines have one shape."""
     words = line.split()
-    if words[0] in EDITED or words[0] in WORDED or words[0].endswith("fill"):
+    if words[0] in EDITED or words[0] in WORDED or words[0] in FILLS:
         return line
     return words[0] + (" a forget" if "forget" in words[2:] else "")
 

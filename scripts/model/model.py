@@ -193,16 +193,19 @@ class Model:
         self.caches = Kind(caches.LINES, caches.READING, caches.Cache, caches.tail)
         self.sets = Kind(sets.LINES, sets.READING, Linked, set_tail)
         self.sessions = Kind(sessions.LINES, sessions.READING, sessions.Sessions, sessions.tail)
+        self.kinds = {"cache_": self.caches, "set_": self.sets, "sessions_": self.sessions,
+                      "": self.maps}
 
     def kind_of(self, name):
         """Returns what a line of a name is about, and the rest of the name."""
         if name in self.maps.lines:
             return self.maps, name
-        for prefix, kind in (("cache_", self.caches), ("set_", self.sets),
-                             ("sessions_", self.sessions)):
-            if name.startswith(prefix):
-                return kind, name.removeprefix(prefix)
-        return self.maps, name
+        return next((kind, name.removeprefix(prefix)) for prefix, kind in self.kinds.items()
+                    if name.startswith(prefix))
+
+    def names(self):
+        """Returns the names of all lines."""
+        return {prefix + name for prefix, kind in self.kinds.items() for name in kind.lines}
 
     def run(self, line, requests=None, refused=None):
         """Runs a line, of which the request for memory of the number `refused` is refused, or those
