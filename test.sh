@@ -60,14 +60,10 @@ end_if_failed() {
 
 run_part documents scripts/documents
 show_part documents ': all as the sources have it$'
-run_part dropped-counts scripts/dropped-counts
-show_part dropped-counts ': each call has a test that counts what it drops, or drops nothing$'
 run_part wrong-body-texts scripts/wrong-bodies --texts
 show_part wrong-body-texts ': each text stands$'
 run_part documents-self-test scripts/documents --self-test
 show_part documents-self-test '^documents finds each planted fault$'
-run_part dropped-counts-self-test scripts/dropped-counts --self-test
-show_part dropped-counts-self-test '^dropped-counts finds each of [1-9][0-9]* planted faults$'
 run_part refused-growths-self-test scripts/refused-growths --self-test
 show_part refused-growths-self-test '^refused-growths: [1-9][0-9]* tries end as they must$'
 run_part programs-self-test scripts/programs --self-test
@@ -87,7 +83,7 @@ echo "$(date +%H:%M) gate begins"
 ) | tee "$work/gate"
 wait
 judge_part gate "must-fail edits: $(ls crates/*/must-fail/*.edit | wc -l) refused; "
-show_part refused-growths '^refusal_tests: [1-9]'
+show_part refused-growths '^ring_tests: [1-9]'
 show_part wrong-bodies-self-test '^wrong-bodies passes good files, and fails on each of [1-9]'
 show_part doc-tests '^doc-tests: [2-9][0-9][0-9] examples of [1-9][0-9]* files passed, '
 show_part doc-tests-self-test '^doc-tests finds each of [1-9][0-9]* planted faults$'
