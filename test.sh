@@ -60,8 +60,6 @@ end_if_failed() {
 
 run_part documents scripts/documents
 show_part documents ': all as the sources have it$'
-run_part dropped-counts scripts/dropped-counts
-show_part dropped-counts ': each call has a test that counts what it drops, or drops nothing$'
 run_part wrong-body-texts scripts/wrong-bodies --texts
 show_part wrong-body-texts ': each text stands$'
 run_part clauses scripts/clauses
@@ -70,8 +68,8 @@ run_part documents-self-test scripts/documents --self-test
 show_part documents-self-test '^documents finds each planted fault$'
 run_part clauses-self-test scripts/clauses --self-test
 show_part clauses-self-test '^clauses finds each of [1-9][0-9]* clauses, deleted and emptied$'
-run_part dropped-counts-self-test scripts/dropped-counts --self-test
-show_part dropped-counts-self-test '^dropped-counts finds each of [1-9][0-9]* planted faults$'
+run_part model-tests-self-test scripts/model-tests --self-test
+show_part model-tests-self-test '^model-tests: [1-9][0-9]* tries end as they must$'
 run_part refused-growths-self-test scripts/refused-growths --self-test
 show_part refused-growths-self-test '^refused-growths: [1-9][0-9]* tries end as they must$'
 run_part programs-self-test scripts/programs --self-test

@@ -5,6 +5,7 @@ use super::hasher::BuildKeyHasher;
 use super::key::Key;
 use super::line::Line;
 use super::output::Output;
+use super::refusal::Refusal;
 use super::value::{Value, Values};
 use linked_hash_map::{Entry, OccupiedEntry, Refused, VacantEntry};
 use std::mem;
@@ -32,6 +33,11 @@ impl<'a> Edit<'a> {
             values: line.values(),
             key,
         }
+    }
+
+    /// Returns the next value.
+    pub fn take(&mut self) -> Value<'a> {
+        self.values.take()
     }
 
     /// Makes a key of the word.
@@ -84,48 +90,74 @@ fn edit_place_or_key<'a>(entry: &mut Occupied<'_, 'a>, edit: &Edit<'a>, output: 
     }
 }
 
-/// Makes an edit in place, and drops the entry.
-fn edit_in_place<'a>(entry: Occupied<'_, 'a>, edit: &mut Edit<'a>, output: &mut Output<'a>) {
-    let mut entry = entry;
-    edit_value(&mut entry, edit, output);
-    edit_place_or_key(&mut entry, edit, output);
-    output.drop_within(entry);
+/// Makes an edit in place.
+pub fn edit_in_place<'a>(
+    entry: &mut Occupied<'_, 'a>,
+    edit: &mut Edit<'a>,
+    output: &mut Output<'a>,
+) {
+    edit_value(entry, edit, output);
+    edit_place_or_key(entry, edit, output);
 }
 
-/// Shows an entry and makes an edit by it: a removal at `r` or `e`, a write to what the entry turns
-/// into at `m`, one in place, or at `o` none, and the entry is forgotten.
-pub fn edit_occupied<'a>(entry: Occupied<'_, 'a>, edit: &mut Edit<'a>, output: &mut Output<'a>) {
-    output.show_pair(entry.key(), entry.get());
-    output.begin();
-    match edit.letter {
-        b'r' => output.show(&entry.remove()),
-        b'e' => output.show(&entry.remove_entry()),
-        b'm' => output.write(entry.into_mut(), edit.values.take()),
-        b'o' => mem::forget(entry),
-        _ => edit_in_place(entry, edit, output),
-    }
-    output.end();
+/// Shows an entry that is bound to a name, and makes an edit by it: a removal at `r` or `e`, a write
+/// to what the entry turns into at `m`, one in place, or at `o` none, and the entry is forgotten.
+macro_rules! edit_occupied {
+    ($entry:ident, $edit:expr, $output:expr) => {
+        $output.show_pair($entry.key(), $entry.get());
+        $output.begin();
+        match $edit.letter {
+            b'r' => $output.show(&$entry.remove()),
+            b'e' => $output.show(&$entry.remove_entry()),
+            b'm' => {
+                let value = $edit.take();
+                let lent = $entry.into_mut();
+                $output.end();
+                *lent = value;
+            }
+            b'o' => mem::forget($entry),
+            _ => {
+                edit_in_place(&mut $entry, $edit, $output);
+                $output.drop_within($entry);
+            }
+        }
+        $output.end();
+    };
+}
+
+pub(crate) use edit_occupied;
+
+/// Makes an edit by the entry of a present key.
+fn edit_present<'a>(map: &mut Map<'a>, key: Key<'a>, edit: &mut Edit<'a>, output: &mut Output<'a>) {
+    let Entry::Occupied(mut entry) = map.entry(key) else {
+        return;
+    };
+    edit_occupied!(entry, edit, output);
 }
 
 /// Writes to a value that was inserted.
-fn write_inserted<'a>(lent: Lent<'_, 'a>, value: Value<'a>, output: &mut Output<'a>) {
+fn write_inserted<'a>(lent: &mut Lent<'_, 'a>, value: Value<'a>, output: &mut Output<'a>) {
+    output.end();
     match lent {
-        Ok(lent) => output.write(lent, value),
-        Err(refused) => output.show_refused(refused),
+        Ok(lent) => **lent = value,
+        Err(refused) => refused.show(output),
     }
 }
 
-/// Shows the key of an entry and makes an edit by it: an insertion at `i`, one of 0 that is then
-/// written at `m`, at `y` its key is taken, at `o` it is forgotten, or none.
-fn edit_vacant<'a>(entry: Vacant<'_, 'a>, edit: &mut Edit<'a>, output: &mut Output<'a>) {
+/// Makes an edit by the entry of an absent key: an insertion at `i`, one of 0 that is then written
+/// at `m`, at `y` its key is taken, at `o` it is forgotten, or none.
+fn edit_absent<'a>(map: &mut Map<'a>, key: Key<'a>, edit: &mut Edit<'a>, output: &mut Output<'a>) {
+    let Entry::Vacant(entry) = map.entry(key) else {
+        return;
+    };
     output.push_str("vacant ");
     output.show(entry.key());
     output.begin();
     match edit.letter {
-        b'i' => output.show_result(entry.insert(edit.values.take())),
+        b'i' => output.show_result(entry.insert(edit.take())),
         b'm' => {
             let zero = edit.values.zero();
-            write_inserted(entry.insert(zero), edit.values.take(), output);
+            write_inserted(&mut entry.insert(zero), edit.take(), output);
         }
         b'y' => output.show(&entry.into_key()),
         b'o' => mem::forget(entry),
@@ -134,16 +166,20 @@ fn edit_vacant<'a>(entry: Vacant<'_, 'a>, edit: &mut Edit<'a>, output: &mut Outp
     output.end();
 }
 
-/// Makes an edit by the entry of a key.
+/// Makes an edit by the entry of a key. Whether that is present is seen before the call.
 fn edit_entry<'a>(map: &mut Map<'a>, line: &mut Line<'a>, output: &mut Output<'a>) {
     let word = line.word();
     let key = line.key_of(word);
     let letter = first_byte(line.word());
     let mut edit = Edit::new(word, line);
     edit.letter = letter;
-    match map.entry(key) {
-        Entry::Occupied(entry) => edit_occupied(entry, &mut edit, output),
-        Entry::Vacant(entry) => edit_vacant(entry, &mut edit, output),
+    output.end();
+    let is_present = map.contains_key(&key);
+    output.begin();
+    if is_present {
+        edit_present(map, key, &mut edit, output);
+    } else {
+        edit_absent(map, key, &mut edit, output);
     }
 }
 

@@ -4,16 +4,17 @@ use super::Map;
 use super::entries::Lent;
 use super::line::Line;
 use super::output::Output;
+use super::refusal::Refusal;
 use std::alloc::Global;
 
 /// Appends a value that is lent, and adds 1 to its number after that.
-fn show_and_increase<'a>(lent: Lent<'_, 'a>, output: &mut Output<'a>) {
+fn show_and_increase<'a>(lent: &mut Lent<'_, 'a>, output: &mut Output<'a>) {
     match lent {
         Ok(lent) => {
             output.show(lent);
             lent.increase(1);
         }
-        Err(refused) => output.show_refusal(Err::<(), _>(refused)),
+        Err(refused) => refused.show(output),
     }
 }
 
@@ -25,7 +26,7 @@ fn and_modify<'a>(map: &mut Map<'a>, line: &mut Line<'a>, output: &mut Output<'a
         drop(guard);
         *lent = value;
     });
-    show_and_increase(entry.or_insert(zero), output);
+    show_and_increase(&mut entry.or_insert(zero), output);
 }
 
 fn or_insert_with<'a>(map: &mut Map<'a>, line: &mut Line<'a>, output: &mut Output<'a>) {
@@ -35,7 +36,7 @@ fn or_insert_with<'a>(map: &mut Map<'a>, line: &mut Line<'a>, output: &mut Outpu
         drop(guard);
         value
     };
-    show_and_increase(map.entry(key).or_insert_with(make), output);
+    show_and_increase(&mut map.entry(key).or_insert_with(make), output);
 }
 
 fn or_insert_with_key<'a>(map: &mut Map<'a>, line: &mut Line<'a>, output: &mut Output<'a>) {
@@ -45,7 +46,7 @@ fn or_insert_with_key<'a>(map: &mut Map<'a>, line: &mut Line<'a>, output: &mut O
         drop(guard);
         value
     };
-    show_and_increase(map.entry(key).or_insert_with_key(make), output);
+    show_and_increase(&mut map.entry(key).or_insert_with_key(make), output);
 }
 
 /// Asks for one box, whether or not it is given.
@@ -67,7 +68,7 @@ fn or_insert_with_box<'a>(
         ask_for_box(alloc);
         value
     };
-    show_and_increase(map.entry(key).or_insert_with(make), output);
+    show_and_increase(&mut map.entry(key).or_insert_with(make), output);
 }
 
 /// Runs the call of this name, and returns whether there is one.
@@ -79,11 +80,14 @@ pub fn run<'a>(
     output: &mut Output<'a>,
 ) -> bool {
     match name {
-        "or_insert" => show_and_increase(map.entry(line.key()).or_insert(line.value()), output),
+        "or_insert" => show_and_increase(
+            &mut map.entry(line.key()).or_insert(line.value()),
+            output,
+        ),
         "or_insert_with" => or_insert_with(map, line, output),
         "or_insert_with_key" => or_insert_with_key(map, line, output),
         "or_insert_with_box" => or_insert_with_box(alloc, map, line, output),
-        "or_default" => show_and_increase(map.entry(line.key()).or_default(), output),
+        "or_default" => show_and_increase(&mut map.entry(line.key()).or_default(), output),
         "and_modify" => and_modify(map, line, output),
         _ => return false,
     }

@@ -123,10 +123,18 @@ fn show_reply<'a>(reply: Reply<Key<'a>, Value<'a>>, output: &mut Output<'a>) {
     } else {
         output.show(&reply);
     }
-    if let Answer::Pairs(list) = reply.answer {
-        let pairs = list.into_vec();
-        output.push_str("pairs ");
-        output.show_size(pairs.len(), pairs.capacity());
+    show_list_size(reply.answer, output);
+}
+
+/// Appends the length and the capacity of the list that an answer has.
+fn show_list_size<'a>(answer: Answer<Key<'a>, Value<'a>>, output: &mut Output<'a>) {
+    match answer {
+        Answer::Pairs(list) => {
+            let pairs = list.into_vec();
+            output.push_str("pairs ");
+            output.show_size(pairs.len(), pairs.capacity());
+        }
+        other => drop(other),
     }
 }
 

@@ -1,7 +1,7 @@
 //! Visits of the pairs, one entry after the other.
 
 use super::Map;
-use super::entries::{Edit, edit_occupied, first_byte};
+use super::entries::{Edit, edit_in_place, edit_occupied, first_byte};
 use super::hasher::BuildKeyHasher;
 use super::key::Key;
 use super::line::Line;
@@ -17,10 +17,11 @@ fn edit_next<'a>(
     output: &mut Output<'a>,
 ) {
     output.begin();
-    match entries.next() {
-        Some(entry) => edit_occupied(entry, edit, output),
-        None => output.push_str("end "),
-    }
+    let Some(mut entry) = entries.next() else {
+        output.push_str("end ");
+        return;
+    };
+    edit_occupied!(entry, edit, output);
 }
 
 /// Makes an edit by each entry of a cursor, up to the end of the word, and drops or forgets the
@@ -46,10 +47,11 @@ fn edit_next_entry<'a>(map: &mut Map<'a>, line: &mut Line<'a>, output: &mut Outp
     let letter = first_byte(line.word());
     let mut edit = Edit::new("", line);
     edit.letter = letter;
-    match map.next_entry() {
-        Some(entry) => edit_occupied(entry, &mut edit, output),
-        None => output.push_str("end "),
-    }
+    let Some(mut entry) = map.next_entry() else {
+        output.push_str("end ");
+        return;
+    };
+    edit_occupied!(entry, &mut edit, output);
 }
 
 /// Begins a visit.

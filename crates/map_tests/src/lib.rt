@@ -1,4 +1,4 @@
-//! Tests of `linked_hash_map`: what each public call returns and leaves, on short maps.
+//! Tests of the map, the cache and the set that are no lines of `driver`.
 #![tactic(auto)]
 
 #[cfg(test)]

@@ -1,36 +1,22 @@
-//! What each public call returns and leaves, on short maps: a module for each subject.
+//! What no line of `driver` can be: keys of other types, callers with contracts, signatures, writers
+//! that fail, and maps of many pairs.
 
+mod absent_keys;
 mod borrowed;
-mod call_counts;
+mod caches;
 mod calling;
-mod capacities;
 mod chains;
-mod collect;
 mod compare;
-mod counts;
-mod cursor;
 mod drains;
-mod drops;
 mod entries;
-mod equal_keys;
 mod equivalents;
-mod errors;
-mod every_call;
 mod failing_checks;
 mod formats;
 mod growths;
-mod insertions;
-mod iterators;
-mod lists;
-mod modes;
-mod nodes;
-mod removals;
-mod replays;
-mod retains;
+mod references;
+mod sets;
 mod signatures;
 mod support;
-mod under_hashers;
-mod visits;
 mod writes;
 
 use linked_hash_map::LinkedHashMap;

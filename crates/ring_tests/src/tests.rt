@@ -2,5 +2,6 @@
 
 mod growths;
 mod index;
+mod refusals;
 mod rings;
 mod support;

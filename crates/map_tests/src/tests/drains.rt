@@ -2,7 +2,7 @@
 //! capacity and its hasher.
 ghost use Rattle.std.specs.Prelude.{◌≡◌, [], slice_get, IfOk};
 
-use super::support::calls::{assert_get, assert_sizes, check_insert};
+use super::support::calls::{assert_get, assert_sizes, insert_all};
 use super::support::checks::{check_eq, given};
 use super::{assert_pairs, map_of};
 use linked_hash_map::LinkedHashMap;
@@ -75,23 +75,15 @@ fn drain_and_forget(map: &mut LinkedHashMap<u64, u64>) -> usize
     map.len()
 }
 
+const PAIRS: [(u64, u64); 3] = [(1, 10), (2, 20), (3, 30)];
+
 #[test]
 fn empties_the_map(rt: HostRuntime) {
-    let mut map = map_of(&rt, rt.alloc(), &[(1, 10), (2, 20), (3, 30)]);
+    let mut map = map_of(&rt, rt.alloc(), &PAIRS);
     check_eq!(rt; drain_to_the_end(&mut map), Some(3));
-    assert_sizes(&rt, &map, 0, 3);
-}
-
-#[test]
-fn empties_the_map_from_both_ends(rt: HostRuntime) {
-    let mut map = map_of(&rt, rt.alloc(), &[(1, 10), (2, 20), (3, 30)]);
+    insert_all(&rt, &mut map, &PAIRS);
     check_eq!(rt; drain_both_ends(&mut map), (Some((1, 10)), Some((3, 30))));
-    assert_sizes(&rt, &map, 0, 3);
-}
-
-#[test]
-fn empties_the_map_where_it_is_dropped(rt: HostRuntime) {
-    let mut map = map_of(&rt, rt.alloc(), &[(1, 10), (2, 20), (3, 30)]);
+    insert_all(&rt, &mut map, &PAIRS);
     drain_last(&mut map);
     assert_sizes(&rt, &map, 0, 3);
 }
@@ -109,21 +101,17 @@ fn check_vector(
 
 #[test]
 fn empties_the_map_into_a_vector(rt: HostRuntime) {
-    let mut map = map_of(&rt, rt.alloc(), &[(1, 10), (2, 20), (3, 30)]);
-    check_vector(&rt, rt.alloc(), &mut map, &[(1, 10), (2, 20), (3, 30)]);
+    let mut map = map_of(&rt, rt.alloc(), &PAIRS);
+    check_vector(&rt, rt.alloc(), &mut map, &PAIRS);
     assert_sizes(&rt, &map, 0, 3);
 }
 
 #[test]
-fn empties_the_map_where_it_is_forgotten(rt: HostRuntime) {
-    let mut map = map_of(&rt, rt.alloc(), &[(1, 10), (2, 20), (3, 30)]);
+fn empties_the_map_if_the_iterator_is_forgotten(rt: HostRuntime) {
+    let mut map = map_of(&rt, rt.alloc(), &PAIRS);
     check_eq!(rt; drain_and_forget(&mut map), 0);
     assert_get(&rt, &map, &2, None);
-    assert_sizes(&rt, &map, 0, 3);
-    // The map is as good as any other.
-    check_insert(&rt, &mut map, 2, 21, None);
-    assert_sizes(&rt, &map, 1, 3);
+    insert_all(&rt, &mut map, &[(2, 21)]);
     assert_pairs(&rt, &map, &[(2, 21)]);
-    check_eq!(rt; drain_and_forget(&mut map), 0);
-    assert_sizes(&rt, &map, 0, 3);
+    assert_sizes(&rt, &map, 1, 3);
 }

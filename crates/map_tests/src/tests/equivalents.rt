@@ -1,11 +1,13 @@
 //! What each implementation of `Equivalent` looks up.
 
 use super::support::calls::check_insert;
-use super::support::checks::{check_eq, given};
+use super::support::checks::{check, check_eq, given};
+use super::support::counting::Counting;
 use super::support::hashers::BuildSame;
 use linked_hash_map::{Equivalent, LinkedHashMap};
 use std::alloc::Global;
 use std::boxed::{BoxedSlice, BoxedStr};
+use std::cell::Cell;
 use std::fmt::Debug;
 use std::hash::{BuildHasher, Hash};
 use std::process::Abort;
@@ -151,4 +153,36 @@ fn a_slice_looks_up_a_lent_slice(rt: HostRuntime) {
         present,
         absent,
     );
+}
+
+/// Makes two items whose comparisons are counted.
+fn two_items(compared: &Cell<usize>) -> [Counting<'_>; 2] {
+    [
+        Counting { number: 1, compared },
+        Counting { number: 2, compared },
+    ]
+}
+
+#[test]
+fn a_slice_compares_each_item_of_a_vector_once(rt: HostRuntime) {
+    let compared = Cell::new(0);
+    let items = two_items(&compared);
+    let mut map = LinkedHashMap::new(rt.alloc());
+    let key = given!(rt; Vec::from_slice(rt.alloc(), &items));
+    check!(rt; map.insert(key, 1).is_ok());
+    compared.set(0);
+    let slice: &[Counting<'_>] = &items;
+    check_eq!(rt; (map.get(slice), compared.get()), (Some(&1), 2));
+}
+
+#[test]
+fn a_slice_compares_each_item_of_a_boxed_slice_once(rt: HostRuntime) {
+    let compared = Cell::new(0);
+    let items = two_items(&compared);
+    let mut map = LinkedHashMap::new(rt.alloc());
+    let key = given!(rt; BoxedSlice::from_slice(rt.alloc(), &items));
+    check!(rt; map.insert(key, 1).is_ok());
+    compared.set(0);
+    let slice: &[Counting<'_>] = &items;
+    check_eq!(rt; (map.get(slice), compared.get()), (Some(&1), 2));
 }

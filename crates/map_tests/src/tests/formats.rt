@@ -1,10 +1,13 @@
-//! Texts into writers that fail, and the debug text of a map of many pairs.
+//! Texts into writers that fail, of maps, caches, sets and errors, and the debug text of a map of
+//! many pairs.
 
 use super::map_of;
 use super::support::calls::check_insert;
 use super::support::checks::{check, check_eq, given};
 use linked_hash_map::replay::{Answer, Command, PairList};
 use linked_hash_map::{LinkedHashMap, NoRoom, Refused, ReserveError};
+use linked_hash_set::LinkedHashSet;
+use lru_cache::LruCache;
 use std::alloc::Global;
 use std::fmt;
 use std::fmt::{Debug, Display, Write};
@@ -99,6 +102,29 @@ fn assert_lists_fail(rt: &impl Abort, alloc: Global) {
     assert_fails(rt, &Answer::Pairs(answered));
     let extended = PairList::from_vec(given!(rt; vec![in alloc; (1u64, 10u64), (2, 20)]));
     assert_fails(rt, &Command::Extend(extended));
+}
+
+/// Makes a cache of three pairs.
+fn cache_of_three(rt: &impl Abort, alloc: Global) -> LruCache<u64, u64> {
+    let mut cache = LruCache::new(alloc, 3);
+    check_eq!(rt; cache.extend([(1, 10), (2, 20), (3, 30)]), Ok(()));
+    cache
+}
+
+/// Makes a set of three items.
+fn set_of_three(rt: &impl Abort, alloc: Global) -> LinkedHashSet<u64> {
+    let mut set = LinkedHashSet::new(alloc);
+    check_eq!(rt; set.extend([1, 2, 3]), Ok(()));
+    set
+}
+
+#[test]
+fn caches_and_sets_fail_where_a_writer_fails(rt: HostRuntime) {
+    assert_fails(&rt, &cache_of_three(&rt, rt.alloc()));
+    assert_fails(&rt, &set_of_three(&rt, rt.alloc()));
+    let refused = linked_hash_set::Refused { item: 1 };
+    assert_fails(&rt, &refused);
+    assert_error_fails(&rt, &refused);
 }
 
 /// How many pairs the map of a long text has.

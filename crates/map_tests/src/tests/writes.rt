@@ -2,7 +2,7 @@
 ghost use Rattle.std.specs.Prelude.{◌≡◌, nat_eq, IsTrue, IsFalse, IsSome};
 ghost use Rattle.linked_hash_map.specs.Pairs.{find, to_back, set_value};
 
-use super::support::calls::{assert_get, check_pop_front, check_refresh, insert_all};
+use super::support::calls::{assert_get, check_refresh};
 use super::support::checks::{check, check_eq};
 use super::{assert_pairs, map_of};
 use linked_hash_map::LinkedHashMap;
@@ -56,23 +56,6 @@ fn writes_through_a_loan(rt: HostRuntime) {
     assert_pairs(&rt, &map, &[(2, 5), (1, 9)]);
 }
 
-/// Writes a letter in its place. It does nothing if the key is absent.
-fn set_letter(letters: &mut LinkedHashMap<u64, &'static str>, key: u64, letter: &'static str) {
-    if let Some(value) = letters.get_mut(&key) {
-        *value = letter;
-    }
-}
-
-#[test]
-fn writes_a_letter_in_its_place(rt: HostRuntime) {
-    let mut letters = LinkedHashMap::new(rt.alloc());
-    insert_all(&rt, &mut letters, &[(1, "a"), (2, "b")]);
-    set_letter(&mut letters, 1, "c");
-    assert_get(&rt, &letters, &1, Some(&"c"));
-    check_pop_front(&rt, &mut letters, Some((1, "c")));
-    check_pop_front(&rt, &mut letters, Some((2, "b")));
-}
-
 /// Reads the value of a present key by an index, writes another, and reads that.
 fn replace_present(
     rt: &impl Abort,
@@ -91,34 +74,8 @@ fn replace_present(
 }
 
 #[test]
-fn indexes_a_present_key(rt: HostRuntime) {
-    let mut map = map_of(&rt, rt.alloc(), &[(2, 20), (1, 10), (3, 30)]);
-    replace_present(&rt, &mut map, 1, 10, 11);
-    replace_present(&rt, &mut map, 2, 20, 21);
-    replace_present(&rt, &mut map, 3, 30, 31);
-}
-
-#[test]
 fn writes_by_an_index_in_its_place(rt: HostRuntime) {
     let mut map = map_of(&rt, rt.alloc(), &[(1, 1), (2, 2)]);
     replace_present(&rt, &mut map, 1, 1, 7);
     assert_pairs(&rt, &map, &[(1, 7), (2, 2)]);
-}
-
-/// Checks what the index of a key gives.
-fn assert_letter(
-    rt: &impl Abort,
-    letters: &LinkedHashMap<u64, &'static str>,
-    key: u64,
-    letter: &str,
-) {
-    check!(rt; letters.contains_key(&key) && letters[&key] == letter);
-}
-
-#[test]
-fn indexes_letters(rt: HostRuntime) {
-    let mut letters = LinkedHashMap::new(rt.alloc());
-    insert_all(&rt, &mut letters, &[(1, "a"), (2, "b")]);
-    assert_letter(&rt, &letters, 1, "a");
-    assert_letter(&rt, &letters, 2, "b");
 }

@@ -59,36 +59,6 @@ pub fn check_pop_front<K: Eq + Hash + Debug + Drop, V: PartialEq + Debug + Drop,
     check_eq!(rt; map.pop_front(), pair);
 }
 
-/// Takes out the last pair, and checks it.
-pub fn check_pop_back<K: Eq + Hash + Debug + Drop, V: PartialEq + Debug + Drop, S: BuildHasher>(
-    rt: &impl Abort,
-    map: &mut LinkedHashMap<K, V, S>,
-    pair: Option<(K, V)>,
-) {
-    check_eq!(rt; map.pop_back(), pair);
-}
-
-/// Makes room for more pairs, and checks the capacity then.
-pub fn check_reserve<K: Eq + Hash, V, S: BuildHasher>(
-    rt: &impl Abort,
-    map: &mut LinkedHashMap<K, V, S>,
-    additional: usize,
-    capacity: usize,
-) {
-    check_eq!(rt; map.reserve(additional), Ok(()));
-    check_eq!(rt; map.capacity(), capacity);
-}
-
-/// Lowers the capacity, and checks what it is then.
-pub fn check_shrink<K: Eq + Hash, V, S: BuildHasher>(
-    rt: &impl Abort,
-    map: &mut LinkedHashMap<K, V, S>,
-    capacity: usize,
-) {
-    check_eq!(rt; map.shrink_to_fit(), Ok(()));
-    check_eq!(rt; map.capacity(), capacity);
-}
-
 /// Checks the value of a key.
 pub fn assert_get<K: Eq + Hash, V: PartialEq + Debug, S: BuildHasher>(
     rt: &impl Abort,

@@ -57,25 +57,6 @@ pub const KEY: BuildMultiple = BuildMultiple {
     factor: 1,
 };
 
-/// The hash is the key modulo 2.
-pub const PARITY: BuildMultiple = BuildMultiple {
-    largest: 1,
-    factor: 1,
-};
-
-/// The hash is eight times the key, of keys of 32 bits.
-pub const EIGHTFOLD: BuildMultiple = BuildMultiple {
-    largest: u32::MAX,
-    factor: 8,
-};
-
-/// The hash uses all 64 bits. Those of the keys 1 to 8 agree in the lower three, so they share a
-/// bucket of eight, and no two agree in the upper four.
-pub const WIDE: BuildMultiple = BuildMultiple {
-    largest: u32::MAX,
-    factor: 0x9E37_79B9_7F4A_7C18,
-};
-
 impl BuildHasher for BuildMultiple {
     type Hasher = Multiple;
 

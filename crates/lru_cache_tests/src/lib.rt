@@ -1,5 +1,0 @@
-//! Tests of `lru_cache`.
-#![tactic(auto)]
-
-#[cfg(test)]
-mod tests;

@@ -1,0 +1,51 @@
+//! Lookups of absent keys in a large map, each in constant time.
+
+use super::support::checks::{check, check_eq, given};
+use super::support::multiple::{BuildMultiple, KEY};
+use linked_hash_map::{Entry, LinkedHashMap, Probe};
+use std::alloc::Global;
+use std::process::Abort;
+
+const MANY: usize = 262_144;
+
+type LargeMap = LinkedHashMap<u64, (), BuildMultiple>;
+
+/// Makes a map of `MANY` keys.
+fn many(rt: &impl Abort, alloc: Global) -> LargeMap {
+    let mut map = given!(rt; LinkedHashMap::with_capacity_and_hasher(alloc, MANY, KEY));
+    for key in 0..262_144u64 {
+        check_eq!(rt; map.insert(key, ()), Ok(None));
+    }
+    map
+}
+
+/// Reads at a key that is absent, and falls into the bucket of one present key.
+fn read_absent(rt: &impl Abort, map: &LargeMap, key: u64) {
+    check_eq!(rt; map.get(&key), None);
+    check_eq!(rt; map.get_counted(&key), (None, Probe { visited: 1, compared: 0 }));
+    check!(rt; !map.contains_key(&key));
+}
+
+/// Asks for such a key to write its value, to move it or to take it out.
+fn change_absent(rt: &impl Abort, map: &mut LargeMap, key: u64) {
+    check!(rt; map.get_mut(&key).is_none());
+    check!(rt; map.get_refresh(&key).is_none());
+    check_eq!(rt; map.remove(&key), None);
+    let is_vacant = matches!(map.entry(key), Entry::Vacant(_));
+    check_eq!(rt; (key, is_vacant), (key, true));
+}
+
+/// Looks up as many absent keys. A scan of all pairs would reach 2^36 of them for each call.
+fn look_up_absent(rt: &impl Abort, map: &mut LargeMap) {
+    for key in 262_144..524_288u64 {
+        read_absent(rt, map, key);
+        change_absent(rt, map, key);
+    }
+}
+
+#[test]
+fn looks_up_absent_keys_in_a_large_map(rt: HostRuntime) {
+    let mut map = many(&rt, rt.alloc());
+    look_up_absent(&rt, &mut map);
+    check_eq!(rt; (map.len(), map.capacity()), (MANY, MANY));
+}
