@@ -64,8 +64,12 @@ run_part dropped-counts scripts/dropped-counts
 show_part dropped-counts ': each call has a test that counts what it drops, or drops nothing$'
 run_part wrong-body-texts scripts/wrong-bodies --texts
 show_part wrong-body-texts ': each text stands$'
+run_part clauses scripts/clauses
+show_part clauses ': each as it is kept$'
 run_part documents-self-test scripts/documents --self-test
 show_part documents-self-test '^documents finds each planted fault$'
+run_part clauses-self-test scripts/clauses --self-test
+show_part clauses-self-test '^clauses finds each of [1-9][0-9]* clauses, deleted and emptied$'
 run_part dropped-counts-self-test scripts/dropped-counts --self-test
 show_part dropped-counts-self-test '^dropped-counts finds each of [1-9][0-9]* planted faults$'
 run_part refused-growths-self-test scripts/refused-growths --self-test
@@ -87,12 +91,15 @@ echo "$(date +%H:%M) gate begins"
 ) | tee "$work/gate"
 wait
 judge_part gate "must-fail edits: $(ls crates/*/must-fail/*.edit | wc -l) refused; "
-show_part refused-growths '^refusal_tests: [1-9]'
+show_part refused-growths '^refused-growths: [1-9].* growths; leaks were looked for in each$'
 show_part wrong-bodies-self-test '^wrong-bodies passes good files, and fails on each of [1-9]'
 show_part doc-tests '^doc-tests: [2-9][0-9][0-9] examples of [1-9][0-9]* files passed, '
 show_part doc-tests-self-test '^doc-tests finds each of [1-9][0-9]* planted faults$'
 end_if_failed
 
+run_part wrong-bodies-gate scripts/wrong-bodies --gate
+crates='dedup lhm linked_hash_map linked_hash_set lru_cache'
+show_part wrong-bodies-gate "^wrong-bodies --gate: [2-9][0-9] bodies of $crates: each is refused"
 run_part programs scripts/programs
 words=': 32 rows .* 5 inputs .* 40 res.* 20000 lines .* 16384 lines .* 3 pipes .* 20 workloads'
 show_part programs "$words .* 250 turns .* 8192 KiB, and not in 4192"

@@ -167,7 +167,7 @@ CollectsInto-ExtendsWith {eq = eq} {IsDefault} laws {old} {new} {items} empty in
       pairs = into.pairs ∙ (λ i. insert_each eq (empty.is_new.mode i) (empty.is_new.pairs i) items);
       capacity = omega (arith, into.capacity, none);
       rechained = into.rechained
-        ∙ (λ i. rechained_each (empty.is_new.rechained i) (none i) (new.capacity - none i)) ∙ ap (rechained_each 0 0) raised;
+          ∙ (λ i. rechained_each (empty.is_new.rechained i) (none i) (new.capacity - none i)) ∙ ap (rechained_each 0 0) raised;
       made = into.made ∙ (λ i. made_each (empty.is_new.made i) (none i) (new.capacity - none i)) ∙ ap (made_each 0 0) raised;
       hasher = subst IsDefault (sym into.settings.hasher) empty.hasher;
       mode = into.settings.mode ∙ empty.is_new.mode;
