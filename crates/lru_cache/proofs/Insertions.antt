@@ -1,6 +1,6 @@
 -- What a cache has at a key after a call that may take pairs away.
 use Rattle.std.proofs.Common.{◌≡◌, ◌⊎◌, inl, inr, ℕ, zero, suc, ◌+◌, ◌-◌, ◌<◌, ◌≤◌, Bool, true, false, cond, List, [], ◌∷◌, ◌++◌, length}
-use Rattle.std.proofs.Common.{drop, option_map, Some, None, refl, sym, ap, ◌∙◌, subst, arith, length-append}
+use Rattle.std.proofs.Common.{drop, option_map, Some, None, refl, sym, ap, ◌∙◌, subst, arith, length-append, drop_of_length-le}
 use Rattle.std.specs.Cmp.{IsEquivalence}
 use Rattle.std.specs.List.{IsDistinct}
 use Rattle.std.specs.Map.{keys_of}
@@ -63,6 +63,10 @@ module _ {K V : Type 0} {eq : K → K → Bool} (laws : IsEquivalence eq) where
           (find-drop eq (without eq pairs k) k count (find-without_here laws pairs k))
           ∙ ap (λ b. cond b (Some (key, v)) None) (eq-stored laws pairs k))
 
+      pub value_at-inserted_none : n ≡ 0 → value_at eq after k ≡ None
+      value_at-inserted_none none =
+          ap (λ ps. value_at eq ps k) (is ∙ drop_of_length-le (to_back eq pairs k v) (omega (arith, none)))
+
       pub last-inserted : 0 < n → last after ≡ Some (key_or k (find eq pairs k), v)
       last-inserted some =
           let key = key_or k (find eq pairs k) in
@@ -89,6 +93,6 @@ module _ {K V : Type 0} {eq : K → K → Bool} (laws : IsEquivalence eq) where
             let most = length-put_most eq Touch pairs k v in all_kept (omega arith)
 
 -- what each key has after an insertion, and after a removal of those used least recently
-pub ruleset insertions = (value_at-inserted, last-inserted, SameOrNone-inserted)
+pub ruleset insertions = (value_at-inserted, value_at-inserted_none, last-inserted, SameOrNone-inserted)
 
 pub ruleset removals = (SameOrNone-newest)

@@ -51,6 +51,8 @@ impl<K: Eq + Hash, V, S: BuildHasher> LruCache<K, V, S> {
         // Consequences of `pairs`, for the proofs of callers.
         ensures here { OnOk result
             (0 < self.old.limit → value_at K.eq self.new.pairs key ≡ Some value) }
+        ensures not_here { OnOk result
+            (self.old.limit ≡ 0 → value_at K.eq self.new.pairs key ≡ None) }
         ensures last { OnOk result (0 < self.old.limit → last self.new.pairs
             ≡ Some (key_or key (find K.eq self.old.pairs key), value)) }
         ensures others { OnOk result ((q : K) → K.eq key q ≡ false
@@ -111,6 +113,8 @@ impl<K: Eq + Hash, V, S: BuildHasher> LruCache<K, V, S> {
         // Consequences of `pairs`, for the proofs of callers.
         ensures here { OnOk result
             (0 < self.old.limit → value_at K.eq self.new.pairs key ≡ Some value) }
+        ensures not_here { OnOk result
+            (self.old.limit ≡ 0 → value_at K.eq self.new.pairs key ≡ None) }
         ensures last { OnOk result (0 < self.old.limit → last self.new.pairs
             ≡ Some (key_or key (find K.eq self.old.pairs key), value)) }
         ensures others { OnOk result ((q : K) → K.eq key q ≡ false
