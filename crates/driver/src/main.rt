@@ -201,23 +201,28 @@ fn run_call<'a>(
 
 /// Runs the lines on new maps, caches, sets and tables, and returns the whole text of the output.
 /// For a line that is no call that is `unknown`. A line that begins with `#` makes everything anew.
-fn respond(alloc: Global, lines: &str) -> Result<String, Stop> {
-    let counts = Counts::new();
-    let mut output = Output::new(alloc, &counts);
-    let mut all = All::new(alloc);
+fn respond_counting<'a>(alloc: Global, lines: &'a str, counts: &'a Counts) -> Result<String, Stop> {
+    let mut output: Output<'a> = Output::new(alloc, counts);
+    let mut all: All<'a> = All::new(alloc);
     for text in lines.lines() {
         output.begin_line();
         if text.starts_with('#') {
             all = All::new(alloc);
             output.push_str(text);
             output.push_str("\n");
-        } else if run_call(alloc, &mut Line::new(text, &counts), &mut all, &mut output) {
+        } else if run_call(alloc, &mut Line::new(text, counts), &mut all, &mut output) {
             output.end_line();
         } else {
             output.push_str("unknown\n");
         }
     }
     output.finish()
+}
+
+/// Runs the lines with new counts, and returns the whole text of the output.
+fn respond(alloc: Global, lines: &str) -> Result<String, Stop> {
+    let counts = Counts::new();
+    respond_counting(alloc, lines, &counts)
 }
 
 /// Reads all lines, runs them and writes the output.

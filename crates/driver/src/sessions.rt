@@ -10,6 +10,7 @@ use super::stop::Stop;
 use super::value::Value;
 use linked_hash_map::sessions::{Put, PutRefused, Sessions};
 use std::alloc::Global;
+use std::cell::Cell;
 use std::mem;
 
 /// The tables that the lines speak of.
@@ -57,11 +58,32 @@ fn put<'a>(table: &mut Table<'a>, line: &mut Line<'a>, output: &mut Output<'a>) 
     }
 }
 
-/// Puts a session, and hands those that go to a closure, which keeps them in a vector with room.
+/// The sessions that a put hands out, kept in a vector with room.
+#[derive(Drop)]
+struct Handed<'a> {
+    sessions: Cell<Vec<(u64, u64, Value<'a>)>>,
+    alloc: Global,
+}
+
+impl<'a> Handed<'a> {
+    /// Adds one.
+    fn add(&self, id: u64, weight: u64, payload: Value<'a>) {
+        let mut sessions = self.sessions.replace(Vec::new(self.alloc));
+        let _ = sessions.push((id, weight, payload));
+        self.sessions.set(sessions);
+    }
+
+    /// Takes them all.
+    fn take(&self) -> Vec<(u64, u64, Value<'a>)> {
+        self.sessions.replace(Vec::new(self.alloc))
+    }
+}
+
+/// Puts a session, and hands those that go to a closure.
 fn put_into<'a>(
     table: &mut Table<'a>,
     line: &mut Line<'a>,
-    handed: &mut Vec<(u64, u64, Value<'a>)>,
+    handed: &Handed<'a>,
     output: &mut Output<'a>,
 ) -> Result<Option<Value<'a>>, PutRefused<Value<'a>>> {
     let (id, weight) = (line.number(), line.number());
@@ -70,21 +92,18 @@ fn put_into<'a>(
     output.begin();
     let returned = table.put_with(id, weight, payload, move |id, weight, payload| {
         guard.hold();
-        let _ = handed.push((id, weight, payload));
+        handed.add(id, weight, payload);
     });
     output.end();
     returned
 }
 
 /// Appends what a put returned: the old payload, and those that were handed out.
-fn show_handed<'a>(
-    old: Option<Value<'a>>,
-    handed: Vec<(u64, u64, Value<'a>)>,
-    output: &mut Output<'a>,
-) {
+fn show_handed<'a>(old: Option<Value<'a>>, handed: &Handed<'a>, output: &mut Output<'a>) {
     output.show(&old);
     output.push_str("handed ");
-    show_sessions(handed.as_slice(), output);
+    let sessions = handed.take();
+    show_sessions(sessions.as_slice(), output);
 }
 
 fn put_with<'a>(
@@ -94,11 +113,15 @@ fn put_with<'a>(
     output: &mut Output<'a>,
 ) {
     output.end();
-    let Ok(mut handed) = Vec::with_capacity(alloc, table.len()) else {
+    let Ok(sessions) = Vec::with_capacity(alloc, table.len()) else {
         return output.note(Err::<(), _>(Stop::OutOfMemory));
     };
-    match put_into(table, line, &mut handed, output) {
-        Ok(old) => show_handed(old, handed, output),
+    let handed = Handed {
+        sessions: Cell::new(sessions),
+        alloc,
+    };
+    match put_into(table, line, &handed, output) {
+        Ok(old) => show_handed(old, &handed, output),
         Err(refused) => output.show_refused(refused),
     }
 }
