@@ -23,47 +23,23 @@ pub fn pair<K: Key, V: Value>(alloc: Global, number: u64) -> Result<(K, V), Allo
     Ok((key, V::value(alloc, number)?))
 }
 
-/// Inserts the pair of a number.
-fn insert<K: Key, V: Value>(alloc: Global, map: &mut Map<K, V>, number: u64) -> Result<(), Stop> {
-    let (key, value) = pair(alloc, number)?;
-    map.insert(key, value)?;
-    Ok(())
-}
-
-/// Inserts the pair of each number from `first` up to `end`.
-pub fn fill<K: Key, V: Value>(
-    alloc: Global,
-    map: &mut Map<K, V>,
-    first: u64,
-    end: u64,
-) -> Result<(), Stop> {
-    for number in first..end {
-        insert(alloc, map, number)?;
-    }
-    Ok(())
-}
-
-/// Makes a map of the first `PAIRS` pairs, whose capacity is raised one by one.
-pub fn filled<K: Key, V: Value>(alloc: Global) -> Result<Map<K, V>, Stop> {
-    let mut map = empty(alloc)?;
-    fill(alloc, &mut map, 0, PAIRS)?;
-    Ok(map)
-}
-
-/// Makes a list of the pairs from `first` up to `end`.
-pub fn list<K: Key, V: Value>(alloc: Global, first: u64, end: u64) -> Result<Vec<(K, V)>, Stop> {
+/// Makes a list of the first `PAIRS` pairs.
+pub fn list<K: Key, V: Value>(alloc: Global) -> Result<Vec<(K, V)>, Stop> {
     let mut pairs = Vec::new(alloc);
-    for number in first..end {
+    for number in 0..PAIRS {
         pairs.push(pair(alloc, number)?)?;
     }
     Ok(pairs)
 }
 
-/// Makes a list of the first `PAIRS` keys.
-pub fn keys<K: Key>(alloc: Global) -> Result<Vec<K>, Stop> {
-    let mut keys = Vec::new(alloc);
-    for number in 0..PAIRS {
-        keys.push(K::key(alloc, number)?)?;
-    }
-    Ok(keys)
+/// Inserts the first `PAIRS` pairs.
+pub fn fill<K: Key, V: Value>(alloc: Global, map: &mut Map<K, V>) -> Result<(), Stop> {
+    Ok(map.extend(list(alloc)?)?)
+}
+
+/// Makes a map of the first `PAIRS` pairs, whose capacity is raised one by one.
+pub fn filled<K: Key, V: Value>(alloc: Global) -> Result<Map<K, V>, Stop> {
+    let mut map = empty(alloc)?;
+    fill(alloc, &mut map)?;
+    Ok(map)
 }

@@ -1,52 +1,51 @@
-//! Calls that raise the capacity.
+//! Growths that are given their buckets and refused their nodes, since values are large.
 
-use super::filling::{Map, PAIRS, empty, fill, filled, list};
-use super::item::{Key, Value};
-use super::large::raise;
+use super::filling::Map;
+use super::hasher::BuildOwner;
+use super::item::Key;
 use super::stop::Stop;
-use super::sums::sum;
-use linked_hash_map::LIMIT;
+use linked_hash_map::LinkedHashMap;
 use std::alloc::Global;
+use std::mem;
 
-/// Raises the capacity one by one.
-fn one_by_one<K: Key, V: Value>(alloc: Global) -> Result<u64, Stop> {
-    let map: Map<K, V> = filled(alloc)?;
-    Ok(map.len() as u64)
+/// A value of 2^10 bytes.
+type Large = [u8; 1 << 10];
+
+/// How many nodes of large values take more memory than `scripts/programs` gives.
+const SEVERAL: usize = 1 << 13;
+
+/// A value of 2^30 bytes. A map of such values is never there: to drop it would take a local of
+/// that size.
+type Huge = [u8; 1 << 30];
+
+/// How many nodes of huge values take more than 2^47 bytes, which no allocator gives.
+const MANY: usize = 1 << 17;
+
+/// Raises the capacity of a map of one pair, and returns 1 if it is as high as was asked for, or
+/// if the growth is refused and changes nothing.
+fn raise<K: Key>(alloc: Global) -> Result<u64, Stop> {
+    let mut map: LinkedHashMap<K, Large> = LinkedHashMap::new(alloc);
+    map.insert(K::key(alloc, 0)?, [7; 1 << 10])?;
+    let wanted = match map.reserve(SEVERAL) {
+        Ok(()) => SEVERAL + 1,
+        Err(_) => 1,
+    };
+    Ok((map.len() == 1 && map.capacity() == wanted) as u64)
 }
 
-/// Raises the capacity at once, of an empty map and of a full one.
-fn at_once<K: Key, V: Value>(alloc: Global) -> Result<u64, Stop> {
-    let mut map: Map<K, V> = empty(alloc)?;
-    map.reserve(PAIRS as usize)?;
-    fill(alloc, &mut map, 0, PAIRS)?;
-    map.reserve(PAIRS as usize)?;
-    Ok(map.len() as u64)
+/// Creates a map with room, and returns 1 if that is refused.
+fn create<K: Key>(alloc: Global) -> Result<u64, Stop> {
+    let hasher = BuildOwner::new(alloc)?;
+    match Map::<K, Huge>::with_capacity_and_hasher(alloc, MANY, hasher) {
+        Ok(map) => {
+            mem::forget(map);
+            Ok(0)
+        }
+        Err(_) => Ok(1),
+    }
 }
 
-/// Extends a full map by its own keys, whose values are replaced, and by as many others.
-fn extended<K: Key, V: Value>(alloc: Global) -> Result<u64, Stop> {
-    let mut map: Map<K, V> = filled(alloc)?;
-    map.extend(list(alloc, 0, 2 * PAIRS)?)?;
-    Ok(map.len() as u64)
-}
-
-/// Asks a full map for more room than there can be, and returns how often that is refused.
-fn refused<K: Key, V: Value>(alloc: Global) -> Result<u64, Stop> {
-    let mut map: Map<K, V> = filled(alloc)?;
-    let above = map.reserve(LIMIT).is_err() as u64;
-    // This is within the limit, and the allocator refuses it.
-    let within = map.reserve(LIMIT / 2).is_err() as u64;
-    Ok(above + within)
-}
-
-/// Runs the part, and returns how many pairs it saw.
-pub fn run<K: Key, V: Value>(alloc: Global) -> Result<u64, Stop> {
-    let seen = [
-        one_by_one::<K, V>(alloc)?,
-        at_once::<K, V>(alloc)?,
-        extended::<K, V>(alloc)?,
-        refused::<K, V>(alloc)?,
-        raise::<K>(alloc)?,
-    ];
-    Ok(sum(&seen))
+/// Runs the part, and returns how many maps are as they should be.
+pub fn run<K: Key>(alloc: Global) -> Result<u64, Stop> {
+    Ok(raise::<K>(alloc)?.wrapping_add(create::<K>(alloc)?))
 }

@@ -9,7 +9,6 @@
 //! fails.
 #![tactic(auto)]
 
-mod changes;
 mod commands;
 mod draining;
 mod entries;
@@ -17,11 +16,8 @@ mod filling;
 mod growing;
 mod hasher;
 mod item;
-mod large;
 mod making;
-mod numbers;
 mod part;
-mod shrinking;
 mod stop;
 mod sums;
 mod tables;
@@ -65,20 +61,10 @@ fn run<K: Key, V: Value, W: Write>(
     Ok(())
 }
 
-/// Repeats the part that is for maps of numbers alone, and writes a line for it.
-fn run_numbers<W: Write>(alloc: Global, turns: u64, output: &mut W) -> Result<(), Stop> {
-    let mut seen: u64 = 0;
-    for _ in 0..turns {
-        seen = seen.wrapping_add(numbers::run(alloc)?);
-    }
-    write_line(output, "numbers", "copies", seen)
-}
-
 /// Repeats all parts.
 fn run_all<W: Write>(alloc: Global, turns: u64, output: &mut W) -> Result<(), Stop> {
     writeln!(output, "{turns} turns")?;
     run::<u64, u64, W>(alloc, "numbers", turns, output)?;
-    run_numbers(alloc, turns, output)?;
     run::<String, Vec<u8>, W>(alloc, "texts", turns, output)
 }
 

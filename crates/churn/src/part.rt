@@ -2,23 +2,19 @@
 
 use super::item::{Key, Value};
 use super::stop::Stop;
-use super::{changes, commands, draining, entries, growing, making, shrinking, tables};
+use super::{commands, draining, entries, growing, making, tables};
 use std::alloc::Global;
 
 /// A part of the program.
 #[derive(Clone, Copy)]
 pub enum Part {
-    /// Makes maps, by all calls that make one, and is refused some.
+    /// Makes maps with room, of a clone and of iterators, and is refused some.
     Making,
-    /// Raises capacities, with pairs and without.
+    /// Is refused the nodes of maps that have their buckets.
     Growing,
-    /// Lowers capacities, with pairs and without.
-    Shrinking,
-    /// Turns maps into iterators and drains them: whole, half-way and not at all.
+    /// Turns maps into iterators and drains them, half-way.
     Draining,
-    /// Replaces, removes and clears pairs.
-    Changes,
-    /// Goes by entries and by a cursor.
+    /// Drops vacant entries.
     Entries,
     /// Runs a list of commands.
     Commands,
@@ -28,12 +24,10 @@ pub enum Part {
 
 impl Part {
     /// All parts, in the order in which they are run.
-    pub const ALL: [Part; 8] = [
+    pub const ALL: [Part; 6] = [
         Part::Making,
         Part::Growing,
-        Part::Shrinking,
         Part::Draining,
-        Part::Changes,
         Part::Entries,
         Part::Commands,
         Part::Tables,
@@ -44,9 +38,7 @@ impl Part {
         match self {
             Part::Making => "making",
             Part::Growing => "growing",
-            Part::Shrinking => "shrinking",
             Part::Draining => "draining",
-            Part::Changes => "changes",
             Part::Entries => "entries",
             Part::Commands => "commands",
             Part::Tables => "tables",
@@ -57,10 +49,8 @@ impl Part {
     pub fn run<K: Key, V: Value>(self, alloc: Global) -> Result<u64, Stop> {
         match self {
             Part::Making => making::run::<K, V>(alloc),
-            Part::Growing => growing::run::<K, V>(alloc),
-            Part::Shrinking => shrinking::run::<K, V>(alloc),
+            Part::Growing => growing::run::<K>(alloc),
             Part::Draining => draining::run::<K, V>(alloc),
-            Part::Changes => changes::run::<K, V>(alloc),
             Part::Entries => entries::run::<K, V>(alloc),
             Part::Commands => commands::run::<K, V>(alloc),
             Part::Tables => tables::run::<V>(alloc),

@@ -7,7 +7,7 @@ use std::alloc::{AllocError, AllocFailed};
 use std::io;
 
 /// Why the program stops.
-#[derive(Clone, Copy, Debug)]
+#[derive(Clone, Copy)]
 pub enum Stop {
     /// Memory was refused.
     OutOfMemory,

@@ -8,12 +8,3 @@ pub fn sum(numbers: &[u64]) -> u64 {
     }
     sum
 }
-
-/// Returns the sum of the lengths.
-pub fn total(lens: &[usize]) -> u64 {
-    let mut total: u64 = 0;
-    for len in lens {
-        total = total.wrapping_add(*len as u64);
-    }
-    total
-}
