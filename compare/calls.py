@@ -4,6 +4,9 @@ import collections
 
 HASHERS = ("spread", "same", "letter", "wide")
 
+# The edits of an entry that the original has.
+EDITS = "witrmk"
+
 # The calls that leave most of a map, each with how often it comes and the forms of its words.
 MAP_CALLS = (
     ("insert", 30, "key value"),
@@ -159,6 +162,13 @@ NAMES = [kind.prefix + name for kind in KINDS
 MOST_AT_FIRST = 1000
 
 
+def is_of_originals(line):
+    """Tells whether the originals have the call of a line, and each edit that it makes."""
+    words = line.split()
+    edits = {"entry": words[3:4], "entries": words[2:3]}.get(words[0], [])
+    return words[0] in NAMES and set("".join(edits)) <= set(EDITS)
+
+
 class Drawing:
     """Draws runs on one kind over some number of keys."""
 
@@ -185,9 +195,9 @@ class Drawing:
         if form == "hasher":
             return rng.choice(HASHERS)
         if form == "edit":
-            return rng.choice("witrmk")
+            return rng.choice(EDITS)
         if form == "edits":
-            return "".join(rng.choice("witrmkk") for _ in range(rng.randrange(1, 7)))
+            return "".join(rng.choice(EDITS + "k") for _ in range(rng.randrange(1, 7)))
         if form == "steps":
             return "".join(rng.choice("fffbb") for _ in range(rng.randrange(1, 7)))
         if form == "forget":

@@ -1,15 +1,17 @@
 //! Keys of short text, compared and hashed without regard to ASCII case.
 
+use crate::counts::{Identity, Kind};
 use std::cmp::Ordering;
 use std::fmt;
 use std::hash::{Hash, Hasher};
 
 /// The first eight bytes of a text. Two keys are the same if they differ in case alone.
-#[derive(Clone, Copy)]
+#[derive(Clone)]
 pub struct Key {
     text: [u8; 8],
     /// The text in lower case, as one number.
     folded: u64,
+    _identity: Identity,
 }
 
 impl Key {
@@ -21,6 +23,15 @@ impl Key {
         Key {
             text: bytes,
             folded: u64::from_le_bytes(bytes.map(|byte| byte.to_ascii_lowercase())),
+            _identity: Identity::new(Kind::Key),
+        }
+    }
+
+    /// Makes another key of the same text.
+    pub fn again(&self) -> Key {
+        Key {
+            _identity: Identity::new(Kind::Key),
+            ..*self
         }
     }
 
