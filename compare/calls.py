@@ -5,7 +5,7 @@ import collections
 HASHERS = ("spread", "same", "letter", "wide")
 
 # The edits of an entry that the original has.
-EDITS = "witrmk"
+EDITS = "witrmko"
 
 # The calls that leave most of a map, each with how often it comes and the forms of its words.
 MAP_CALLS = (
@@ -26,6 +26,7 @@ MAP_CALLS = (
     ("reserve", 1, "value"),
     ("shrink_to_fit", 1, ""),
     ("extend", 2, "pairs"),
+    ("extend_trait", 1, "pairs"),
     ("swap", 1, ""),
     ("entry", 8, "key edit value"),
     ("entry_key", 1, "key"),
@@ -33,7 +34,7 @@ MAP_CALLS = (
     ("or_insert_with", 4, "key value"),
     ("or_default", 3, "key"),
     ("and_modify", 4, "key value"),
-    ("entries", 6, "edits value"),
+    ("entries", 6, "edits value forget"),
     ("iter", 3, "steps steps"),
     ("keys", 2, "steps steps"),
     ("values", 2, "steps steps"),
@@ -56,6 +57,7 @@ LONG_MAP_CALLS = (
 # Those after which little is left of a map, or all of it is another.
 RARE_MAP_CALLS = (
     ("clear", 2, ""),
+    ("drop", 2, ""),
     ("drain", 4, "steps forget"),
     ("into_iter", 3, "steps steps"),
     ("into_iter_forget", 1, "steps"),
@@ -63,6 +65,7 @@ RARE_MAP_CALLS = (
     ("with_hasher", 2, "hasher"),
     ("with_capacity", 2, "hasher value"),
     ("from_iter", 2, "pairs"),
+    ("collect", 1, "pairs"),
     ("extend_refs", 2, ""),
     ("extend_drain", 1, ""),
     ("clone", 3, ""),
@@ -94,6 +97,7 @@ LONG_CACHE_CALLS = (
 RARE_CACHE_CALLS = (
     ("with_hasher", 2, "hasher limit"),
     ("clear", 2, ""),
+    ("drop", 2, ""),
     ("drain", 2, "steps"),
     ("clone", 2, ""),
 )
@@ -139,11 +143,13 @@ RARE_SET_CALLS = (
     ("with_hasher", 2, "hasher"),
     ("with_capacity", 2, "hasher value"),
     ("from_iter", 2, "items"),
+    ("collect", 1, "items"),
     ("extend_refs", 2, ""),
     ("clone", 2, ""),
     ("retain", 2, "value"),
     ("drain", 2, "steps"),
     ("clear", 2, ""),
+    ("drop", 2, ""),
 )
 
 # A kind: what its calls begin with, the words of a new one, the form of what it takes in, and its

@@ -62,6 +62,13 @@ EXAMPLES["map"] = {
     ],
     "draining": ["insert a x 1", "insert a y 2", "drain a f", "len a"],
     "debug text": ["insert a x 1", "debug a", "debug_pretty a", "clone b", "debug b"],
+    "the end of a map": ["insert a x 1", "insert a y 2", "clone b", "drop a", "drop b", "drop b"],
+    "the traits of collections": [
+        "collect a x 1 y 2 X 3", "extend_trait a y 4 z 5", "iter a fff f",
+    ],
+    "entries that are forgotten": [
+        "insert a x 1", "entry a X o 2", "entry a y o 3", "entries a ow 4 forget", "clear a",
+    ],
 }
 
 EXAMPLES["cache"] = {
@@ -96,6 +103,7 @@ EXAMPLES["cache"] = {
         "cache_extend a 1 10 2 20 3 30", "cache_iter_mut a ff 200", "cache_get_mut a 2 200",
         "cache_get_mut a 3 300",
     ],
+    "the end of a cache": ["cache_extend a x 1 X 2 y 3", "cache_drop a", "cache_insert a x 4"],
 }
 
 EXAMPLES["set"] = {
@@ -120,6 +128,7 @@ EXAMPLES["set"] = {
         "set_extend a x y z", "set_to_front a y", "set_to_back a X", "set_to_front a w",
         "set_pop_back a", "set_pop_front a",
     ],
+    "the end of a set": ["set_collect a x y X", "set_drop a", "set_insert a x"],
 }
 
 # Lines with what each drops. The serial numbers of what its words make are told beside it.
