@@ -7,6 +7,10 @@ HASHERS = ("spread", "same", "letter", "wide")
 # The edits of an entry that the original has.
 EDITS = "witrmko"
 
+# The calls whose last word is for how many there is to be room, and up to where that is given.
+ROOM_CALLS = ("with_capacity", "reserve", "set_with_capacity", "set_reserve")
+MOST_ROOM = 1_000_000
+
 # The calls that leave most of a map, each with how often it comes and the forms of its words.
 MAP_CALLS = (
     ("insert", 30, "key value"),
@@ -67,6 +71,8 @@ RARE_MAP_CALLS = (
     ("from_iter", 2, "pairs"),
     ("collect", 1, "pairs"),
     ("extend_refs", 2, ""),
+    ("extend_copied_refs", 1, ""),
+    ("extend_trait_refs", 1, ""),
     ("extend_drain", 1, ""),
     ("clone", 3, ""),
 )
@@ -86,7 +92,7 @@ CACHE_CALLS = (
     ("extend", 3, "pairs"),
     ("iter", 2, "steps steps"),
     ("iter_mut", 2, "steps value"),
-    ("into_iter", 1, "steps"),
+    ("into_iter", 1, "steps forget"),
     ("new", 1, "value"),
 )
 LONG_CACHE_CALLS = (
@@ -98,7 +104,7 @@ RARE_CACHE_CALLS = (
     ("with_hasher", 2, "hasher limit"),
     ("clear", 2, ""),
     ("drop", 2, ""),
-    ("drain", 2, "steps"),
+    ("drain", 2, "steps forget"),
     ("clone", 2, ""),
 )
 
@@ -121,9 +127,10 @@ SET_CALLS = (
     ("len", 1, ""),
     ("reserve", 1, "value"),
     ("shrink_to_fit", 1, ""),
+    ("hasher", 1, ""),
     ("extend", 3, "items"),
     ("iter", 3, "steps steps"),
-    ("into_iter", 1, "steps"),
+    ("into_iter", 1, "steps forget"),
     ("is_subset", 2, ""),
     ("is_superset", 2, ""),
     ("is_disjoint", 2, ""),
@@ -132,10 +139,10 @@ SET_CALLS = (
     ("new", 1, "value"),
 )
 LONG_SET_CALLS = (
-    ("difference", 2, ""),
-    ("symmetric_difference", 2, ""),
-    ("intersection", 2, ""),
-    ("union", 2, ""),
+    ("difference", 2, "operation"),
+    ("symmetric_difference", 2, "operation"),
+    ("intersection", 2, "operation"),
+    ("union", 2, "operation"),
     ("loop", 1, ""),
     ("debug", 1, ""),
 )
@@ -147,7 +154,7 @@ RARE_SET_CALLS = (
     ("extend_refs", 2, ""),
     ("clone", 2, ""),
     ("retain", 2, "value"),
-    ("drain", 2, "steps"),
+    ("drain", 2, "steps forget"),
     ("clear", 2, ""),
     ("drop", 2, ""),
 )
@@ -169,10 +176,12 @@ MOST_AT_FIRST = 1000
 
 
 def is_of_originals(line):
-    """Tells whether the originals have the call of a line, and each edit that it makes."""
+    """Tells whether the originals have the call of a line, with each edit that it makes, and give
+    the room that it asks for."""
     words = line.split()
     edits = {"entry": words[3:4], "entries": words[2:3]}.get(words[0], [])
-    return words[0] in NAMES and set("".join(edits)) <= set(EDITS)
+    is_given = words[0] not in ROOM_CALLS or words[-1].isdigit() and int(words[-1]) <= MOST_ROOM
+    return words[0] in NAMES and set("".join(edits)) <= set(EDITS) and is_given
 
 
 class Drawing:
@@ -206,6 +215,8 @@ class Drawing:
             return "".join(rng.choice(EDITS + "k") for _ in range(rng.randrange(1, 7)))
         if form == "steps":
             return "".join(rng.choice("fffbb") for _ in range(rng.randrange(1, 7)))
+        if form == "operation":
+            return rng.choice(("", self.word("steps") + " " + self.word("steps")))
         if form == "forget":
             return rng.choice(("drop", "forget"))
         return self.many(form, rng.randrange(6))

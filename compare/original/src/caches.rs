@@ -2,7 +2,7 @@
 
 use crate::counts::{last_serial, set_last_serial, within};
 use crate::hasher::BuildKeyHasher;
-use crate::iterators::{iterate, iterate_and_clone, iterate_and_write, show_all};
+use crate::iterators::{iterate_and_clone, iterate_and_write, iterate_to_the_end, show_all};
 use crate::key::Key;
 use crate::line::Line;
 use crate::list::push_pairs;
@@ -72,13 +72,13 @@ macro_rules! define_run {
         ) -> Known {
             match name {
                 "with_hasher" => {
-                    let (hasher, limit) = (line.hasher(), line.small_number());
+                    let (hasher, limit) = (line.hasher(), line.size());
                     let new = within(|| $cache::with_hasher(limit, hasher));
                     *cache = new;
                 }
                 "remove_lru" => write!(text, "{:?} ", within(|| cache.remove_lru()))?,
                 "set_capacity" => {
-                    let limit = line.small_number();
+                    let limit = line.size();
                     within(|| cache.set_capacity(limit));
                 }
                 "len" => write!(text, "{} {} ", cache.len(), cache.is_empty())?,
@@ -88,7 +88,7 @@ macro_rules! define_run {
                     let dropped = std::mem::replace(cache, new);
                     within(|| drop(dropped));
                 }
-                "extend" | "extend_trait" => {
+                "extend" => {
                     let pairs = line.pairs();
                     within(|| cache.extend(pairs));
                 }
@@ -99,7 +99,7 @@ macro_rules! define_run {
                 "iter" => iterate_and_clone(cache.iter(), line, text)?,
                 "iter_mut" => iterate_and_write(cache.iter_mut(), line, text)?,
                 "into_iter" => {
-                    iterate(within(|| cache.clone().into_iter()), line.word(), text)?;
+                    iterate_to_the_end(within(|| cache.clone().into_iter()), line, text)?;
                 }
                 "loop" => show_all((&*cache).into_iter(), text)?,
                 "loop_mut" => {
@@ -167,7 +167,7 @@ fn run_by_others(
         "drain" => {
             // What is left of the vector is dropped as what is left of a drain is.
             let pairs: Vec<_> = std::iter::from_fn(|| cache.remove_lru()).collect();
-            iterate(pairs.into_iter(), line.word(), text)?;
+            iterate_to_the_end(pairs.into_iter(), line, text)?;
         }
         _ => return Ok(false),
     }
@@ -217,7 +217,7 @@ fn run_of_hashlink(
             let (key, value) = (line.key(), line.value());
             write_lent(within(|| cache.peek_mut(&key)), value, text)?;
         }
-        "drain" => iterate(Counted(within(|| cache.drain())), line.word(), text)?,
+        "drain" => iterate_to_the_end(Counted(within(|| cache.drain())), line, text)?,
         _ => return Ok(false),
     }
     Ok(true)

@@ -20,7 +20,7 @@ pub fn run(name: &str, line: &mut Line<'_>, map: &mut Map, text: &mut String) ->
         "pop_back" => write!(text, "{:?} ", within(|| map.pop_back()))?,
         "clear" => within(|| map.clear()),
         "reserve" => {
-            let count = line.small_number();
+            let count = line.size();
             within(|| map.reserve(count));
         }
         "shrink_to_fit" => within(|| map.shrink_to_fit()),

@@ -101,6 +101,28 @@ impl Guard {
     }
 }
 
+/// How often a closure was called, and how many keys and values the line had dropped at the last
+/// call.
+#[derive(Default)]
+pub struct Calls {
+    calls: Cell<u64>,
+    dropped: Cell<u64>,
+}
+
+impl Calls {
+    /// Notes a call.
+    pub fn note(&self) {
+        self.calls.set(self.calls.get() + 1);
+        let count = |kind: Kind| COUNTS.with(|counts| counts.dropped[kind as usize].get().count);
+        self.dropped.set(count(Kind::Key) + count(Kind::Value));
+    }
+
+    /// Appends both numbers.
+    pub fn show(&self, text: &mut String) -> Result {
+        write!(text, "{} {} ", self.calls.get(), self.dropped.get())
+    }
+}
+
 /// Returns the serial number that was given last.
 pub fn last_serial() -> u64 {
     COUNTS.with(|counts| counts.last_serial.get())

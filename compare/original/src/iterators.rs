@@ -31,7 +31,7 @@ fn make_steps<T: Debug>(
 }
 
 /// Iterates, and drops the iterator.
-pub fn iterate<T: Debug>(
+fn iterate<T: Debug>(
     mut items: impl DoubleEndedIterator<Item = T> + ExactSizeIterator,
     steps: &str,
     text: &mut String,
@@ -41,8 +41,20 @@ pub fn iterate<T: Debug>(
     Ok(())
 }
 
+/// Makes a step forwards for each letter, and appends what each gives.
+pub fn make_forward_steps<T: Debug>(
+    items: &mut impl Iterator<Item = T>,
+    steps: &str,
+    text: &mut String,
+) -> Result {
+    for _letter in steps.bytes() {
+        write!(text, "{:?} ", within(|| items.next()))?;
+    }
+    Ok(())
+}
+
 /// Iterates, and drops the iterator, or forgets it if the next word says so.
-pub fn iterate_or_forget<T: Debug>(
+pub fn iterate_to_the_end<T: Debug>(
     mut items: impl DoubleEndedIterator<Item = T> + ExactSizeIterator,
     line: &mut Line<'_>,
     text: &mut String,
@@ -118,7 +130,7 @@ pub fn run(name: &str, line: &mut Line<'_>, map: &mut Map, text: &mut String) ->
             make_steps(&mut pairs, line.word(), text)?;
             mem::forget(pairs);
         }
-        "drain" => iterate_or_forget(within(|| map.drain()), line, text)?,
+        "drain" => iterate_to_the_end(within(|| map.drain()), line, text)?,
         "loop" => show_all((&*map).into_iter(), text)?,
         "loop_mut" => {
             let number = line.number();

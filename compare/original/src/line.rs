@@ -49,9 +49,9 @@ impl<'a> Line<'a> {
         self.word().parse().unwrap_or(0)
     }
 
-    /// Returns the next word as a number below 1,000.
-    pub fn small_number(&mut self) -> usize {
-        (self.number() % 1000) as usize
+    /// Returns the next word as a size.
+    pub fn size(&mut self) -> usize {
+        self.number() as usize
     }
     /// Reads the pairs that are left.
     pub fn pairs(&mut self) -> Vec<(Key, Value)> {

@@ -5,6 +5,7 @@
 mod caches;
 mod changes;
 mod comparisons;
+mod copied;
 mod counts;
 mod entries;
 mod hasher;
@@ -72,7 +73,8 @@ fn run_on_map(
         || making::run(name, line, map, other, text)?
         || entries::run(name, line, map, text)?
         || iterators::run(name, line, map, text)?
-        || comparisons::run(name, line, map, other, text)?;
+        || comparisons::run(name, line, map, other, text)?
+        || copied::run(name, map, other, text)?;
     if known {
         list::push_pairs(map.iter(), text)?;
     }

@@ -14,7 +14,7 @@ fn new(name: &str, line: &mut Line<'_>, other: &Map) -> Option<Map> {
             within(|| Map::with_hasher(hasher))
         }
         "with_capacity" => {
-            let (hasher, capacity) = (line.hasher(), line.small_number());
+            let (hasher, capacity) = (line.hasher(), line.size());
             within(|| Map::with_capacity_and_hasher(capacity, hasher))
         }
         "default" => within(Map::default),

@@ -1,8 +1,8 @@
 //! Calls of a set, made on hashlink 0.8.0.
 
-use crate::counts::{within, Guard};
+use crate::counts::{within, Calls, Guard};
 use crate::hasher::BuildKeyHasher;
-use crate::iterators::{iterate, iterate_and_clone};
+use crate::iterators::{iterate_and_clone, iterate_to_the_end, make_forward_steps};
 use crate::key::Key;
 use crate::line::Line;
 use crate::list::push_items;
@@ -22,6 +22,23 @@ fn show_all<'s>(items: impl Iterator<Item = &'s Key>, text: &mut String) -> Resu
     Ok(())
 }
 
+/// Appends all items of an iterator, or makes the steps of the words, if there are any: then by a
+/// clone and by the iterator itself.
+fn show_steps<'s>(
+    mut items: impl Iterator<Item = &'s Key> + Clone,
+    line: &mut Line<'_>,
+    text: &mut String,
+) -> Result {
+    let (first, steps) = (line.word(), line.word());
+    if first.is_empty() {
+        return show_all(items, text);
+    }
+    make_forward_steps(&mut items, first, text)?;
+    make_forward_steps(&mut items.clone(), steps, text)?;
+    write!(text, "/ ")?;
+    make_forward_steps(&mut items, steps, text)
+}
+
 /// Makes a set with the default hasher, inserts a number twice, and shows it.
 fn show_new(number: u64, text: &mut String) -> Result {
     let mut set = hashlink::LinkedHashSet::new();
@@ -37,7 +54,7 @@ fn new(name: &str, line: &mut Line<'_>, other: &Set) -> Option<Set> {
             within(|| Set::with_hasher(hasher))
         }
         "with_capacity" => {
-            let (hasher, capacity) = (line.hasher(), line.small_number());
+            let (hasher, capacity) = (line.hasher(), line.size());
             within(|| Set::with_capacity_and_hasher(capacity, hasher))
         }
         "from_iter" | "collect" => {
@@ -53,7 +70,7 @@ fn new(name: &str, line: &mut Line<'_>, other: &Set) -> Option<Set> {
 fn make(name: &str, line: &mut Line<'_>, set: &mut Set, other: &Set, text: &mut String) -> Known {
     match name {
         "new" => show_new(line.number(), text)?,
-        "extend" | "extend_trait" => {
+        "extend" => {
             let items = line.items();
             within(|| set.extend(items));
         }
@@ -119,10 +136,16 @@ fn run_by_key(name: &str, line: &mut Line<'_>, set: &mut Set, text: &mut String)
 }
 
 /// Keeps the items that, as numbers, are not this number modulo 7.
-fn retain(set: &mut Set, number: u64) {
+fn retain(set: &mut Set, number: u64, text: &mut String) -> Result {
     let guard = Guard::new();
-    let is_kept = move |item: &Key| guard.with(|| item.number() % 7 != number % 7);
+    let calls = Calls::default();
+    let noted = &calls;
+    let is_kept = move |item: &Key| {
+        noted.note();
+        guard.with(|| item.number() % 7 != number % 7)
+    };
     within(|| set.retain(is_kept));
+    calls.show(text)
 }
 
 /// Runs the call of this name on a whole set, and tells whether there is one.
@@ -136,19 +159,20 @@ fn run_on_all(name: &str, line: &mut Line<'_>, set: &mut Set, text: &mut String)
         "clear" => within(|| set.clear()),
         // With items it panics, since it hashes them by a hasher that is never to be called.
         "reserve" if set.is_empty() => {
-            let count = line.small_number();
+            let count = line.size();
             within(|| set.reserve(count));
         }
         "reserve" => {}
         "shrink_to_fit" => within(|| set.shrink_to_fit()),
+        "hasher" => write!(text, "{:?} ", set.hasher())?,
         "drop" => {
             let dropped = mem::take(set);
             within(|| drop(dropped));
         }
-        "retain" => retain(set, line.number()),
+        "retain" => retain(set, line.number(), text)?,
         "iter" => iterate_and_clone(set.iter(), line, text)?,
-        "drain" => iterate(within(|| set.drain()), line.word(), text)?,
-        "into_iter" => iterate(within(|| set.clone().into_iter()), line.word(), text)?,
+        "drain" => iterate_to_the_end(within(|| set.drain()), line, text)?,
+        "into_iter" => iterate_to_the_end(within(|| set.clone().into_iter()), line, text)?,
         "loop" => show_all((&*set).into_iter(), text)?,
         "debug" => write!(text, "{set:?} ")?,
         _ => return Ok(false),
@@ -164,12 +188,18 @@ fn hash_of(set: &Set) -> u64 {
 }
 
 /// Runs the call of this name on two sets, and tells whether there is one.
-fn run_on_both(name: &str, set: &Set, other: &Set, text: &mut String) -> Known {
+fn run_on_both(
+    name: &str,
+    line: &mut Line<'_>,
+    set: &Set,
+    other: &Set,
+    text: &mut String,
+) -> Known {
     match name {
-        "difference" => show_all(set.difference(other), text)?,
-        "symmetric_difference" => show_all(set.symmetric_difference(other), text)?,
-        "intersection" => show_all(set.intersection(other), text)?,
-        "union" => show_all(set.union(other), text)?,
+        "difference" => show_steps(set.difference(other), line, text)?,
+        "symmetric_difference" => show_steps(set.symmetric_difference(other), line, text)?,
+        "intersection" => show_steps(set.intersection(other), line, text)?,
+        "union" => show_steps(set.union(other), line, text)?,
         "is_subset" => write!(text, "{} ", set.is_subset(other))?,
         "is_superset" => write!(text, "{} ", set.is_superset(other))?,
         "is_disjoint" => write!(text, "{} ", set.is_disjoint(other))?,
@@ -193,7 +223,7 @@ pub fn run(
         || run_by_given(name, line, set, text)?
         || run_by_key(name, line, set, text)?
         || run_on_all(name, line, set, text)?
-        || run_on_both(name, set, other, text)?;
+        || run_on_both(name, line, set, other, text)?;
     if known {
         push_items(set.iter(), text)?;
     }
