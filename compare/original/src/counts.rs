@@ -37,8 +37,8 @@ thread_local! {
     static COUNTS: Counts = Counts::default();
 }
 
-/// What tells an object from all others of the run, and counts its drop. What no word made has the
-/// serial number 0, and is not counted.
+/// What tells an object from all others of the run, and counts its drop. What is made by default has
+/// the serial number 0, and is not counted.
 pub struct Identity {
     kind: Kind,
     serial: u64,
