@@ -7,6 +7,13 @@ HASHERS = ("spread", "same", "letter", "wide")
 # One that the originals do not have: the first letter in the upper bits of the hash.
 OWN_HASHERS = ("high",)
 
+# The edits of an entry that the original has.
+EDITS = "witrmko"
+
+# The calls whose last word is for how many there is to be room, and up to where that is given.
+ROOM_CALLS = ("with_capacity", "reserve", "set_with_capacity", "set_reserve")
+MOST_ROOM = 1_000_000
+
 # The calls that leave most of a map, each with how often it comes and the forms of its words.
 MAP_CALLS = (
     ("insert", 30, "key value"),
@@ -26,6 +33,7 @@ MAP_CALLS = (
     ("reserve", 1, "room"),
     ("shrink_to_fit", 1, ""),
     ("extend", 2, "pairs"),
+    ("extend_trait", 1, "pairs"),
     ("swap", 1, ""),
     ("entry", 8, "key edit value"),
     ("entry_key", 1, "key"),
@@ -33,7 +41,7 @@ MAP_CALLS = (
     ("or_insert_with", 4, "key value"),
     ("or_default", 3, "key"),
     ("and_modify", 4, "key value"),
-    ("entries", 6, "edits value"),
+    ("entries", 6, "edits value forget"),
     ("iter", 3, "steps steps"),
     ("keys", 2, "steps steps"),
     ("values", 2, "steps steps"),
@@ -56,6 +64,7 @@ LONG_MAP_CALLS = (
 # Those after which little is left of a map, or all of it is another.
 RARE_MAP_CALLS = (
     ("clear", 2, ""),
+    ("drop", 2, ""),
     ("drain", 4, "steps forget"),
     ("into_iter", 3, "steps steps"),
     ("into_iter_forget", 1, "steps"),
@@ -63,7 +72,10 @@ RARE_MAP_CALLS = (
     ("with_hasher", 2, "hasher"),
     ("with_capacity", 2, "hasher room"),
     ("from_iter", 2, "pairs"),
+    ("collect", 1, "pairs"),
     ("extend_refs", 2, ""),
+    ("extend_copied_refs", 1, ""),
+    ("extend_trait_refs", 1, ""),
     ("extend_drain", 1, ""),
     ("clone", 3, ""),
 )
@@ -94,9 +106,6 @@ OWN_MAP_CALLS = (
     ("or_insert_with_key", 3, "key value"),
     ("or_insert_with_box", 3, "key value"),
     ("entry_replace_key", 4, "key key"),
-    ("extend_trait", 1, "pairs"),
-    ("extend_copied_refs", 1, ""),
-    ("extend_trait_refs", 1, ""),
     ("fill", 3, "numbers map_fill"),
     ("replay", 4, "commands"),
     ("pair_lists", 1, "pairs"),
@@ -107,11 +116,9 @@ OWN_MAP_CALLS = (
 RARE_OWN_MAP_CALLS = (
     ("into_keys", 2, "steps forget"),
     ("into_values", 2, "steps forget"),
-    ("collect", 2, "pairs"),
     ("from_iter_unhinted", 2, "pairs"),
     ("emptied", 2, ""),
     ("made_with", 1, ""),
-    ("drop", 2, ""),
 )
 
 # Those of a cache.
@@ -129,7 +136,7 @@ CACHE_CALLS = (
     ("extend", 3, "pairs"),
     ("iter", 2, "steps steps"),
     ("iter_mut", 2, "steps value"),
-    ("into_iter", 1, "steps"),
+    ("into_iter", 1, "steps forget"),
     ("new", 1, "value"),
 )
 LONG_CACHE_CALLS = (
@@ -140,7 +147,8 @@ LONG_CACHE_CALLS = (
 RARE_CACHE_CALLS = (
     ("with_hasher", 2, "hasher limit"),
     ("clear", 2, ""),
-    ("drain", 2, "steps"),
+    ("drop", 2, ""),
+    ("drain", 2, "steps forget"),
     ("clone", 2, ""),
 )
 OWN_CACHE_CALLS = (
@@ -151,11 +159,7 @@ OWN_CACHE_CALLS = (
     ("fill", 2, "numbers cache_fill"),
     ("replay", 3, "cache_commands"),
 )
-RARE_OWN_CACHE_CALLS = (
-    ("drain", 1, "steps forget"),
-    ("into_iter", 1, "steps forget"),
-    ("drop", 1, ""),
-)
+RARE_OWN_CACHE_CALLS = ()
 
 # Those of a set.
 SET_CALLS = (
@@ -176,9 +180,10 @@ SET_CALLS = (
     ("len", 1, ""),
     ("reserve", 1, "room"),
     ("shrink_to_fit", 1, ""),
+    ("hasher", 1, ""),
     ("extend", 3, "items"),
     ("iter", 3, "steps steps"),
-    ("into_iter", 1, "steps"),
+    ("into_iter", 1, "steps forget"),
     ("is_subset", 2, ""),
     ("is_superset", 2, ""),
     ("is_disjoint", 2, ""),
@@ -187,10 +192,10 @@ SET_CALLS = (
     ("new", 1, "value"),
 )
 LONG_SET_CALLS = (
-    ("difference", 2, ""),
-    ("symmetric_difference", 2, ""),
-    ("intersection", 2, ""),
-    ("union", 2, ""),
+    ("difference", 2, "operation"),
+    ("symmetric_difference", 2, "operation"),
+    ("intersection", 2, "operation"),
+    ("union", 2, "operation"),
     ("loop", 1, ""),
     ("debug", 1, ""),
 )
@@ -198,32 +203,25 @@ RARE_SET_CALLS = (
     ("with_hasher", 2, "hasher"),
     ("with_capacity", 2, "hasher room"),
     ("from_iter", 2, "items"),
+    ("collect", 1, "items"),
     ("extend_refs", 2, ""),
     ("clone", 2, ""),
     ("retain", 2, "value"),
-    ("drain", 2, "steps"),
+    ("drain", 2, "steps forget"),
     ("clear", 2, ""),
+    ("drop", 2, ""),
 )
 OWN_SET_CALLS = (
     ("insert_if_absent", 6, "key"),
     ("refresh", 4, "key"),
-    ("difference", 2, "steps steps"),
-    ("symmetric_difference", 2, "steps steps"),
-    ("intersection", 2, "steps steps"),
-    ("union", 2, "steps steps"),
     ("capacity", 1, ""),
-    ("hasher", 1, ""),
     ("fill", 2, "numbers set_fill"),
     ("new_with_capacity", 1, "room value"),
     ("refused_texts", 1, "key"),
 )
 RARE_OWN_SET_CALLS = (
-    ("drain", 2, "steps forget"),
-    ("into_iter", 1, "steps forget"),
-    ("collect", 2, "items"),
     ("emptied", 1, ""),
     ("made_with", 1, ""),
-    ("drop", 1, ""),
 )
 
 # Those of a table of sessions, which no original has.
@@ -275,6 +273,15 @@ def key_of(number):
     return "abcdefghijklmnopqrstuvwxyz"[number % 26] + str(number)
 
 
+def is_of_originals(line):
+    """Tells whether the originals have the call of a line, with each edit that it makes, and give
+    the room that it asks for."""
+    words = line.split()
+    edits = {"entry": words[3:4], "entries": words[2:3]}.get(words[0], [])
+    is_given = words[0] not in ROOM_CALLS or words[-1].isdigit() and int(words[-1]) <= MOST_ROOM
+    return words[0] in NAMES and set("".join(edits)) <= set(EDITS) and is_given
+
+
 class Drawing:
     """Draws runs on one kind over some number of keys."""
 
@@ -301,11 +308,13 @@ class Drawing:
         if form == "hasher":
             return rng.choice(HASHERS)
         if form == "edit":
-            return rng.choice("witrmk")
+            return rng.choice(EDITS)
         if form == "edits":
-            return "".join(rng.choice("witrmkk") for _ in range(rng.randrange(1, 7)))
+            return "".join(rng.choice(EDITS + "k") for _ in range(rng.randrange(1, 7)))
         if form == "steps":
             return "".join(rng.choice("fffbb") for _ in range(rng.randrange(1, 7)))
+        if form == "operation":
+            return rng.choice(("", self.word("steps") + " " + self.word("steps")))
         if form == "forget":
             return rng.choice(("drop", "forget"))
         return self.many(form, rng.randrange(6))

@@ -1,4 +1,5 @@
-"""The examples of the originals' documentation and of this repository's, as calls."""
+"""The examples of the originals' documentation and of this repository's, as calls, and a run of
+which every drop is told."""
 
 # New maps, caches of two pairs and sets, for an example.
 FIRST = {
@@ -61,6 +62,13 @@ EXAMPLES["map"] = {
     ],
     "draining": ["insert a x 1", "insert a y 2", "drain a f", "len a"],
     "debug text": ["insert a x 1", "debug a", "debug_pretty a", "clone b", "debug b"],
+    "the end of a map": ["insert a x 1", "insert a y 2", "clone b", "drop a", "drop b", "drop b"],
+    "the traits of collections": [
+        "collect a x 1 y 2 X 3", "extend_trait a y 4 z 5", "iter a fff f",
+    ],
+    "entries that are forgotten": [
+        "insert a x 1", "entry a X o 2", "entry a y o 3", "entries a ow 4 forget", "clear a",
+    ],
 }
 
 EXAMPLES["cache"] = {
@@ -95,6 +103,7 @@ EXAMPLES["cache"] = {
         "cache_extend a 1 10 2 20 3 30", "cache_iter_mut a ff 200", "cache_get_mut a 2 200",
         "cache_get_mut a 3 300",
     ],
+    "the end of a cache": ["cache_extend a x 1 X 2 y 3", "cache_drop a", "cache_insert a x 4"],
 }
 
 EXAMPLES["set"] = {
@@ -119,4 +128,50 @@ EXAMPLES["set"] = {
         "set_extend a x y z", "set_to_front a y", "set_to_back a X", "set_to_front a w",
         "set_pop_back a", "set_pop_front a",
     ],
+    "the end of a set": ["set_collect a x y X", "set_drop a", "set_insert a x"],
 }
+
+# Lines with what each drops. The serial numbers of what its words make are told beside it.
+DROPS = (
+    ("with_hasher a spread", ""),                                   # 1
+    ("insert a x 1", ""),                                           # 2, 3
+    ("insert a X 2", "drop-keys 1:4"),                              # 4, 5
+    ("remove a x", "drop-keys 1:2"),                                # 6
+    ("insert a y 3", ""),                                           # 7, 8
+    ("clear a", "drop-keys 1:7 drop-values 1:8"),
+    ("insert a z 1", ""),                                           # 9, 10
+    ("entry a z i 5", "drop-keys 1:11"),                            # 11, 12
+    ("entry a w k 5", "drop-keys 1:13"),                            # 13, 14
+    ("entry a w o 6", ""),                                          # 15, 16
+    ("or_insert a z 8", "drop-keys 1:17 drop-values 1:18"),         # 17, 18
+    # The closures have the serial numbers after those of the words.
+    ("or_insert_with a z 9", "drop-keys 1:19 drop-values 1:20 drop-closures 1:21"),
+    ("or_insert_with a v 9", "drop-closures 1:24"),                 # 22, 23
+    # The 0 that is inserted if the key is absent has the one after that.
+    ("and_modify a v 10", "drop-keys 1:25 drop-values 2:51 drop-closures 1:27"),
+    ("and_modify a u 10", "drop-values 1:30 drop-closures 1:31"),   # 29, 30
+    ("entries a kr 4", "drop-keys 1:22"),                           # 33
+    # Above those of the originals by 2^32 are those of the clones.
+    ("clone b", ""),
+    ("drop b", "drop-keys 2:8589934630 drop-values 2:8589934636 drop-hashers 1:4294967297"),
+    ("drain a f", "drop-keys 1:29 drop-values 1:32"),
+    ("drop a", "drop-hashers 1:1"),
+    ("# caches and sets", ""),
+    ("cache_with_hasher a same 1", ""),                             # 34
+    ("cache_insert a x 1", ""),                                     # 35, 36
+    ("cache_insert a y 2", "drop-keys 1:35 drop-values 1:36"),      # 37, 38
+    ("cache_insert a Y 3", "drop-keys 1:39"),                       # 39, 40
+    ("cache_extend a x 1 y 2", "drop-keys 2:78 drop-values 2:82"),  # 41, 42, 43, 44
+    ("cache_into_iter a b", "drop-hashers 1:4294967330"),
+    ("cache_drain a", "drop-keys 1:43 drop-values 1:44"),
+    ("cache_drop a", "drop-hashers 1:34"),
+    ("set_extend a x y Z", ""),                                     # 45, 46, 47
+    ("set_insert a z", "drop-keys 1:48"),
+    ("set_replace a z", ""),                                        # 49
+    ("set_get_or_insert a X", "drop-keys 1:50"),
+    ("set_get_or_insert_with a x", "drop-closures 1:52"),           # 51
+    # The closure makes one more.
+    ("set_get_or_insert_with a v", "drop-closures 1:54"),           # 53
+    ("set_retain a 3", "drop-keys 1:55 drop-closures 1:56"),
+    ("set_drain a f", "drop-keys 2:94"),
+)

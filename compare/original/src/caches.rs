@@ -1,18 +1,19 @@
 //! Calls of a cache, each made on lru-cache 0.1.2 and on hashlink 0.8.0.
 
+use crate::counts::{last_serial, set_last_serial, within};
 use crate::hasher::BuildKeyHasher;
-use crate::iterators::{iterate, iterate_and_clone, iterate_and_write};
+use crate::iterators::{iterate_and_clone, iterate_and_write, iterate_to_the_end, show_all};
 use crate::key::Key;
 use crate::line::Line;
 use crate::list::push_pairs;
 use crate::lookups::write_lent;
-use crate::making::{hasher, pairs};
+use crate::value::Value;
 use crate::Known;
 use std::fmt::Write;
 
-type LruCache = lru_cache::LruCache<Key, u64, BuildKeyHasher>;
+type LruCache = lru_cache::LruCache<Key, Value, BuildKeyHasher>;
 
-type Hashlink = hashlink::LruCache<Key, u64, BuildKeyHasher>;
+type Hashlink = hashlink::LruCache<Key, Value, BuildKeyHasher>;
 
 /// A cache of each of the two crates.
 pub struct Cache {
@@ -22,10 +23,9 @@ pub struct Cache {
 
 impl Default for Cache {
     fn default() -> Cache {
-        let hasher = BuildKeyHasher::default();
         Cache {
-            lru_cache: LruCache::with_hasher(0, hasher),
-            hashlink: Hashlink::with_hasher(0, hasher),
+            lru_cache: LruCache::with_hasher(0, BuildKeyHasher::default()),
+            hashlink: Hashlink::with_hasher(0, BuildKeyHasher::default()),
         }
     }
 }
@@ -33,7 +33,36 @@ impl Default for Cache {
 /// Defines the function that runs a call on the cache of a crate, and appends its limit and list.
 /// A call that lru-cache does not have is run by another function.
 macro_rules! define_run {
-    ($run:ident, $cache:ident, $package:ident, $run_other:ident) => {
+    ($run:ident, $cache:ident, $package:ident, $run_by_key:ident, $run_other:ident) => {
+        /// Runs the call of this name by a key, and tells whether there is one.
+        fn $run_by_key(
+            name: &str,
+            line: &mut Line<'_>,
+            cache: &mut $cache,
+            text: &mut String,
+        ) -> Known {
+            match name {
+                "insert" => {
+                    let (key, value) = (line.key(), line.value());
+                    write!(text, "{:?} ", within(|| cache.insert(key, value)))?;
+                }
+                "get_mut" => {
+                    let (key, value) = (line.key(), line.value());
+                    write_lent(within(|| cache.get_mut(&key)), value, text)?;
+                }
+                "contains_key" => {
+                    let key = line.key();
+                    write!(text, "{} ", within(|| cache.contains_key(&key)))?;
+                }
+                "remove" => {
+                    let key = line.key();
+                    write!(text, "{:?} ", within(|| cache.remove(&key)))?;
+                }
+                _ => return $run_other(name, line, cache, text),
+            }
+            Ok(true)
+        }
+
         fn $run(
             name: &str,
             line: &mut Line<'_>,
@@ -43,33 +72,40 @@ macro_rules! define_run {
         ) -> Known {
             match name {
                 "with_hasher" => {
-                    let hasher = hasher(line);
-                    *cache = $cache::with_hasher(line.small_number(), hasher);
+                    let (hasher, limit) = (line.hasher(), line.size());
+                    let new = within(|| $cache::with_hasher(limit, hasher));
+                    *cache = new;
                 }
-                "insert" => write!(text, "{:?} ", cache.insert(line.key(), line.number()))?,
-                "get_mut" => write_lent(cache.get_mut(&line.key()), line.number(), text)?,
-                "contains_key" => write!(text, "{} ", cache.contains_key(&line.key()))?,
-                "remove" => write!(text, "{:?} ", cache.remove(&line.key()))?,
-                "remove_lru" => write!(text, "{:?} ", cache.remove_lru())?,
-                "set_capacity" => cache.set_capacity(line.small_number()),
+                "remove_lru" => write!(text, "{:?} ", within(|| cache.remove_lru()))?,
+                "set_capacity" => {
+                    let limit = line.size();
+                    within(|| cache.set_capacity(limit));
+                }
                 "len" => write!(text, "{} {} ", cache.len(), cache.is_empty())?,
-                "clear" => cache.clear(),
-                "extend" => cache.extend(pairs(line)),
-                "clone" => *cache = other.clone(),
+                "clear" => within(|| cache.clear()),
+                "drop" => {
+                    let new = $cache::with_hasher(0, BuildKeyHasher::default());
+                    let dropped = std::mem::replace(cache, new);
+                    within(|| drop(dropped));
+                }
+                "extend" => {
+                    let pairs = line.pairs();
+                    within(|| cache.extend(pairs));
+                }
+                "clone" => {
+                    let copy = within(|| other.clone());
+                    *cache = copy;
+                }
                 "iter" => iterate_and_clone(cache.iter(), line, text)?,
-                "iter_mut" => {
-                    iterate_and_write(cache.iter_mut(), line.word(), line.number(), text)?;
+                "iter_mut" => iterate_and_write(cache.iter_mut(), line, text)?,
+                "into_iter" => {
+                    iterate_to_the_end(within(|| cache.clone().into_iter()), line, text)?;
                 }
-                "into_iter" => iterate(&mut cache.clone().into_iter(), line.word(), text)?,
-                "loop" => {
-                    for (key, value) in &*cache {
-                        write!(text, "{key:?}={value} ")?;
-                    }
-                }
+                "loop" => show_all((&*cache).into_iter(), text)?,
                 "loop_mut" => {
                     let number = line.number();
                     for (_key, value) in &mut *cache {
-                        *value = value.wrapping_add(number);
+                        value.add(number);
                     }
                 }
                 "debug" => write!(text, "{cache:?} ")?,
@@ -79,7 +115,7 @@ macro_rules! define_run {
                     write!(text, "{new:?} ")?;
                 }
                 _ => {
-                    if !$run_other(name, line, cache, text)? {
+                    if !$run_by_key(name, line, cache, text)? {
                         return Ok(false);
                     }
                 }
@@ -91,8 +127,20 @@ macro_rules! define_run {
     };
 }
 
-define_run!(run_on_lru_cache, LruCache, lru_cache, run_by_others);
-define_run!(run_on_hashlink, Hashlink, hashlink, run_of_hashlink);
+define_run!(
+    run_on_lru_cache,
+    LruCache,
+    lru_cache,
+    run_by_key_on_lru_cache,
+    run_by_others
+);
+define_run!(
+    run_on_hashlink,
+    Hashlink,
+    hashlink,
+    run_by_key_on_hashlink,
+    run_of_hashlink
+);
 
 /// Runs a call of hashlink on lru-cache, by calls that it has.
 fn run_by_others(
@@ -102,26 +150,52 @@ fn run_by_others(
     text: &mut String,
 ) -> Known {
     match name {
-        "get" => write!(text, "{:?} ", cache.get_mut(&line.key()))?,
+        "get" => {
+            let key = line.key();
+            write!(text, "{:?} ", within(|| cache.get_mut(&key)))?;
+        }
         "peek" => {
             let key = line.key();
-            let pair = cache.iter().find(|pair| *pair.0 == key);
+            let pair = within(|| cache.iter().find(|pair| *pair.0 == key));
             write!(text, "{:?} ", pair.map(|pair| pair.1))?;
         }
         "peek_mut" => {
-            let key = line.key();
-            let pair = cache.iter_mut().find(|pair| *pair.0 == key);
-            write_lent(pair.map(|pair| pair.1), line.number(), text)?;
+            let (key, value) = (line.key(), line.value());
+            let pair = within(|| cache.iter_mut().find(|pair| *pair.0 == key));
+            write_lent(pair.map(|pair| pair.1), value, text)?;
         }
         "drain" => {
-            let mut pairs = cache.clone().into_iter();
-            cache.clear();
-            iterate(&mut pairs, line.word(), text)?;
+            // What is left of the vector is dropped as what is left of a drain is.
+            let pairs: Vec<_> = std::iter::from_fn(|| cache.remove_lru()).collect();
+            iterate_to_the_end(pairs.into_iter(), line, text)?;
         }
         _ => return Ok(false),
     }
     Ok(true)
 }
+
+/// An iterator that has no `len` of its own.
+struct Counted<I>(I);
+
+impl<I: Iterator> Iterator for Counted<I> {
+    type Item = I::Item;
+
+    fn next(&mut self) -> Option<I::Item> {
+        self.0.next()
+    }
+
+    fn size_hint(&self) -> (usize, Option<usize>) {
+        self.0.size_hint()
+    }
+}
+
+impl<I: DoubleEndedIterator> DoubleEndedIterator for Counted<I> {
+    fn next_back(&mut self) -> Option<I::Item> {
+        self.0.next_back()
+    }
+}
+
+impl<I: Iterator> ExactSizeIterator for Counted<I> {}
 
 /// Runs a call that only hashlink has.
 fn run_of_hashlink(
@@ -131,14 +205,19 @@ fn run_of_hashlink(
     text: &mut String,
 ) -> Known {
     match name {
-        "get" => write!(text, "{:?} ", cache.get(&line.key()))?,
-        "peek" => write!(text, "{:?} ", cache.peek(&line.key()))?,
-        "peek_mut" => write_lent(cache.peek_mut(&line.key()), line.number(), text)?,
-        "drain" => {
-            // The iterator itself has no `len`.
-            let pairs: Vec<_> = cache.drain().collect();
-            iterate(&mut pairs.into_iter(), line.word(), text)?;
+        "get" => {
+            let key = line.key();
+            write!(text, "{:?} ", within(|| cache.get(&key)))?;
         }
+        "peek" => {
+            let key = line.key();
+            write!(text, "{:?} ", within(|| cache.peek(&key)))?;
+        }
+        "peek_mut" => {
+            let (key, value) = (line.key(), line.value());
+            write_lent(within(|| cache.peek_mut(&key)), value, text)?;
+        }
+        "drain" => iterate_to_the_end(Counted(within(|| cache.drain())), line, text)?,
         _ => return Ok(false),
     }
     Ok(true)
@@ -158,7 +237,10 @@ pub fn run(
     let (one, other_one) = (&mut cache.lru_cache, &other.lru_cache);
     let (two, other_two) = (&mut cache.hashlink, &other.hashlink);
     let begin = text.len();
+    // The words of the line are the same objects for both.
+    let serial = last_serial();
     let known = run_on_lru_cache(name, line, one, other_one, text)?;
+    set_last_serial(serial);
     run_on_hashlink(name, &mut same_line, two, other_two, &mut by_hashlink)?;
     if text[begin..] != by_hashlink {
         text.truncate(text.trim_end().len());

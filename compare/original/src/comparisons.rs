@@ -1,6 +1,6 @@
 //! Calls that compare two maps, hash one or show it.
 
-use crate::hasher::{BuildKeyHasher, Choice};
+use crate::hasher::BuildKeyHasher;
 use crate::line::Line;
 use crate::{Known, Map};
 use linked_hash_map::LinkedHashMap;
@@ -14,7 +14,7 @@ type Plain = LinkedHashMap<u64, u64>;
 fn plain(map: &Map) -> Plain {
     let mut plain = Plain::with_capacity(map.len());
     for (key, value) in map.iter() {
-        plain.insert(key.number(), *value);
+        plain.insert(key.number(), value.number);
     }
     plain
 }
@@ -39,10 +39,9 @@ fn partial_compare<M: PartialOrd>(map: &M, other: &M, text: &mut String) -> std:
     write!(text, "{} {} ", *map > *other, *map >= *other)
 }
 
-/// Returns the hash that a hasher gives a map.
+/// Returns the hash that the default hasher gives a map.
 fn hash_of(map: &Map) -> u64 {
-    let choice = Choice::Spread;
-    let mut hasher = BuildKeyHasher { choice }.build_hasher();
+    let mut hasher = BuildKeyHasher::default().build_hasher();
     map.hash(&mut hasher);
     hasher.finish()
 }

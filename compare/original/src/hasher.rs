@@ -1,5 +1,7 @@
 //! The hashers of the maps.
 
+use crate::counts::{Identity, Kind};
+use std::fmt;
 use std::hash::{BuildHasher, Hasher};
 
 /// An odd number whose multiples have changing bits up to the highest.
@@ -54,9 +56,19 @@ impl Hasher for KeyHasher {
 }
 
 /// Makes the hashers of a choice.
-#[derive(Clone, Copy, Debug)]
+#[derive(Clone)]
 pub struct BuildKeyHasher {
-    pub choice: Choice,
+    choice: Choice,
+    _identity: Identity,
+}
+
+impl BuildKeyHasher {
+    pub fn new(choice: Choice) -> BuildKeyHasher {
+        BuildKeyHasher {
+            choice,
+            _identity: Identity::new(Kind::Hasher),
+        }
+    }
 }
 
 impl BuildHasher for BuildKeyHasher {
@@ -71,10 +83,20 @@ impl BuildHasher for BuildKeyHasher {
     }
 }
 
+/// Spreads the keys, and is not counted.
 impl Default for BuildKeyHasher {
     fn default() -> BuildKeyHasher {
         BuildKeyHasher {
             choice: Choice::Spread,
+            _identity: Identity::uncounted(Kind::Hasher),
         }
+    }
+}
+
+impl fmt::Debug for BuildKeyHasher {
+    fn fmt(&self, f: &mut fmt::Formatter<'_>) -> fmt::Result {
+        f.debug_struct("BuildKeyHasher")
+            .field("choice", &self.choice)
+            .finish()
     }
 }

@@ -1,7 +1,9 @@
 //! Iterators and loops over the pairs.
 
+use crate::counts::within;
 use crate::key::Key;
 use crate::line::Line;
+use crate::value::Value;
 use crate::{Known, Map};
 use std::fmt::{Debug, Result, Write};
 use std::mem;
@@ -16,14 +18,52 @@ fn step<T>(items: &mut impl DoubleEndedIterator<Item = T>, letter: u8) -> Option
 }
 
 /// Makes a step for each letter, and appends what each gives and how much is left.
-pub fn iterate<T: Debug>(
+fn make_steps<T: Debug>(
     items: &mut (impl DoubleEndedIterator<Item = T> + ExactSizeIterator),
     steps: &str,
     text: &mut String,
 ) -> Result {
     for letter in steps.bytes() {
-        let item = step(items, letter);
+        let item = within(|| step(items, letter));
         write!(text, "{item:?} {:?} {} ", items.size_hint(), items.len())?;
+    }
+    Ok(())
+}
+
+/// Iterates, and drops the iterator.
+fn iterate<T: Debug>(
+    mut items: impl DoubleEndedIterator<Item = T> + ExactSizeIterator,
+    steps: &str,
+    text: &mut String,
+) -> Result {
+    make_steps(&mut items, steps, text)?;
+    within(|| drop(items));
+    Ok(())
+}
+
+/// Makes a step forwards for each letter, and appends what each gives.
+pub fn make_forward_steps<T: Debug>(
+    items: &mut impl Iterator<Item = T>,
+    steps: &str,
+    text: &mut String,
+) -> Result {
+    for _letter in steps.bytes() {
+        write!(text, "{:?} ", within(|| items.next()))?;
+    }
+    Ok(())
+}
+
+/// Iterates, and drops the iterator, or forgets it if the next word says so.
+pub fn iterate_to_the_end<T: Debug>(
+    mut items: impl DoubleEndedIterator<Item = T> + ExactSizeIterator,
+    line: &mut Line<'_>,
+    text: &mut String,
+) -> Result {
+    make_steps(&mut items, line.word(), text)?;
+    if line.word() == "forget" {
+        mem::forget(items);
+    } else {
+        within(|| drop(items));
     }
     Ok(())
 }
@@ -34,26 +74,26 @@ pub fn iterate_and_clone<T: Debug>(
     line: &mut Line<'_>,
     text: &mut String,
 ) -> Result {
-    iterate(&mut items, line.word(), text)?;
-    let mut copy = items.clone();
+    make_steps(&mut items, line.word(), text)?;
+    let copy = within(|| items.clone());
     let steps = line.word();
-    iterate(&mut copy, steps, text)?;
+    iterate(copy, steps, text)?;
     write!(text, "/ ")?;
-    iterate(&mut items, steps, text)
+    iterate(items, steps, text)
 }
 
 /// Iterates by `iter_mut`, and writes each value that is lent.
 pub fn iterate_and_write<'m>(
-    mut pairs: impl DoubleEndedIterator<Item = (&'m Key, &'m mut u64)> + ExactSizeIterator,
-    steps: &str,
-    value: u64,
+    mut pairs: impl DoubleEndedIterator<Item = (&'m Key, &'m mut Value)> + ExactSizeIterator,
+    line: &mut Line<'_>,
     text: &mut String,
 ) -> Result {
+    let (steps, mut values) = (line.word(), line.values());
     for letter in steps.bytes() {
-        match step(&mut pairs, letter) {
+        match within(|| step(&mut pairs, letter)) {
             Some((key, lent)) => {
-                write!(text, "{key:?}={} ", *lent)?;
-                *lent = value;
+                write!(text, "{key:?}={lent:?} ")?;
+                *lent = values.take();
             }
             None => write!(text, "end ")?,
         }
@@ -62,20 +102,13 @@ pub fn iterate_and_write<'m>(
     Ok(())
 }
 
-/// Iterates over a map that is taken, and forgets what is left.
-fn iterate_and_forget(map: Map, steps: &str, text: &mut String) -> Result {
-    let mut pairs = map.into_iter();
-    iterate(&mut pairs, steps, text)?;
-    mem::forget(pairs);
-    Ok(())
-}
-
-/// Iterates by `drain`, and drops or forgets the iterator.
-fn drain(map: &mut Map, line: &mut Line<'_>, text: &mut String) -> Result {
-    let mut pairs = map.drain();
-    iterate(&mut pairs, line.word(), text)?;
-    if line.word() == "forget" {
-        mem::forget(pairs);
+/// Appends the pairs of a loop.
+pub fn show_all<'m>(
+    pairs: impl Iterator<Item = (&'m Key, &'m Value)>,
+    text: &mut String,
+) -> Result {
+    for (key, value) in pairs {
+        write!(text, "{key:?}={value:?} ")?;
     }
     Ok(())
 }
@@ -86,19 +119,23 @@ pub fn run(name: &str, line: &mut Line<'_>, map: &mut Map, text: &mut String) ->
         "iter" => iterate_and_clone(map.iter(), line, text)?,
         "keys" => iterate_and_clone(map.keys(), line, text)?,
         "values" => iterate_and_clone(map.values(), line, text)?,
-        "iter_mut" => iterate_and_write(map.iter_mut(), line.word(), line.number(), text)?,
-        "into_iter" => iterate_and_clone(mem::take(map).into_iter(), line, text)?,
-        "into_iter_forget" => iterate_and_forget(mem::take(map), line.word(), text)?,
-        "drain" => drain(map, line, text)?,
-        "loop" => {
-            for (key, value) in &*map {
-                write!(text, "{key:?}={value} ")?;
-            }
+        "iter_mut" => iterate_and_write(map.iter_mut(), line, text)?,
+        "into_iter" => {
+            let taken = mem::take(map);
+            iterate_and_clone(within(|| taken.into_iter()), line, text)?;
         }
+        "into_iter_forget" => {
+            let taken = mem::take(map);
+            let mut pairs = within(|| taken.into_iter());
+            make_steps(&mut pairs, line.word(), text)?;
+            mem::forget(pairs);
+        }
+        "drain" => iterate_to_the_end(within(|| map.drain()), line, text)?,
+        "loop" => show_all((&*map).into_iter(), text)?,
         "loop_mut" => {
             let number = line.number();
             for (_key, value) in map {
-                *value = value.wrapping_add(number);
+                value.add(number);
             }
         }
         _ => return Ok(false),

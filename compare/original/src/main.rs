@@ -5,6 +5,8 @@
 mod caches;
 mod changes;
 mod comparisons;
+mod copied;
+mod counts;
 mod entries;
 mod hasher;
 mod iterators;
@@ -14,6 +16,7 @@ mod list;
 mod lookups;
 mod making;
 mod sets;
+mod value;
 
 use caches::Cache;
 use hasher::BuildKeyHasher;
@@ -23,9 +26,10 @@ use linked_hash_map::LinkedHashMap;
 use sets::Set;
 use std::fmt::Write as _;
 use std::io::{self, Read, Write};
+use value::Value;
 
 /// The maps that the lines speak of.
-type Map = LinkedHashMap<Key, u64, BuildKeyHasher>;
+type Map = LinkedHashMap<Key, Value, BuildKeyHasher>;
 
 /// Whether there is a call of a name. If there is one, it has run.
 type Known = Result<bool, std::fmt::Error>;
@@ -69,7 +73,8 @@ fn run_on_map(
         || making::run(name, line, map, other, text)?
         || entries::run(name, line, map, text)?
         || iterators::run(name, line, map, text)?
-        || comparisons::run(name, line, map, other, text)?;
+        || comparisons::run(name, line, map, other, text)?
+        || copied::run(name, map, other, text)?;
     if known {
         list::push_pairs(map.iter(), text)?;
     }
@@ -96,12 +101,18 @@ fn run_call(line: &mut Line<'_>, all: &mut All, text: &mut String) -> std::fmt::
     Ok(())
 }
 
-/// Runs the lines on new maps, caches and sets, and returns the whole text of the output.
+/// Runs the lines on new maps, caches and sets, and returns the whole text of the output. At a
+/// heading, a line that begins with `#`, it makes them anew.
 fn respond(lines: &str) -> Result<String, std::fmt::Error> {
     let mut text = String::new();
     let mut all = All::default();
     for line in lines.lines() {
-        run_call(&mut Line::new(line), &mut all, &mut text)?;
+        if line.starts_with('#') {
+            all = All::default();
+            writeln!(text, "{line}")?;
+        } else {
+            run_call(&mut Line::new(line), &mut all, &mut text)?;
+        }
     }
     Ok(text)
 }

@@ -1,25 +1,30 @@
 //! Calls that make a map, and those that take in the pairs of another.
 
-use crate::hasher::{BuildKeyHasher, Choice};
-use crate::key::Key;
+use crate::counts::within;
 use crate::line::Line;
 use crate::{Known, Map};
 use std::fmt::Write;
 use std::mem;
 
-/// Reads the build hasher that the next word names.
-pub fn hasher(line: &mut Line<'_>) -> BuildKeyHasher {
-    let choice = Choice::named(line.word());
-    BuildKeyHasher { choice }
-}
-
-/// Reads the pairs that are left of a line.
-pub fn pairs(line: &mut Line<'_>) -> Vec<(Key, u64)> {
-    let mut pairs = Vec::new();
-    while let Some(text) = line.next_word() {
-        pairs.push((Key::new(text), line.number()));
-    }
-    pairs
+/// Makes the map that this name says, if it does.
+fn new(name: &str, line: &mut Line<'_>, other: &Map) -> Option<Map> {
+    Some(match name {
+        "with_hasher" => {
+            let hasher = line.hasher();
+            within(|| Map::with_hasher(hasher))
+        }
+        "with_capacity" => {
+            let (hasher, capacity) = (line.hasher(), line.size());
+            within(|| Map::with_capacity_and_hasher(capacity, hasher))
+        }
+        "default" => within(Map::default),
+        "from_iter" | "collect" => {
+            let pairs = line.pairs();
+            within(|| Map::from_iter(pairs))
+        }
+        "clone" => within(|| other.clone()),
+        _ => return None,
+    })
 }
 
 /// Runs the call of this name, and tells whether there is one.
@@ -31,19 +36,17 @@ pub fn run(
     text: &mut String,
 ) -> Known {
     match name {
-        "with_hasher" => *map = Map::with_hasher(hasher(line)),
-        "with_capacity" => {
-            let hasher = hasher(line);
-            *map = Map::with_capacity_and_hasher(line.small_number(), hasher);
+        "extend" | "extend_trait" => {
+            let pairs = line.pairs();
+            within(|| map.extend(pairs));
         }
-        "default" => *map = Map::default(),
-        "from_iter" => *map = Map::from_iter(pairs(line)),
-        "extend" => map.extend(pairs(line)),
-        "extend_refs" => map.extend(other.iter()),
-        "extend_drain" => map.extend(other.drain()),
-        "clone" => *map = other.clone(),
+        "extend_refs" => within(|| map.extend(other.iter().map(|(k, v)| (k.clone(), v.clone())))),
+        "extend_drain" => within(|| map.extend(other.drain())),
         "swap" => mem::swap(map, other),
-        _ => return Ok(false),
+        _ => match new(name, line, other) {
+            Some(new) => *map = new,
+            None => return Ok(false),
+        },
     }
     write!(text, "{:?} ", map.hasher())?;
     Ok(true)
