@@ -64,6 +64,8 @@ run_part wrong-body-texts scripts/wrong-bodies --texts
 show_part wrong-body-texts ': each text stands$'
 run_part clauses scripts/clauses
 show_part clauses ': each as it is kept$'
+run_part calls scripts/model-tests --calls
+show_part calls ' public calls, each with the lines that make it$'
 run_part documents-self-test scripts/documents --self-test
 show_part documents-self-test '^documents finds each planted fault$'
 run_part clauses-self-test scripts/clauses --self-test
@@ -98,6 +100,8 @@ end_if_failed
 run_part wrong-bodies-gate scripts/wrong-bodies --gate
 crates='dedup lhm linked_hash_map linked_hash_set lru_cache'
 show_part wrong-bodies-gate "^wrong-bodies --gate: [2-9][0-9] bodies of $crates: each is refused"
+run_part model-tests scripts/model-tests
+show_part model-tests '^model-tests: [1-9].* requests refused: as the model has it$'
 run_part programs scripts/programs
 words=': 32 rows .* 5 inputs .* 40 res.* 20000 lines .* 16384 lines .* 3 pipes .* 20 workloads'
 show_part programs "$words .* 250 turns .* 8192 KiB, and not in 4192"
