@@ -127,12 +127,12 @@ macro_rules! edit_occupied {
 
 pub(crate) use edit_occupied;
 
-/// Makes an edit by the entry of a present key.
-fn edit_present<'a>(map: &mut Map<'a>, key: Key<'a>, edit: &mut Edit<'a>, output: &mut Output<'a>) {
-    let Entry::Occupied(mut entry) = map.entry(key) else {
-        return;
-    };
-    edit_occupied!(entry, edit, output);
+/// Appends a value that was inserted.
+fn show_inserted<'a>(lent: &Lent<'_, 'a>, output: &mut Output<'a>) {
+    match lent {
+        Ok(lent) => output.show(lent),
+        Err(refused) => refused.show(output),
+    }
 }
 
 /// Writes to a value that was inserted.
@@ -144,43 +144,44 @@ fn write_inserted<'a>(lent: &mut Lent<'_, 'a>, value: Value<'a>, output: &mut Ou
     }
 }
 
-/// Makes an edit by the entry of an absent key: an insertion at `i`, one of 0 that is then written
-/// at `m`, at `y` its key is taken, at `o` it is forgotten, or none.
-fn edit_absent<'a>(map: &mut Map<'a>, key: Key<'a>, edit: &mut Edit<'a>, output: &mut Output<'a>) {
-    let Entry::Vacant(entry) = map.entry(key) else {
-        return;
-    };
-    output.push_str("vacant ");
-    output.show(entry.key());
-    output.begin();
-    match edit.letter {
-        b'i' => output.show_result(entry.insert(edit.take())),
-        b'm' => {
-            let zero = edit.values.zero();
-            write_inserted(&mut entry.insert(zero), edit.take(), output);
+/// Makes an edit by the entry of a key: at a vacant one an insertion at `i`, one of 0 that is then
+/// written at `m`, at `o` it is forgotten, or none.
+fn edit_by_entry<'a>(
+    map: &mut Map<'a>,
+    key: Key<'a>,
+    edit: &mut Edit<'a>,
+    output: &mut Output<'a>,
+) {
+    match map.entry(key) {
+        Entry::Occupied(mut entry) => {
+            edit_occupied!(entry, edit, output);
         }
-        b'y' => output.show(&entry.into_key()),
-        b'o' => mem::forget(entry),
-        _ => output.drop_within(entry),
+        Entry::Vacant(entry) => {
+            output.push_str("vacant ");
+            output.show(entry.key());
+            output.begin();
+            match edit.letter {
+                b'i' => show_inserted(&entry.insert(edit.take()), output),
+                b'm' => {
+                    let zero = edit.values.zero();
+                    write_inserted(&mut entry.insert(zero), edit.take(), output);
+                }
+                b'o' => mem::forget(entry),
+                _ => output.drop_within(entry),
+            }
+            output.end();
+        }
     }
-    output.end();
 }
 
-/// Makes an edit by the entry of a key. Whether that is present is seen before the call.
+/// Makes an edit by the entry of a key.
 fn edit_entry<'a>(map: &mut Map<'a>, line: &mut Line<'a>, output: &mut Output<'a>) {
     let word = line.word();
     let key = line.key_of(word);
     let letter = first_byte(line.word());
     let mut edit = Edit::new(word, line);
     edit.letter = letter;
-    output.end();
-    let is_present = map.contains_key(&key);
-    output.begin();
-    if is_present {
-        edit_present(map, key, &mut edit, output);
-    } else {
-        edit_absent(map, key, &mut edit, output);
-    }
+    edit_by_entry(map, key, &mut edit, output);
 }
 
 /// Returns the first byte of a word, or 0 if there is none.

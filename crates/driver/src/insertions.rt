@@ -7,12 +7,13 @@ use super::output::Output;
 use super::refusal::Refusal;
 use std::alloc::Global;
 
-/// Appends a value that is lent, and adds 1 to its number after that.
+/// Appends a value that is lent, and adds 1 to its number after that, or what is handed back.
 fn show_and_increase<'a>(lent: &mut Lent<'_, 'a>, output: &mut Output<'a>) {
     match lent {
-        Ok(lent) => {
-            output.show(lent);
-            lent.increase(1);
+        Ok(value) => {
+            output.show(&**value);
+            let increased = value.increased(1);
+            **value = increased;
         }
         Err(refused) => refused.show(output),
     }

@@ -124,6 +124,7 @@ fn put_with<'a>(
         Ok(old) => show_handed(old, &handed, output),
         Err(refused) => output.show_refused(refused),
     }
+    drop(handed);
 }
 
 /// Keeps the payloads that are not a number modulo 7, and adds the number of the call to each.

@@ -49,6 +49,15 @@ impl<'a> Value<'a> {
         self.serial
     }
 
+    /// Returns this value with a number that is greater, modulo 2^64.
+    pub fn increased(&self, by: u64) -> Value<'a> {
+        Value {
+            number: self.number.wrapping_add(by),
+            serial: self.serial,
+            counts: self.counts,
+        }
+    }
+
     /// Adds to the number in place, modulo 2^64.
     pub fn increase(&mut self, by: u64) {
         self.number = self.number.wrapping_add(by);
