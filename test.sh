@@ -100,7 +100,7 @@ crates='dedup lhm linked_hash_map linked_hash_set lru_cache'
 show_part wrong-bodies-gate "^wrong-bodies --gate: [2-9][0-9] bodies of $crates: each is refused"
 run_part programs scripts/programs
 words=': 32 rows .* 5 inputs .* 40 res.* 20000 lines .* 16384 lines .* 3 pipes .* 20 workloads'
-show_part programs "$words .* 250 turns .* 8192 KiB, and not in 4192"
+show_part programs "$words .* 250 turns .* 6144 KiB, and not in 2144"
 end_if_failed
 cat "$work/table"
 awk '{ sum += $1 } END { printf "%7d  in all, or %.0f minutes\n", sum, sum / 60 }' "$work/table"
