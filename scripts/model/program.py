@@ -2,7 +2,6 @@
 
 import collections
 import pathlib
-import shutil
 import subprocess
 import sys
 import tempfile
@@ -10,12 +9,14 @@ import tempfile
 TOP = pathlib.Path(__file__).resolve().parent.parent.parent
 sys.path.insert(0, str(TOP / "compare"))
 
-from programs import DRIVER, is_up_to_date, tried
+from programs import DRIVER, is_up_to_date
+
+import unproved
 
 SECONDS = 300
 
-# What a program did: the lines that it printed, a record for each line that it began, or None
-# without the C library, how many blocks it never gave back, and what else is wrong, or "".
+# What a program did: the lines that it printed, a record for each line that it began, or None if it
+# has not ended, how many blocks it never gave back, and what else is wrong, or "".
 Ran = collections.namedtuple("Ran", "lines records blocks fault")
 
 
@@ -48,10 +49,10 @@ def refusals_at(pairs):
 def build_library(folder):
     """Builds the C library into a folder with the compiler of the toolchain, and returns where it
     is, or None and what the compiler says."""
-    rt = shutil.which("rt")
-    if not rt:
-        return None, "put rt, the command of the Rattle kit, on the PATH"
-    clang = pathlib.Path(rt).resolve().parent.parent / "toolchain" / "bin" / "clang"
+    kit = unproved.kit_folder()
+    if not kit:
+        return None, unproved.NO_KIT
+    clang = kit / "toolchain" / "bin" / "clang"
     library = pathlib.Path(folder) / "requests.so"
     flags = "-Wall -Wextra -Werror -O2 -fno-builtin -shared -fPIC -nostdlib".split()
     source = pathlib.Path(__file__).resolve().parent / "requests.c"
@@ -99,25 +100,19 @@ class Driver:
         return Ran(printed, records, blocks or 0, fault)
 
 
-class Tried:
-    """The driver as `rt try` builds it, with no proof and no C library, so that nothing is refused.
-    One build runs all of what is prepared."""
-
-    def __init__(self):
-        self.printed = {}
-
-    def prepare(self, runs):
-        """Runs the lines of each run."""
-        self.printed.update(zip(map(tuple, runs), tried(runs)))
-
-    def run(self, lines, _refusals=NO_REFUSALS):
-        """Returns what the program did on some lines, which are run if they were not prepared."""
-        if tuple(lines) not in self.printed:
-            self.prepare([lines])
-        return Ran(self.printed[tuple(lines)], None, 0, "")
-
-
 def find_driver():
-    """Returns the built driver, or None if it is not there or older than a source."""
+    """Returns the built driver, and "", or None and how to build it if it is not there or older
+    than a source."""
     program = DRIVER / "out" / "driver"
-    return program if is_up_to_date(program, "driver") else None
+    if is_up_to_date(program, "driver"):
+        return program, ""
+    return None, ("there is no crates/driver/out/driver that is younger than its sources: "
+                  "(cd crates/driver && rt run < stdin) builds it, or give --try")
+
+
+def build_driver(folder):
+    """Builds the driver into a folder with no proof, and returns where it is and "", or None and
+    what was said."""
+    program = pathlib.Path(folder) / "driver"
+    fault = unproved.build(program)
+    return (None, fault) if fault else (program, "")

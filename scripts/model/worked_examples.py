@@ -1,6 +1,6 @@
 #!/usr/bin/env python3
-"""Runs the model on scripts/model/worked_examples.txt: examples that were worked out by hand, those
-of the crates' documentation, and growths that the tests of crates/refusal_tests count.
+"""Runs the model on scripts/model/worked_examples.txt: examples that were worked out by hand, and
+those of the crates' documentation.
 
 A line that begins with # says what an example shows. Each other one is a line of the driver, behind
 which a request may be named that is refused. Below it stands the text that comes out, or how many

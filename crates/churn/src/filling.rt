@@ -32,14 +32,9 @@ pub fn list<K: Key, V: Value>(alloc: Global) -> Result<Vec<(K, V)>, Stop> {
     Ok(pairs)
 }
 
-/// Inserts the first `PAIRS` pairs.
-pub fn fill<K: Key, V: Value>(alloc: Global, map: &mut Map<K, V>) -> Result<(), Stop> {
-    Ok(map.extend(list(alloc)?)?)
-}
-
 /// Makes a map of the first `PAIRS` pairs, whose capacity is raised one by one.
 pub fn filled<K: Key, V: Value>(alloc: Global) -> Result<Map<K, V>, Stop> {
     let mut map = empty(alloc)?;
-    fill(alloc, &mut map)?;
+    map.extend(list(alloc)?)?;
     Ok(map)
 }

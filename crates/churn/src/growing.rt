@@ -6,20 +6,12 @@ use super::item::Key;
 use super::stop::Stop;
 use linked_hash_map::LinkedHashMap;
 use std::alloc::Global;
-use std::mem;
 
 /// A value of 2^10 bytes.
 type Large = [u8; 1 << 10];
 
 /// How many nodes of large values take more memory than `scripts/programs` gives.
 const SEVERAL: usize = 1 << 13;
-
-/// A value of 2^30 bytes. A map of such values is never there: to drop it would take a local of
-/// that size.
-type Huge = [u8; 1 << 30];
-
-/// How many nodes of huge values take more than 2^47 bytes, which no allocator gives.
-const MANY: usize = 1 << 17;
 
 /// Raises the capacity of a map of one pair, and returns 1 if it is as high as was asked for, or
 /// if the growth is refused and changes nothing.
@@ -33,14 +25,11 @@ fn raise<K: Key>(alloc: Global) -> Result<u64, Stop> {
     Ok((map.len() == 1 && map.capacity() == wanted) as u64)
 }
 
-/// Creates a map with room, and returns 1 if that is refused.
+/// Creates a map with room, and returns 1 if it has as much as was asked for, or if it is refused.
 fn create<K: Key>(alloc: Global) -> Result<u64, Stop> {
     let hasher = BuildOwner::new(alloc)?;
-    match Map::<K, Huge>::with_capacity_and_hasher(alloc, MANY, hasher) {
-        Ok(map) => {
-            mem::forget(map);
-            Ok(0)
-        }
+    match Map::<K, Large>::with_capacity_and_hasher(alloc, SEVERAL, hasher) {
+        Ok(map) => Ok((map.capacity() == SEVERAL) as u64),
         Err(_) => Ok(1),
     }
 }

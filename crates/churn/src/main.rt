@@ -2,8 +2,8 @@
 //! keeps for ever adds up.
 //!
 //! `churn TURNS` runs each part that often, and prints a line for it with how many pairs the turns
-//! saw in all. `scripts/programs` runs it with little memory, which ends it if each turn keeps as much
-//! as the buckets of one map. What is proved of it is that it is safe and ends.
+//! saw in all. `scripts/programs` runs it with little memory, which ends it if each turn keeps as
+//! much as the buckets of one map. What is proved of it is that it is safe and ends.
 //!
 //! The exit status is 0; 2 if there is no number of turns; 3 if an allocation fails; 4 if writing
 //! fails.

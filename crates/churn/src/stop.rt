@@ -2,7 +2,7 @@
 
 use linked_hash_map::replay::Command;
 use linked_hash_map::sessions::PutRefused;
-use linked_hash_map::{NoRoom, Refused, ReserveError};
+use linked_hash_map::{Refused, ReserveError};
 use std::alloc::{AllocError, AllocFailed};
 use std::io;
 
@@ -51,12 +51,6 @@ impl<K: Drop, V: Drop> From<Refused<K, V>> for Stop {
 
 impl From<ReserveError> for Stop {
     fn from(_error: ReserveError) -> Stop {
-        Stop::OutOfMemory
-    }
-}
-
-impl From<NoRoom> for Stop {
-    fn from(_error: NoRoom) -> Stop {
         Stop::OutOfMemory
     }
 }
