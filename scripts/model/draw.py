@@ -14,7 +14,7 @@ import calls
 from program import NO_REFUSALS, Refusals, refusals_at
 
 # Letters of an entry's edits that the originals do not have, beside theirs.
-EDITS = "witrmk" + "bfepoy"
+EDITS = "witrmk" + "bfepo"
 # The kinds of runs, in turn.
 KINDS = (calls.MAPS, calls.CACHES, calls.MAPS, calls.SETS, calls.MAPS, calls.SESSIONS)
 # How many keys the runs of a batch have, in turn.

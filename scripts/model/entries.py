@@ -62,9 +62,7 @@ def edit_vacant(call, map_, key, edit, values):
     """Shows the entry of an absent key, and makes an edit by it."""
     call.show("vacant")
     call.show(key)
-    if edit == "y":
-        call.show(key)
-    elif edit in ("i", "m"):
+    if edit in ("i", "m"):
         insert_vacant(call, map_, key, edit, values)
     elif edit != "o":
         call.effects.drop_key(key)
