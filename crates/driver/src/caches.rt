@@ -84,7 +84,7 @@ fn run_on_all<'a>(
         "remove_lru" => output.show(&cache.remove_lru()),
         "clear" => cache.clear(),
         "len" => output.show_two(&cache.len(), &cache.is_empty()),
-        "debug" => output.show(cache),
+        "debug" => output.show_within(cache),
         "new" => show_new(alloc, line.number(), output),
         _ => return false,
     }

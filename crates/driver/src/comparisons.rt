@@ -102,7 +102,7 @@ pub fn run<'a>(
         "new" => show_new(alloc, line.number(), output),
         "new_with_capacity" => show_new_with_capacity(alloc, line, output),
         "hash" => show_hash(map, output),
-        "debug" => output.show(map),
+        "debug" => output.show_within(map),
         "debug_pretty" => show_pretty(alloc, map, output),
         _ => return false,
     }

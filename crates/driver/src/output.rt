@@ -107,6 +107,14 @@ impl<'a> Output<'a> {
         self.note(written);
     }
 
+    /// Appends the debug text of an item, which is formatted within a window.
+    pub fn show_within<T: Debug>(&mut self, item: &T) {
+        self.begin();
+        let written = write!(self.text, "{item:?} ");
+        self.end();
+        self.note(written);
+    }
+
     /// Appends the debug text of an item.
     pub fn show<T: Debug>(&mut self, item: &T) {
         self.end();

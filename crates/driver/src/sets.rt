@@ -130,7 +130,7 @@ fn run_on_all<'a>(
         "reserve" => output.show_refusal(set.reserve(line.size())),
         "shrink_to_fit" => output.show_refusal(set.shrink_to_fit()),
         "hasher" => output.show(set.hasher()),
-        "debug" => output.show(set),
+        "debug" => output.show_within(set),
         "refused_texts" => set_refused_texts::show_all(line, output),
         _ => return false,
     }
