@@ -158,8 +158,14 @@ fn a_slice_looks_up_a_lent_slice(rt: HostRuntime) {
 /// Makes two items whose comparisons are counted.
 fn two_items(compared: &Cell<usize>) -> [Counting<'_>; 2] {
     [
-        Counting { number: 1, compared },
-        Counting { number: 2, compared },
+        Counting {
+            number: 1,
+            compared,
+        },
+        Counting {
+            number: 2,
+            compared,
+        },
     ]
 }
 

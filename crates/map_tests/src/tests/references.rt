@@ -41,12 +41,7 @@ fn extends_above_a_thousand_by_references(rt: HostRuntime) {
 type CountingMap<'a> = LinkedHashMap<Counting<'a>, u64, BuildSame>;
 
 /// Extends a map by a reference, which is to compare so many keys.
-fn extend_by<'a>(
-    rt: &impl Abort,
-    map: &mut CountingMap<'a>,
-    key: &Counting<'a>,
-    compared: usize,
-) {
+fn extend_by<'a>(rt: &impl Abort, map: &mut CountingMap<'a>, key: &Counting<'a>, compared: usize) {
     key.compared.set(0);
     check!(rt; map.extend_refs([(key, &1)]).is_ok());
     check_eq!(rt; key.compared.get(), compared);
@@ -69,10 +64,42 @@ fn extend_by_trait<'a>(
 fn looks_the_key_of_a_reference_up_once(rt: HostRuntime) {
     let compared = &Cell::new(0);
     let mut map = LinkedHashMap::with_hasher(rt.alloc(), BuildSame { hash: 7 });
-    extend_by(&rt, &mut map, &Counting { number: 1, compared }, 0);
-    extend_by(&rt, &mut map, &Counting { number: 2, compared }, 1);
-    extend_by_trait(&rt, &mut map, &Counting { number: 3, compared }, 2);
-    extend_by_trait(&rt, &mut map, &Counting { number: 4, compared }, 3);
+    extend_by(
+        &rt,
+        &mut map,
+        &Counting {
+            number: 1,
+            compared,
+        },
+        0,
+    );
+    extend_by(
+        &rt,
+        &mut map,
+        &Counting {
+            number: 2,
+            compared,
+        },
+        1,
+    );
+    extend_by_trait(
+        &rt,
+        &mut map,
+        &Counting {
+            number: 3,
+            compared,
+        },
+        2,
+    );
+    extend_by_trait(
+        &rt,
+        &mut map,
+        &Counting {
+            number: 4,
+            compared,
+        },
+        3,
+    );
     check_eq!(rt; (map.len(), map.capacity()), (4, 4));
 }
 
