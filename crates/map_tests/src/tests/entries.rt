@@ -3,6 +3,7 @@ ghost use Rattle.std.specs.Prelude.{◌≡◌, cond, is_some, nat_eq, slice_get,
 ghost use Rattle.std.specs.Map.{keys_of};
 ghost use Rattle.linked_hash_map.specs.Pairs.{find, set_value, set_or_push};
 
+use super::references::say_if_given;
 use super::support::checks::{check, check_eq, given};
 use super::{assert_pairs, map_of};
 use linked_hash_map::{Entry, LinkedHashMap, Refused};
@@ -82,4 +83,20 @@ fn sets_through_an_entry(rt: HostRuntime) {
     given!(rt; five_or_seven(&mut map, 3));
     given!(rt; five_or_seven(&mut map, 4));
     assert_pairs(&rt, &map, &[(1, 11), (2, 22), (3, 5), (4, 7)]);
+}
+
+/// Takes the key of a vacant entry, if it is vacant.
+fn taken_key(map: &mut LinkedHashMap<u64, u64>, key: u64) -> Option<u64> {
+    match map.entry(key) {
+        Entry::Vacant(entry) => Some(entry.into_key()),
+        Entry::Occupied(_entry) => None,
+    }
+}
+
+#[test]
+fn refused_growth_is_not_asked_for_by_a_key_that_is_taken(rt: HostRuntime) {
+    // The one growth is asked for by the test itself.
+    let mut map = LinkedHashMap::new(rt.alloc());
+    check_eq!(rt; taken_key(&mut map, 3), Some(3));
+    say_if_given(&rt, map.is_empty(), 1);
 }

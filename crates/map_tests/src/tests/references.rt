@@ -105,7 +105,7 @@ fn looks_the_key_of_a_reference_up_once(rt: HostRuntime) {
 
 /// Asks for one growth, and says that none was refused, if none was, and how many there are with
 /// that one.
-fn say_if_given(rt: &(impl Print + AllocGlobal), given: bool, growths: u64) {
+pub(super) fn say_if_given(rt: &(impl Print + AllocGlobal), given: bool, growths: u64) {
     if given && Box::new(rt.alloc(), 0).is_ok() {
         let _ = println!(rt; "every growth was given, {growths} in all");
     }
