@@ -1,12 +1,9 @@
 //! Extensions by references, whose keys and values are copied.
 
 use super::support::checks::{check, check_eq, given};
-use super::support::counting::Counting;
-use super::support::hashers::BuildSame;
 use super::{assert_pairs, map_of};
 use linked_hash_map::{LinkedHashMap, Refused};
 use std::alloc::Global;
-use std::cell::Cell;
 use std::process::Abort;
 
 #[test]
@@ -35,72 +32,6 @@ fn extends_above_a_thousand_by_references(rt: HostRuntime) {
     let mut by_trait = LinkedHashMap::new(rt.alloc());
     given!(rt; Extend::extend(&mut by_trait, map.iter()));
     check!(rt; by_trait == map);
-}
-
-/// A map whose keys are copied, and whose hashes are the same.
-type CountingMap<'a> = LinkedHashMap<Counting<'a>, u64, BuildSame>;
-
-/// Extends a map by a reference, which is to compare so many keys.
-fn extend_by<'a>(rt: &impl Abort, map: &mut CountingMap<'a>, key: &Counting<'a>, compared: usize) {
-    key.compared.set(0);
-    check!(rt; map.extend_refs([(key, &1)]).is_ok());
-    check_eq!(rt; key.compared.get(), compared);
-}
-
-/// Does so by the trait.
-fn extend_by_trait<'a>(
-    rt: &impl Abort,
-    map: &mut CountingMap<'a>,
-    key: &Counting<'a>,
-    compared: usize,
-) {
-    key.compared.set(0);
-    check!(rt; Extend::extend(map, [(key, &1)]).is_ok());
-    check_eq!(rt; key.compared.get(), compared);
-}
-
-/// Each new key is compared with all that there are, since it has their hash.
-#[test]
-fn looks_the_key_of_a_reference_up_once(rt: HostRuntime) {
-    let compared = &Cell::new(0);
-    let mut map = LinkedHashMap::with_hasher(rt.alloc(), BuildSame { hash: 7 });
-    extend_by(
-        &rt,
-        &mut map,
-        &Counting {
-            number: 1,
-            compared,
-        },
-        0,
-    );
-    extend_by(
-        &rt,
-        &mut map,
-        &Counting {
-            number: 2,
-            compared,
-        },
-        1,
-    );
-    extend_by_trait(
-        &rt,
-        &mut map,
-        &Counting {
-            number: 3,
-            compared,
-        },
-        2,
-    );
-    extend_by_trait(
-        &rt,
-        &mut map,
-        &Counting {
-            number: 4,
-            compared,
-        },
-        3,
-    );
-    check_eq!(rt; (map.len(), map.capacity()), (4, 4));
 }
 
 /// Asks for one growth, and says that none was refused, if none was, and how many there are with
