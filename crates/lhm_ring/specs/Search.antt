@@ -1,5 +1,5 @@
 -- What a search along a chain finds, and how it counts.
-use Rattle.std.specs.Prelude.{◌≡◌, ℕ, ◌%◌, ◌≤◌, ◌==◌, ◌&&◌, ◌⊎◌, Bool, true, false, List, [], ◌∷◌, ◌++◌}
+use Rattle.std.specs.Prelude.{◌≡◌, ℕ, ◌%◌, ◌≤◌, ◌==◌, ◌&&◌, Bool, true, false, List, [], ◌∷◌, ◌++◌}
 use Rattle.std.specs.Prelude.{length, Option, None, filter, slice_index_or}
 use denote.RawPtr.{Ptr}
 use Rattle.lhm_ring.specs.Ring.{Held, IsHeld}
@@ -32,13 +32,6 @@ pub record CountsSome (xs : List Spot) (n hash visited compared : ℕ) : Type 0 
   pub compared_few : compared ≤ same xs hash
   pub order : compared ≤ visited
   pub visited_few : visited ≤ beside xs n hash
-
--- the counts of one that found nothing and may have asked the filter first: it compared as many
--- keys, and read all nodes of the bucket or none
-pub record CountsFiltered (xs : List Spot) (n hash visited compared : ℕ) : Type 0 where
-  pub compared_all : compared ≡ same xs hash
-  pub order : compared ≤ visited
-  pub visited_all : (visited ≡ 0) ⊎ (visited ≡ beside xs n hash)
 
 -- a search that ended at p, and one that ended with nothing
 pub record FindsKey {K V : Type 0} (is_key : K → Bool) (hash : ℕ)

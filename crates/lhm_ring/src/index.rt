@@ -1,10 +1,10 @@
 //! The position of each key, by its hash: chains through the nodes.
-ghost use Rattle.std.specs.Prelude.{◌≡◌, ◌%◌, ◌<◌, ◌≤◌, ◌^◌, [], length, None, IfOk, IsOk, IfSome, IfNone, OnSome, slice_index_or};
+ghost use Rattle.std.specs.Prelude.{◌≡◌, ◌%◌, ◌<◌, ◌≤◌, ◌^◌, [], length, None, IfOk, IsOk, IfSome, IfNone, slice_index_or};
 ghost use Rattle.std.specs.Int.{IsNextPowerOfTwo};
 ghost use Rattle.lhm_ring.specs.Ring.{IsHeld};
 ghost use Rattle.lhm_ring.specs.Pointer.{pointer_of, pointer_of_some};
 ghost use Rattle.lhm_ring.specs.Buckets.{buckets, HasNoChain};
-ghost use Rattle.lhm_ring.specs.Search.{HasKey, IsAbsent, CountsSome, CountsFiltered};
+ghost use Rattle.lhm_ring.specs.Search.{HasKey, IsAbsent};
 ghost use Rattle.lhm_ring.specs.Index.{Indexes, spots, OfNodeAt, entries, HoldsOthers, IsOnChain, PutsFirst};
 
 pub use crate::buckets::buckets_for;
@@ -18,7 +18,6 @@ use std::alloc::{AllocError, Global};
 use std::hash::Hash;
 use std::marker::{Model, PhantomData};
 use std::mem;
-use std::snapshot::Snapshot;
 
 /// The chains of a ring, by their heads, and a filter of the hashes. Each call is given the ring,
 /// and changes its chain links alone.
@@ -190,42 +189,29 @@ impl<K, V> Index<K, V> {
 }
 
 impl<K: Eq + Hash, V> Index<K, V> {
-    /// Returns the position of the node with this hash and key, if any, and the counts, which take
-    /// no bytes: contracts alone read a `Snapshot`. It reads no node if the filter lacks the
-    /// hash.
+    /// Returns the position of the node with this hash and key, if any. It reads no node if the
+    /// filter lacks the hash.
     pub fn position<Q: Equivalent<K>>(
         &self,
         ring: &Ring<K, V>,
         hash: u64,
         key: Q,
-    ) -> (Option<Position<K, V>>, Snapshot<Probe>)
+    ) -> Option<Position<K, V>>
         requires indexed { Indexes self.now (spots ring.now.held) }
         requires small { length ring.now.held < 2 ^ 64 }
-        ensures found { IfSome result.0 (λ p.
+        ensures found { IfSome result (λ p.
             HasKey (Q.equivalent key) hash ring.now.held (pointer_of p)) }
-        ensures absent { IfNone result.0 (IsAbsent (Q.equivalent key) hash ring.now.held) }
-        ensures counts_found { OnSome result.0
-            (CountsSome (spots ring.now.held) (length self.now.heads) hash result.1.value.visited
-            result.1.value.compared) }
-        ensures counts_absent { IfNone result.0
-            (CountsFiltered (spots ring.now.held) (length self.now.heads) hash
-            result.1.value.visited result.1.value.compared) }
+        ensures absent { IfNone result (IsAbsent (Q.equivalent key) hash ring.now.held) }
     {
         if self.buckets() == 0 {
-            return (None, Snapshot::of(&Probe::NONE));
+            return None;
         }
         let bucket = self.bucket_of(hash);
         if !self.may_contain(bucket, hash) {
-            return (None, Snapshot::of(&Probe::NONE));
+            return None;
         }
-        let Some(first) = self.head(bucket).get() else {
-            return (None, Snapshot::of(&Probe::NONE));
-        };
-        let (found, probe) = self.search_on(ring, self.begin(ring, first, hash), hash, key);
-        let counts = Snapshot::of(&probe);
-        match found {
-            Some(found) => (Some(found.at), counts),
-            None => (None, counts),
-        }
+        let first = self.head(bucket).get()?;
+        let (found, _) = self.search_on(ring, self.begin(ring, first, hash), hash, key);
+        Some(found?.at)
     }
 }

@@ -3,14 +3,13 @@ ghost use Rattle.std.specs.Prelude.{◌≡◌, Bool, ◌+◌, ◌%◌, ◌<◌, 
 ghost use Rattle.lhm_ring.specs.Ring.{IsHeld};
 ghost use Rattle.lhm_ring.specs.Pointer.{pointer_of, pointer_of_some};
 ghost use Rattle.lhm_ring.specs.Index.{Indexes, spot, spots, same, OfNodeAt, entries, HoldsOthers};
-ghost use Rattle.lhm_ring.specs.Search.{Compares, FindsKey, FindsNone, HasKey, IsAbsent, CountsSome, CountsAll, CountsFiltered, IsPart};
+ghost use Rattle.lhm_ring.specs.Search.{Compares, FindsKey, FindsNone, HasKey, IsAbsent, CountsSome, CountsAll, IsPart};
 
 use crate::index::Index;
 use crate::pointer::Position;
 use crate::ring::Ring;
 use equivalent::Equivalent;
 use std::hash::Hash;
-use std::snapshot::Snapshot;
 
 /// The counts of a lookup.
 #[derive(Clone, Copy, Debug, PartialEq)]
@@ -209,49 +208,38 @@ impl<K: Eq + Hash, V> Index<K, V> {
         }
     }
 
-    /// Removes the node with this hash and key from its chain, if any, and returns its position and
-    /// the counts, as `position` does. It reads no node if the filter lacks the hash.
+    /// Removes the node with this hash and key from its chain, if any, and returns its position. It
+    /// reads no node if the filter lacks the hash.
     pub fn take_out<Q: Equivalent<K>>(
         &mut self,
         ring: &mut Ring<K, V>,
         hash: u64,
         key: Q,
-    ) -> (Option<Position<K, V>>, Snapshot<Probe>)
+    ) -> Option<Position<K, V>>
         requires indexed { Indexes self.old (spots ring.old.held) }
         requires small { length ring.old.held < 2 ^ 64 }
-        ensures found { IfSome result.0 (λ at.
+        ensures found { IfSome result (λ at.
             HasKey (Q.equivalent key) hash ring.new.held (pointer_of at)) }
-        ensures lacks { IfSome result.0 (λ at. HoldsOthers self.new ring.new.held (pointer_of at)) }
-        ensures absent { IfNone result.0 (IsAbsent (Q.equivalent key) hash ring.old.held) }
-        ensures counts_found { OnSome result.0
-            (CountsSome (spots ring.old.held) (length self.old.heads) hash result.1.value.visited
-            result.1.value.compared) }
-        ensures counts_absent { IfNone result.0
-            (CountsFiltered (spots ring.old.held) (length self.old.heads) hash
-            result.1.value.visited result.1.value.compared) }
-        ensures unchanged { IfNone result.0 (self.new ≡ self.old) }
-        ensures ring_unchanged { IfNone result.0 (ring.new ≡ ring.old) }
+        ensures lacks { IfSome result (λ at. HoldsOthers self.new ring.new.held (pointer_of at)) }
+        ensures absent { IfNone result (IsAbsent (Q.equivalent key) hash ring.old.held) }
+        ensures unchanged { IfNone result (self.new ≡ self.old) }
+        ensures ring_unchanged { IfNone result (ring.new ≡ ring.old) }
         ensures held { entries ring.new.held ≡ entries ring.old.held }
         ensures spares { ring.new.spares ≡ ring.old.spares }
         ensures nodes { ring.new.nodes ≡ ring.old.nodes }
         ensures buckets { length self.new.heads ≡ length self.old.heads }
     {
         if self.buckets() == 0 {
-            return (None, Snapshot::of(&Probe::NONE));
+            return None;
         }
         let bucket = self.bucket_of(hash);
         if !self.may_contain(bucket, hash) {
-            return (None, Snapshot::of(&Probe::NONE));
+            return None;
         }
-        let (found, probe) = self.search(ring, bucket, hash, key);
-        let counts = Snapshot::of(&probe);
-        match found {
-            Some(found) => {
-                let at = found.at;
-                self.unchain(ring, hash, found);
-                (Some(at), counts)
-            }
-            None => (None, counts),
-        }
+        let (found, _) = self.search(ring, bucket, hash, key);
+        let found = found?;
+        let at = found.at;
+        self.unchain(ring, hash, found);
+        Some(at)
     }
 }

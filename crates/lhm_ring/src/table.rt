@@ -4,7 +4,7 @@ ghost use Rattle.lhm_ring.specs.Nodes.{IsApart};
 ghost use Rattle.lhm_ring.specs.Ring.{IsHeld, AtHeld, first_at, last_at, held, pair, rekeyed};
 ghost use Rattle.lhm_ring.specs.Pointer.{pointer_of, pointer_of_some};
 ghost use Rattle.lhm_ring.specs.Index.{spots, entries};
-ghost use Rattle.lhm_ring.specs.Search.{HasKey, IsAbsent, CountsSome, CountsAll, CountsFiltered};
+ghost use Rattle.lhm_ring.specs.Search.{HasKey, IsAbsent, CountsSome, CountsAll};
 ghost use Rattle.lhm_ring.specs.Buckets.{buckets};
 ghost use Rattle.lhm_ring.specs.Table.{KeepsCounts, Removes, WritesOnly};
 
@@ -17,7 +17,6 @@ use equivalent::Equivalent;
 use std::alloc::{AllocError, Global};
 use std::hash::Hash;
 use std::marker::Model;
-use std::snapshot::Snapshot;
 
 /// Pairs in insertion order, each with its hash, found by hash and key. A [`Position`] stays until
 /// its pair leaves or `shrink_to_fit` moves it.
@@ -358,51 +357,26 @@ impl<K: Eq + Hash, V> Table<K, V> {
         self.index.find(&self.ring, hash, key)
     }
 
-    /// Returns the position of the pair with this hash and key, if any, and the counts, which take
-    /// no bytes: contracts alone read a `Snapshot`. It reads no pair if the filter lacks the
-    /// hash.
-    pub fn position<Q: Equivalent<K>>(
-        &self,
-        hash: u64,
-        key: Q,
-    ) -> (Option<Position<K, V>>, Snapshot<Probe>)
-        ensures found { IfSome result.0 (λ p.
+    /// Returns the position of the pair with this hash and key, if any. It reads no pair if the
+    /// filter lacks the hash.
+    pub fn position<Q: Equivalent<K>>(&self, hash: u64, key: Q) -> Option<Position<K, V>>
+        ensures found { IfSome result (λ p.
             HasKey (Q.equivalent key) hash self.now.held (pointer_of p)) }
-        ensures absent { IfNone result.0 (IsAbsent (Q.equivalent key) hash self.now.held) }
-        ensures counts_found { OnSome result.0
-            (CountsSome (spots self.now.held) (buckets self.now.capacity) hash
-            result.1.value.visited result.1.value.compared) }
-        ensures counts_absent { IfNone result.0
-            (CountsFiltered (spots self.now.held) (buckets self.now.capacity) hash
-            result.1.value.visited result.1.value.compared) }
+        ensures absent { IfNone result (IsAbsent (Q.equivalent key) hash self.now.held) }
     {
         self.index.position(&self.ring, hash, key)
     }
 
-    /// Removes and returns the pair with this hash and key, if any, and returns the counts, as
-    /// `position` does. Asks the filter first.
-    pub fn remove<Q: Equivalent<K>>(
-        &mut self,
-        hash: u64,
-        key: Q,
-    ) -> (Option<(K, V)>, Snapshot<Probe>)
-        ensures removed { IfSome result.0
+    /// Removes and returns the pair with this hash and key, if any. Asks the filter first.
+    pub fn remove<Q: Equivalent<K>>(&mut self, hash: u64, key: Q) -> Option<(K, V)>
+        ensures removed { IfSome result
             (Removes (Q.equivalent key) hash self.old.held self.new.held) }
-        ensures absent { IfNone result.0 (IsAbsent (Q.equivalent key) hash self.old.held) }
-        ensures counts_found { OnSome result.0
-            (CountsSome (spots self.old.held) (buckets self.old.capacity) hash
-            result.1.value.visited result.1.value.compared) }
-        ensures counts_absent { IfNone result.0
-            (CountsFiltered (spots self.old.held) (buckets self.old.capacity) hash
-            result.1.value.visited result.1.value.compared) }
-        ensures unchanged { IfNone result.0 (self.new ≡ self.old) }
+        ensures absent { IfNone result (IsAbsent (Q.equivalent key) hash self.old.held) }
+        ensures unchanged { IfNone result (self.new ≡ self.old) }
         ensures keeps { KeepsCounts self.old self.new }
     {
-        let (found, counts) = self.index.take_out(&mut self.ring, hash, key);
-        let Some(at) = found else {
-            return (None, counts);
-        };
+        let at = self.index.take_out(&mut self.ring, hash, key)?;
         let (_, key, value) = self.ring.unlink(at);
-        (Some((key, value)), counts)
+        Some((key, value))
     }
 }

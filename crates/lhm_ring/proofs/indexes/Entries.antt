@@ -1,13 +1,13 @@
 -- Nodes with no chain link: what a change of chain links alone leaves.
 use Rattle.std.proofs.Common.{◌≡◌, ℕ, List, [], ◌∷◌, ◌++◌, refl, sym, ◌∙◌, ap, Bool, Option, None}
-use Rattle.std.proofs.Common.{◌%◌, inl, inr, true, false, cond, length, map, Some, subst, eqb, arith}
+use Rattle.std.proofs.Common.{◌%◌, true, false, cond, length, map, Some, subst, eqb, arith}
 use denote.RawPtr.{Ptr}
 use Rattle.std.specs.Prelude.{count_by}
 use Rattle.std.proofs.lemmas.List.{map-append, length-map}
 use Rattle.lhm_ring.proofs.lists.RearrangedCounts.{count_by-cons}
 use Rattle.lhm_ring.specs.Ring.{Held, IsHeld, AtHeld, linked_to, first_at, last_at, last_of, change_at, triples, SplitAt, revalued}
 use Rattle.lhm_ring.specs.Index.{OfNodeAt, entries, spot, spots, same, beside}
-use Rattle.lhm_ring.specs.Search.{HasKey, IsAbsent, Compares, CountsSome, CountsAll, CountsFiltered}
+use Rattle.lhm_ring.specs.Search.{HasKey, IsAbsent, Compares, CountsSome, CountsAll}
 use Rattle.lhm_ring.specs.Nodes.{same_ptr}
 
 pub entries-link : {K V : Type 0} (before : List (Held (K × V))) (x : Held (K × V))
@@ -174,19 +174,6 @@ module _ {K V : Type 0} where
   CountsAll-entries hs m n hash visited compared wide c = record {
     visited_all = c.visited_all ∙ sym (beside-entries hs m hash) ∙ ap (λ k. beside (spots (entries hs)) k hash) wide;
     compared_all = c.compared_all ∙ sym (same-entries hs hash);
-  }
-
-  pub CountsFiltered-entries : (hs : List (Held (K × V))) (m n hash visited compared : ℕ) → m ≡ n
-      → CountsFiltered (spots hs) m hash visited compared
-      → CountsFiltered (spots (entries hs)) n hash visited compared
-  CountsFiltered-entries hs m n hash visited compared wide c = record {
-    compared_all = c.compared_all ∙ sym (same-entries hs hash);
-    order = c.order;
-    visited_all =
-        elim c.visited_all [
-          | inl none ↦ inl none
-          | inr all ↦ inr (all ∙ sym (beside-entries hs m hash) ∙ ap (λ k. beside (spots (entries hs)) k hash) wide)
-        ];
   }
 
 -- nodes with the same entries are as many

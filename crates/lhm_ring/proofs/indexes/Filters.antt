@@ -8,11 +8,10 @@ use Rattle.std.proofs.lemmas.Bool.{cases_eq, eqb-false}
 use Rattle.std.proofs.lemmas.List.{length-map, map-set, get_or-map}
 use Rattle.std.proofs.lemmas.Nat.Bits.{bit_at_set_same, bit_at_set_other}
 use Rattle.lhm_ring.proofs.indexes.Spots.{PutsIn-spots}
-use Rattle.lhm_ring.proofs.lists.RearrangedCounts.{count_by-cons}
 use Rattle.lhm_ring.specs.declared.buckets.Word.{Word}
 use Rattle.lhm_ring.specs.Buckets.{bits_of, may_contain, SetsBit}
 use Rattle.lhm_ring.specs.Ring.{Held}
-use Rattle.lhm_ring.specs.Index.{PutsIn, is_in, Spot, spot, spots, same, entries, CoversAll}
+use Rattle.lhm_ring.specs.Index.{PutsIn, is_in, Spot, spot, spots, entries, CoversAll}
 use Rattle.lhm_ring.specs.Search.{IsAbsent}
 
 -- the bit of the hash in a word
@@ -126,14 +125,6 @@ module _ (words : List ℕ) where
       let head : x.hash ≡ y.hash = cc in
       let tail : map (λ s. s.hash) xs ≡ map (λ s. s.hash) ys = cc in
       (ap (may_contain words) (sym head) ∙ c.0, CoversAll-hashes xs ys tail c.1)
-
-  -- no spot has a hash whose bit is not set
-  pub same-uncovered : (hash : ℕ) (xs : List Spot) → CoversAll words xs → may_contain words hash ≡ false → same xs hash ≡ 0
-  same-uncovered hash [] c lacks = refl
-  same-uncovered hash (x ∷ xs) c lacks =
-      let other : x.hash ≢ hash = λ is. true≢false (sym c.0 ∙ ap (may_contain words) is ∙ lacks) in
-      let off = ap (λ b. cond {A = ℕ} b 1 0) (ne_eqb x.hash hash other) in
-      omega (arith, off, same-uncovered hash xs c.1 lacks, count_by-cons (λ s. eqb s.hash hash) x xs)
 
   module _ {K V : Type 0} where
     hashes-spots : (xs : List (Held (K × V))) → map (λ s. s.hash) (spots xs) ≡ map (λ t. t.hash) (entries xs)

@@ -17,7 +17,7 @@ use Rattle.lhm_ring.proofs.lists.RearrangedCounts.{count_by-IsRearranged, length
 use Rattle.lhm_ring.proofs.indexes.Spots.{IsHeld-spot, PutsIn-bucket, OfNodeAt-spot}
 use Rattle.lhm_ring.specs.Ring.{Held, IsHeld}
 use Rattle.lhm_ring.specs.Index.{IsRearranged, IsChain, IsOnChain, is_in, HasChain, HasChains, Spot, spot, spots, same, beside, OfNodeAt}
-use Rattle.lhm_ring.specs.Search.{Compares, DifferAll, IsPart, FindsKey, FindsNone, CountsAll, CountsFiltered}
+use Rattle.lhm_ring.specs.Search.{Compares, DifferAll, IsPart, FindsKey, FindsNone}
 
 -- ---- counts in the chain
 
@@ -49,27 +49,6 @@ pub length-chain : (chain xs : List Spot) (n hash : ℕ)
     → IsRearranged chain (filter (is_in n (hash % n)) xs) → length chain ≡ beside xs n hash
 length-chain chain xs n hash h =
     length-IsRearranged chain (filter (is_in n (hash % n)) xs) h ∙ length-filter (is_in n (hash % n)) xs
-
--- a search that found nothing counts as one that may have asked the filter
-pub CountsFiltered-all : {xs : List Spot} {n hash visited compared : ℕ} → CountsAll xs n hash visited compared
-    → CountsFiltered xs n hash visited compared
-CountsFiltered-all {xs} {n} {hash} c =
-    let in_bucket = filter (is_in n (hash % n)) xs in
-    let few = count_by-le-length (λ v. eqb v.hash hash) in_bucket in
-    record {
-      compared_all = c.compared_all;
-      order = omega (arith, c.compared_all, c.visited_all, same-filter n hash xs, few, length-filter (is_in n (hash % n)) xs);
-      visited_all = inr c.visited_all;
-    }
-
--- without nodes it counts none
-pub CountsFiltered-none : {xs : List Spot} {n hash visited compared : ℕ} → same xs hash ≡ 0 → visited ≡ 0 → compared ≡ 0
-    → CountsFiltered xs n hash visited compared
-CountsFiltered-none none visited compared = record {
-  compared_all = compared ∙ sym none;
-  order = omega (arith, visited, compared);
-  visited_all = inl visited;
-}
 
 -- ---- the search
 

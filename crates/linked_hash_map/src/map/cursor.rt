@@ -219,7 +219,7 @@ impl<K: Eq + Hash, V, S: BuildHasher> LinkedHashMap<K, V, S> {
         ensures unchanged { IsFalse result → self.new ≡ self.old }
         ensures valid { IsValid K.eq self.old }
     {
-        let Some(at) = self.table.position(hash, key).0 else {
+        let Some(at) = self.table.position(hash, key) else {
             return false;
         };
         self.visit = Visit::at(at);

@@ -52,7 +52,7 @@ impl<K: Eq + Hash, V, S: BuildHasher> LinkedHashMap<K, V, S> {
         ensures { option_copied result ≡ value_at Q.equivalent self.now.pairs key }
     {
         let hash = self.hasher.hash_one(key);
-        let at = self.table.position(hash, key).0?;
+        let at = self.table.position(hash, key)?;
         Some(self.table.value(at))
     }
 
@@ -70,7 +70,7 @@ impl<K: Eq + Hash, V, S: BuildHasher> LinkedHashMap<K, V, S> {
         ensures { option_map deref_pair result ≡ find Q.equivalent self.now.pairs key }
     {
         let hash = self.hasher.hash_one(key);
-        let found = self.table.position(hash, key).0?;
+        let found = self.table.position(hash, key)?;
         Some((self.table.key(found), self.table.value(found)))
     }
 
@@ -101,7 +101,7 @@ impl<K: Eq + Hash, V, S: BuildHasher> LinkedHashMap<K, V, S> {
             (record self.old { pairs = set_value Q.equivalent self.old.pairs key v }) }
     {
         let hash = self.hasher.hash_one(key);
-        let found = self.table.position(hash, key).0;
+        let found = self.table.position(hash, key);
         match found {
             Some(at) => Some(self.table.value_mut(at)),
             None => None,
@@ -143,7 +143,7 @@ impl<K: Eq + Hash, V, S: BuildHasher> LinkedHashMap<K, V, S> {
             (IsValid K.eq (refreshed_by Q.equivalent Q.as_key self.old key v)) }
     {
         let hash = self.hasher.hash_one(key);
-        let found = self.table.position(hash, key).0;
+        let found = self.table.position(hash, key);
         match found {
             Some(at) => {
                 self.visit.active = false;

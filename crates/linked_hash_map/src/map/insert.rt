@@ -91,7 +91,7 @@ impl<K: Eq + Hash, V, S: BuildHasher> LinkedHashMap<K, V, S> {
         ensures full { OnErr result (length self.old.pairs ≡ self.old.capacity) }
     {
         let hash = self.hasher.hash_one(&key);
-        if let Some(at) = self.table.position(hash, &key).0 {
+        if let Some(at) = self.table.position(hash, &key) {
             self.visit.active = false;
             touch(&mut self.table, at, self.mode);
             return Ok(Some(mem::replace(self.table.value_mut(at), value)));

@@ -36,7 +36,7 @@ impl<K: Eq + Hash, V, S: BuildHasher> LinkedHashMap<K, V, S> {
         ensures finds { (q : K) → find K.eq self.new.pairs q ≡ find K.eq self.old.pairs q }
     {
         let hash = self.hasher.hash_one(key);
-        let found = self.table.position(hash, key).0;
+        let found = self.table.position(hash, key);
         match found {
             Some(at) => {
                 self.visit.active = false;
@@ -73,7 +73,7 @@ impl<K: Eq + Hash, V, S: BuildHasher> LinkedHashMap<K, V, S> {
         ensures finds { (q : K) → find K.eq self.new.pairs q ≡ find K.eq self.old.pairs q }
     {
         let hash = self.hasher.hash_one(key);
-        let found = self.table.position(hash, key).0;
+        let found = self.table.position(hash, key);
         match found {
             Some(at) => {
                 self.visit.active = false;

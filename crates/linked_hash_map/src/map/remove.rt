@@ -80,7 +80,7 @@ impl<K: Eq + Hash, V, S: BuildHasher> LinkedHashMap<K, V, S> {
         ensures same { IfNone result (self.new.pairs ≡ self.old.pairs) }
     {
         let hash = self.hasher.hash_one(key);
-        let pair = self.table.remove(hash, key).0?;
+        let pair = self.table.remove(hash, key)?;
         self.visit.active = false;
         Some(pair)
     }

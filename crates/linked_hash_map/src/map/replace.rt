@@ -42,7 +42,7 @@ impl<K: Eq + Hash, V, S: BuildHasher> LinkedHashMap<K, V, S> {
         ensures absent { OnErr result (find K.eq self.old.pairs key ≡ None) }
     {
         let hash = self.hasher.hash_one(&key);
-        let found = self.table.position(hash, &key).0;
+        let found = self.table.position(hash, &key);
         match found {
             Some(at) => Ok(self.table.replace_key(at, key)),
             None => Err(key),

@@ -1,25 +1,15 @@
 use Rattle.std.proofs.lemmas.Option.{IfSome_then}
-use Rattle.lhm_ring.proofs.lists.Options.{OnSome-then, IfNone-then}
-use Rattle.lhm_ring.proofs.indexes.Entries.{HasKey-entries, IsAbsent-entries, CountsSome-entries, CountsFiltered-entries}
+use Rattle.lhm_ring.proofs.lists.Options.{IfNone-then}
+use Rattle.lhm_ring.proofs.indexes.Entries.{HasKey-entries, IsAbsent-entries}
 use Rattle.lhm_ring.proofs.table.Table.position.Goals as goal
 use Rattle.lhm_ring.specs.Pointer.{pointer_of}
 
 pub returns-clause-found : goal.returns-clause-found
 returns-clause-found g c =
-    rw (← c.self.view_is) (IfSome_then c.position.result.0 c.position.ensures.found
+    rw (← c.self.view_is) (IfSome_then c.position.result c.position.ensures.found
     (λ p h. HasKey-entries (g.Q.Equivalent.equivalent c.args.key) c.args.hash c.self.inside.ring.held (pointer_of p) h))
 
 pub returns-clause-absent : goal.returns-clause-absent
 returns-clause-absent g c =
-    rw (← c.self.view_is) (IfNone-then c.position.result.0 c.position.ensures.absent
+    rw (← c.self.view_is) (IfNone-then c.position.result c.position.ensures.absent
     (λ h. IsAbsent-entries (g.Q.Equivalent.equivalent c.args.key) c.args.hash c.self.inside.ring.held h))
-
-pub returns-clause-counts_found : goal.returns-clause-counts_found
-returns-clause-counts_found g c = rw (← c.self.view_is)
-    (OnSome-then c.position.result.0 c.position.ensures.counts_found
-    (λ h. CountsSome-entries c.self.inside.ring.held _ _ c.args.hash _ _ c.self.invariant.indexed.count h))
-
-pub returns-clause-counts_absent : goal.returns-clause-counts_absent
-returns-clause-counts_absent g c = rw (← c.self.view_is)
-    (IfNone-then c.position.result.0 c.position.ensures.counts_absent
-    (λ h. CountsFiltered-entries c.self.inside.ring.held _ _ c.args.hash _ _ c.self.invariant.indexed.count h))

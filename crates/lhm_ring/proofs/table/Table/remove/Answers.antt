@@ -1,41 +1,31 @@
 use Rattle.std.proofs.Common.{◌≡◌, ◌++◌, sym, ap, ◌∙◌, arith}
 use Rattle.lhm_ring.proofs.indexes.Entries.{HasKey-kept, IsAbsent-entries, HasKey-entries, entries-append}
-use Rattle.lhm_ring.proofs.indexes.Entries.{CountsSome-entries, CountsFiltered-entries}
 use Rattle.lhm_ring.proofs.tables.Tables.{AtHeld-same_entries, length-capacity, IsTable-removed, length-with_spares}
 use Rattle.lhm_ring.proofs.table.Table.remove.Goals as goal
 use Rattle.lhm_ring.specs.Pointer.{pointer_of}
 use Rattle.lhm_ring.specs.Index.{entries}
 
-pub returns-in_default-clause-absent : goal.returns-in_default-clause-absent
-returns-in_default-clause-absent g c =
-    let absent = rw c.in_default.is at c.take_out-found.ensures.absent in
-    rw (← c.self.view_is) (IsAbsent-entries (g.Q.Equivalent.equivalent c.args.key) c.args.hash c.self.inside.ring.held absent)
-
-pub returns-in_default-clause-counts_absent : goal.returns-in_default-clause-counts_absent
-returns-in_default-clause-counts_absent g c =
-    let counts = rw c.in_default.is at c.take_out-found.ensures.counts_absent in
-    rw (← c.self.view_is) (CountsFiltered-entries c.self.inside.ring.held _ _ c.args.hash _ _ c.self.invariant.indexed.count counts)
-
-pub returns-clause-counts_found : goal.returns-clause-counts_found
-returns-clause-counts_found g c =
-    let counts = rw c.in-Some.is at c.take_out-found.ensures.counts_found in
-    rw (← c.self.view_is) (CountsSome-entries c.self.inside.ring.held _ _ c.args.hash _ _ c.self.invariant.indexed.count counts)
+pub returns-in_err-at-clause-absent : goal.returns-in_err-at-clause-absent
+returns-in_err-at-clause-absent g c =
+    let absent = rw c.in_err-at.was at c.take_out.ensures.absent in
+    rw (c.from_residual.ensures, ← c.self.view_is)
+    (IsAbsent-entries (g.Q.Equivalent.equivalent c.args.key) c.args.hash c.self.inside.ring.held absent)
 
 pub invariant_of-self-2 : goal.invariant_of-self-2
 invariant_of-self-2 g c =
-    let taken = c.take_out-found.ensures in
+    let taken = c.take_out.ensures in
     let unlinked = c.unlink-key.ensures in
-    IsTable-removed c.self.invariant taken.held taken.spares taken.nodes (rw c.in-Some.is at taken.lacks) unlinked.others
+    IsTable-removed c.self.invariant taken.held taken.spares taken.nodes (rw c.in_ok-at.was at taken.lacks) unlinked.others
     unlinked.spares unlinked.nodes taken.buckets
 
 pub returns-clause-removed : goal.returns-clause-removed
 returns-clause-removed g c =
     let i = c.self.inside in
-    let p = pointer_of c.in-Some.at in
-    let ks = c.take_out-found.new.ring.held in
-    let taken = c.take_out-found.ensures in
+    let p = pointer_of c.in_ok-at.at in
+    let ks = c.take_out.new.ring.held in
+    let taken = c.take_out.ensures in
     let has = HasKey-kept ks i.ring.held p (sym taken.held) (g.Q.Equivalent.equivalent c.args.key) c.args.hash
-    (rw c.in-Some.is at taken.found) in
+    (rw c.in_ok-at.was at taken.found) in
     record {
       at = p;
       has = rw (← c.self.view_is) (HasKey-entries (g.Q.Equivalent.equivalent c.args.key) c.args.hash i.ring.held p has);
@@ -49,9 +39,9 @@ returns-clause-removed g c =
 
 pub returns-clause-keeps : goal.returns-clause-keeps
 returns-clause-keeps g c =
-    let taken = c.take_out-found.ensures in
+    let taken = c.take_out.ensures in
     let unlinked = c.unlink-key.ensures in
-    let all = length-with_spares c.self.invariant taken.held taken.spares taken.nodes (rw c.in-Some.is at taken.lacks)
+    let all = length-with_spares c.self.invariant taken.held taken.spares taken.nodes (rw c.in_ok-at.was at taken.lacks)
     unlinked.others unlinked.spares unlinked.nodes in
     let before = length-capacity c.self.inside.ring c.self.inside.rechained c.self.view_is in
     record {

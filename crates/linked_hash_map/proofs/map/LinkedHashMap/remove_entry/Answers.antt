@@ -14,7 +14,7 @@ use Rattle.lhm_ring.specs.Ring.{Held}
 use Rattle.lhm_ring.specs.Table.{TableState}
 
 -- a key that is not found is absent
-absent : (g : _) (c : goal.After-drop-remove g) → find g.Q.Equivalent.equivalent c.args.self.now.pairs c.args.key ≡ None
+absent : (g : _) (c : goal.After-from_residual g) → find g.Q.Equivalent.equivalent c.args.self.now.pairs c.args.key ≡ None
 absent g c =
     let m = c.self.inside in
     rw (← c.self.view_is) (find-IsAbsent (hash_by-respects g.S.Hasher.Hasher.finish
@@ -25,7 +25,7 @@ pub returns-in_err-pair-clause-pair : goal.returns-in_err-pair-clause-pair
 returns-in_err-pair-clause-pair g c = c.from_residual.ensures ∙ sym (absent g c)
 
 -- and then no pair changes
-same : (g : _) (c : goal.After-drop-remove g) → c.remove.new.self.held ≡ c.self.inside.table.held
+same : (g : _) (c : goal.After-from_residual g) → c.remove.new.self.held ≡ c.self.inside.table.held
 same g c = ap (λ (s : TableState _). s.held) (of-None c.in_err-pair.was c.remove.ensures.unchanged)
 
 pub returns-in_err-pair-clause-pairs : goal.returns-in_err-pair-clause-pairs
