@@ -226,8 +226,11 @@ class Linked:
         return self.memory.reserve(additional, len(self.pairs), effects)
 
     def is_shrunk(self, effects):
-        """Tells whether the capacity is lowered to the number of pairs."""
-        return self.memory.is_shrunk(len(self.pairs), effects)
+        """Tells whether the capacity is lowered to the number of pairs, which ends a visit."""
+        if not self.memory.is_shrunk(len(self.pairs), effects):
+            return False
+        self.end_visit()
+        return True
 
     def clone(self, effects):
         """Returns a clone, or `None` if memory or a clone is refused: then the clones made so far

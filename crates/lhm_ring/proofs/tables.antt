@@ -1,5 +1,4 @@
 pub mod IndexedRing
-pub mod NodesBehind
 pub mod Retained
 pub mod Rotated
 pub mod TableValues

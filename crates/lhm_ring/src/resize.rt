@@ -1,13 +1,12 @@
-//! Raises and lowers the capacity, moves all triples side by side, and counts those behind one.
-ghost use Rattle.std.specs.Prelude.{◌≡◌, ◌+◌, ◌<◌, ◌≤◌, ◌^◌, [], length, OnOk, OnErr, ◌++◌, IfSome, IfNone};
-ghost use Rattle.lhm_ring.specs.Ring.{triples, IsHeld, AtHeld};
+//! Raises and lowers the capacity, and moves all triples side by side.
+ghost use Rattle.std.specs.Prelude.{◌≡◌, ◌+◌, ◌<◌, ◌≤◌, ◌^◌, [], length, OnOk, OnErr, ◌++◌};
+ghost use Rattle.lhm_ring.specs.Ring.{triples};
 ghost use Rattle.lhm_ring.specs.Buckets.{buckets, rechained_raised, rechained_lowered, rechained_fitted, made_raised, made_fitted};
 ghost use Rattle.lhm_ring.specs.Links.{nodes_grown, least_more};
-ghost use Rattle.lhm_ring.specs.Pointer.{pointer_of};
 
 use crate::index::{Index, buckets_for};
 use crate::ring::Ring;
-use crate::table::{Position, Table};
+use crate::table::Table;
 use std::alloc::AllocError;
 use std::mem;
 
@@ -177,40 +176,5 @@ impl<K, V> Ring<K, V> {
         move_all(self, &mut fresh);
         mem::replace(self, fresh).destroy_empty();
         Ok(())
-    }
-}
-
-impl<K, V> Table<K, V> {
-    /// Returns the number of pairs behind a position, in O(n) for these.
-    pub fn behind(&self, at: Position<K, V>) -> usize
-        requires { IsHeld self.now.held (pointer_of at) }
-        ensures { AtHeld self.now.held (pointer_of at) (λ xs t ys. result ≡ length ys) }
-    {
-        let mut here = at;
-        let mut passed = 0;
-        'pairs: while let Some(next) = self.ring.next(here) {
-            here = next;
-            passed += 1;
-        }
-        passed
-    }
-
-    /// Returns the position with this many pairs behind it, if any, in O(n) for these.
-    pub fn nth_back(&self, behind: usize) -> Option<Position<K, V>>
-        ensures held { IfSome result (λ at. IsHeld self.now.held (pointer_of at)) }
-        ensures behind { IfSome result (λ at.
-            AtHeld self.now.held (pointer_of at) (λ xs t ys. length ys ≡ behind)) }
-        ensures none { IfNone result (length self.now.held ≤ behind) }
-    {
-        let mut here = self.last();
-        let mut passed = 0;
-        'pairs: while passed < behind {
-            let Some(at) = here else {
-                return None;
-            };
-            here = self.previous(at);
-            passed += 1;
-        }
-        here
     }
 }

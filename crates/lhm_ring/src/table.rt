@@ -152,15 +152,6 @@ impl<K, V> Table<K, V> {
         self.ring.next(at)
     }
 
-    /// Returns the position of the previous pair, if any.
-    pub fn previous(&self, at: Position<K, V>) -> Option<Position<K, V>>
-        requires { IsHeld self.now.held (pointer_of at) }
-        ensures { AtHeld self.now.held (pointer_of at) (λ xs t ys.
-            pointer_of_some result ≡ last_at xs) }
-    {
-        self.ring.previous(at)
-    }
-
     /// Returns the key at a position.
     pub fn key(&self, at: Position<K, V>) -> &K
         requires { IsHeld self.now.held (pointer_of at) }

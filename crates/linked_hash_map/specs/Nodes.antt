@@ -47,13 +47,6 @@ module _ {B : Type 0} where
   Lies None hs = ⊤
   Lies (Some p) hs = before p hs < length hs
 
-  -- if there is a pointer, the node there has this many behind it; if not, there is no count
-  abbrev pub HasBehind : Option Ptr → List (Held B) → Option ℕ → Type 0
-  HasBehind None hs None = ⊤
-  HasBehind None hs (Some n) = ⊥
-  HasBehind (Some p) hs None = ⊥
-  HasBehind (Some p) hs (Some n) = before p hs + n + 1 ≡ length hs
-
 -- where a cursor or an entry stands: nowhere, and with nothing to visit, if there is neither
 module _ {K V : Type 0} where
   abbrev pub bookmark_of : Visit K V → Option Ptr

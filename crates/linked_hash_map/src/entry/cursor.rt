@@ -69,8 +69,8 @@ impl<K: Eq + Hash, V, S: BuildHasher> LinkedHashMap<K, V, S> {
     ///
     /// Another visit, by this call or by `entries`, ends it, and so does each call, except an
     /// entry's, that may remove or move a pair: in both modes `insert`, the extensions, `entry`,
-    /// `remove` and `get_refresh` of a present key, the pops, `retain`, `clear`, `drain` and
-    /// `replay` of such a command.
+    /// `remove`, `get_refresh`, `move_to_back` and `move_to_front` of a present key, the pops,
+    /// `retain`, `rotate_left`, `clear`, `drain`, `shrink_to_fit` and `replay` of such a command.
     ///
     /// # Examples
     ///

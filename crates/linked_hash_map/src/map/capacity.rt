@@ -1,5 +1,5 @@
 //! Changes of the capacity.
-ghost use Rattle.std.specs.Prelude.{◌≡◌, ◌+◌, ◌*◌, ◌<◌, ◌≤◌, length, max, IsErrOf, ◌↔◌, OnOk, OnErr};
+ghost use Rattle.std.specs.Prelude.{◌≡◌, ◌+◌, ◌*◌, ◌<◌, ◌≤◌, [], length, max, IsErrOf, ◌↔◌, OnOk, OnErr};
 ghost use Rattle.linked_hash_map.specs.Cursor.{to_visit};
 ghost use Rattle.linked_hash_map.specs.Changes.{KeepsSettings};
 ghost use Rattle.linked_hash_map.specs.Validity.{IsValid};
@@ -62,7 +62,7 @@ impl<K: Eq + Hash, V, S: BuildHasher> LinkedHashMap<K, V, S> {
     /// Lowers the capacity to exactly the number of pairs, in O(capacity), the old one.
     ///
     /// It frees memory only if the number of buckets falls. It then allocates first, unless the map
-    /// is empty, and returns `NoRoom` if that fails.
+    /// is empty, and returns `NoRoom` if that fails. Unless it is refused, a visit ends.
     ///
     /// # Examples
     ///
@@ -84,7 +84,7 @@ impl<K: Eq + Hash, V, S: BuildHasher> LinkedHashMap<K, V, S> {
             ≡ rechained_fitted self.old.rechained (length self.old.pairs) self.old.capacity) }
         ensures made { OnOk result (self.new.made
             ≡ made_fitted self.old.made (length self.old.pairs) self.old.capacity) }
-        ensures to_visit { to_visit self.new ≡ to_visit self.old }
+        ensures ends_visit { OnOk result (to_visit self.new ≡ []) }
         ensures valid { IsValid K.eq self.old }
         ensures stays_valid { IsValid K.eq self.new }
 
@@ -94,10 +94,9 @@ impl<K: Eq + Hash, V, S: BuildHasher> LinkedHashMap<K, V, S> {
         ensures falls { OnErr result
             (buckets (length self.old.pairs) < buckets self.old.capacity) }
     {
-        let behind = self.visit.behind(&self.table);
         match self.table.shrink_to_fit() {
             Ok(()) => {
-                self.visit = self.visit.moved_to(&self.table, behind);
+                self.visit.active = false;
                 Ok(())
             }
             Err(_) => Err(NoRoom),

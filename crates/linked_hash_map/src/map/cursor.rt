@@ -1,5 +1,5 @@
 //! Where a cursor or an entry stands. Contracts speak of indexes into the list of pairs.
-ghost use Rattle.std.specs.Prelude.{◌≡◌, ◌<◌, [], length, option_map, None, ◌∷◌, map, remove, slice_get, Some, IfSome, IfNone, IsTrue, IsFalse};
+ghost use Rattle.std.specs.Prelude.{◌≡◌, ◌<◌, [], length, option_map, None, ◌∷◌, map, remove, slice_get, Some, IsTrue, IsFalse};
 ghost use Rattle.std.specs.Map.{keys_of};
 ghost use Rattle.std.specs.Borrow.{sem};
 ghost use Rattle.linked_hash_map.specs.Pairs.{find, put, set_key, to_back_as_is, to_front};
@@ -8,7 +8,7 @@ ghost use Rattle.linked_hash_map.specs.Changes.{Keeps};
 ghost use Rattle.linked_hash_map.specs.Validity.{IsValid};
 ghost use Rattle.linked_hash_map.specs.Hashers.{hash_by};
 ghost use Rattle.linked_hash_map.specs.Indexes.{IsIndex};
-ghost use Rattle.linked_hash_map.specs.Nodes.{bookmark_of, unvisited_of, current_of, Lies, HasBehind};
+ghost use Rattle.linked_hash_map.specs.Nodes.{bookmark_of, unvisited_of, current_of};
 ghost use Rattle.lhm_ring.specs.Nodes.{IsApart};
 ghost use Rattle.lhm_ring.specs.Pointer.{pointer_of, pointer_of_some};
 ghost use Rattle.lhm_ring.specs.Ring.{IsHeld, AtHeld, first_at};
@@ -89,36 +89,6 @@ impl<K, V> Visit<K, V> {
         ensures { pointer_of_some result ≡ current_of self.now }
     {
         if self.active { self.current } else { None }
-    }
-
-    /// Returns how many pairs come behind the next one to visit, in O(n).
-    pub(super) fn behind(&self, table: &Table<K, V>) -> Option<usize>
-        requires { Lies (bookmark_of self.now) table.now.held }
-        ensures { HasBehind (bookmark_of self.now) table.now.held result }
-    {
-        match self.bookmark() {
-            Some(at) => Some(table.behind(at)),
-            None => None,
-        }
-    }
-
-    /// Returns this visit at the pair with this many behind it, in O(n).
-    pub(super) fn moved_to(&self, table: &Table<K, V>, behind: Option<usize>) -> Self
-        requires within { IfSome behind (λ n. n < length table.now.held) }
-        requires none { IfNone behind (unvisited_of self.now ≡ 0) }
-        ensures bookmark { HasBehind (bookmark_of result) table.now.held behind }
-        ensures unvisited { unvisited_of result ≡ unvisited_of self.now }
-        ensures current { current_of result ≡ None }
-    {
-        match behind {
-            Some(behind) => Visit {
-                active: true,
-                bookmark: table.nth_back(behind),
-                unvisited: self.unvisited(),
-                current: None,
-            },
-            None => Visit::none(),
-        }
     }
 }
 

@@ -1,6 +1,7 @@
-use Rattle.std.proofs.Common.{◌∙◌, sym, ap, arith, inr}
+use Rattle.std.proofs.Common.{◌∙◌, sym, ap, arith, inl, inr}
 use Rattle.lhm_ring.proofs.indexes.BucketCounts.{rechained_fitted-same}
 use Rattle.linked_hash_map.specs.Counts.{rechained_fitted}
+use Rattle.linked_hash_map.specs.Cursor.{to_visit}
 use Rattle.linked_hash_map.proofs.runs.Effects.{size-contents, Defines-shrink, Defines-nothing}
 use Rattle.linked_hash_map.proofs.replay.shrink.Goals as goal
 
@@ -12,7 +13,7 @@ returns-in-Ok g c =
       defines = λ start log defines. Defines-shrink g.met.K.Eq.laws defines done.pairs done.capacity done.settings.mode;
       hasher = done.settings.hasher;
       rechained = done.rechained ∙ ap (λ n. rechained_fitted c.args.map.now.rechained n c.args.map.now.capacity) (sym done.capacity);
-      visit = inr done.to_visit;
+      visit = inl done.ends_visit;
     }
 
 pub returns-in-Err : goal.returns-in-Err
@@ -30,5 +31,5 @@ returns-in-Err g c =
       hasher = refused.settings.hasher;
       rechained = ap (λ m. m.rechained) refused.unchanged
           ∙ sym (rechained_fitted-same c.args.map.now.rechained _ c.args.map.now.capacity (sym (ap (λ m. m.capacity) refused.unchanged)));
-      visit = inr refused.to_visit;
+      visit = inr (ap to_visit refused.unchanged);
     }
