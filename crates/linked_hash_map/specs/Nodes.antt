@@ -9,7 +9,9 @@ use Rattle.linked_hash_map.specs.declared.map.cursor.Visit.{Visit}
 use Rattle.linked_hash_map.specs.declared.map.LinkedHashMap.TheInside.{Inside}
 use Rattle.lhm_ring.specs.Nodes.{same_ptr}
 use Rattle.lhm_ring.specs.Pointer.{pointer_of_some}
+use Rattle.linked_hash_map.specs.Pairs.{find}
 use Rattle.lhm_ring.specs.Ring.{Held, held}
+use Rattle.lhm_ring.specs.Search.{HasKey}
 use Rattle.lhm_ring.specs.Table.{TableState}
 
 -- where a cursor and an entry stand: the next pair to visit, how many are left, and an entry's pair
@@ -83,6 +85,12 @@ module _ {K V : Type 0} where
 
   abbrev pub bare : List (Held (K × V)) → List (Held K)
   bare = map bare_node
+
+  -- the node at p has this key, and the hash, and a lookup of the key finds its pair
+  pub record IsLocated {A : Type 0} (eq : A → K → Bool) (key : A) (hash : ℕ)
+      (hs : List (Held (K × V))) (p : Ptr) : Type 0 where
+    pub has : HasKey (eq key) hash hs p
+    pub pair : find eq (pairs_of hs) key ≡ Some has.held.node.pair
 
   abbrev pub beside : {S H : Type 0} → Inside K V S H → Beside S
   beside m = record { hasher = m.hasher; visit = visit_of m.visit; mode = m.mode }

@@ -1,17 +1,15 @@
 -- A key that a lookup does not find.
 use Rattle.std.proofs.Common.{◌≡◌, ℕ, Bool, true, false, ◌||◌, ◌&&◌, eqb, List, [], ◌∷◌, fold, None}
-use Rattle.std.proofs.Common.{option_map, IsTrue, refl, sym, ap, ◌∙◌, subst}
+use Rattle.std.proofs.Common.{IsTrue, refl, sym, ap, ◌∙◌}
 use Rattle.std.specs.List.{list_any, AllByRecursion}
 use Rattle.std.specs.Map.{keys_of}
 use Rattle.std.proofs.lemmas.Bool.{eq-eqb}
 use Rattle.linked_hash_map.specs.Hashers.{hash_by}
-use Rattle.linked_hash_map.specs.LinkedMap.{LinkedMap}
-use Rattle.linked_hash_map.specs.Nodes.{Beside, IsKept, pairs_of, bare, map_of}
-use Rattle.linked_hash_map.specs.Pairs.{find, value_at}
+use Rattle.linked_hash_map.specs.Nodes.{pairs_of, bare}
+use Rattle.linked_hash_map.specs.Pairs.{find}
 use Rattle.linked_hash_map.proofs.pairs.Calls.{lookup_entry-none}
 use Rattle.lhm_ring.specs.Ring.{Held}
 use Rattle.lhm_ring.specs.Search.{IsAbsent}
-use Rattle.lhm_ring.specs.Table.{TableState}
 
 -- no node with the hash of a key has that key
 module _ {A K V : Type 0} (eq : A → K → Bool) (hash_of : A → ℕ) (hash : K → ℕ)
@@ -50,17 +48,3 @@ module _ {A K V S : Type 0} {eq : A → K → Bool} {hash_of : S → A → ℕ} 
       → find eq (pairs_of hs) k ≡ None
   find-IsAbsent hasher k is hs hashed none = lookup_entry-none (eq k) (pairs_of hs)
       (list_any-IsAbsent eq (hash_of hasher) (hash hasher) (respects hasher) k is hs hashed none)
-
-  pub value_at-IsAbsent : (hasher : S) (k : A) {n : ℕ} → n ≡ hash_of hasher k
-      → (hs : List (Held (K × V))) → AllByRecursion (λ u. u.hash ≡ hash hasher u.pair) (bare hs)
-      → IsAbsent (eq k) n hs → value_at eq (pairs_of hs) k ≡ None
-  value_at-IsAbsent hasher k is hs hashed none =
-      ap (option_map (λ pair. pair.1)) (find-IsAbsent hasher k is hs hashed none)
-
-  pub find-IsAbsent_map : {by : K → K → Bool} {m : LinkedMap K V S} (s : TableState (K × V)) (b : Beside S)
-      → map_of s b ≡ m → IsKept by (hash b.hasher) (bare s.held) s.capacity b.visit → (k : A) {n : ℕ}
-      → n ≡ hash_of m.hasher k → IsAbsent (eq k) n s.held → find eq m.pairs k ≡ None
-  find-IsAbsent_map s b seen kept k {n} =
-      subst (λ (z : LinkedMap K V S). n ≡ hash_of z.hasher k → IsAbsent (eq k) n s.held
-      → find eq z.pairs k ≡ None) seen
-      (λ is none. find-IsAbsent b.hasher k is s.held kept.hashed none)

@@ -55,8 +55,8 @@ impl<K: Eq + Hash, V, S: BuildHasher> LinkedHashMap<K, V, S> {
         ensures removes { Updates K.eq self.old.pairs
             (without K.eq self.old.pairs (entry_key result)) key None }
     {
-        let hash = self.hasher().hash_one(&key);
-        if self.seek(hash, &key) {
+        let (hash, found) = self.seek(&key);
+        if found {
             Entry::Occupied(OccupiedEntry { map: self })
         } else {
             Entry::Vacant(VacantEntry {

@@ -14,6 +14,7 @@ ghost use Rattle.lhm_ring.specs.Pointer.{pointer_of, pointer_of_some};
 ghost use Rattle.lhm_ring.specs.Ring.{IsHeld, AtHeld, first_at};
 
 use super::LinkedHashMap;
+use super::get::locate;
 use super::insert::touch;
 use lhm_ring::table::{Position, Table};
 use std::alloc::AllocError;
@@ -174,26 +175,29 @@ impl<K: Eq + Hash, V, S: BuildHasher> LinkedHashMap<K, V, S> {
         self.visit.unvisited()
     }
 
-    /// Makes the pair of a key the current one, ending a visit, and returns whether there is one.
+    /// Makes the pair of a key the current one, ending a visit, and returns the hash of the key, and
+    /// whether there is such a pair. Hashes the key once.
     #[inline]
-    pub(crate) fn seek(&mut self, hash: u64, key: &K) -> bool
-        requires { hash ≡ hash_by S.Hasher.finish S.Hasher.write S.build_hasher K.hash_input
+    pub(crate) fn seek(&mut self, key: &K) -> (u64, bool)
+        ensures hash { result.0 ≡ hash_by S.Hasher.finish S.Hasher.write S.build_hasher K.hash_input
             self.old.hasher key.now }
-        ensures found { IsTrue result
+        ensures found { IsTrue result.1
             → IsIndex K.eq self.old.pairs key.now self.new.cursor.current }
-        ensures ends_visit { IsTrue result → without_cursor self.new ≡ without_cursor self.old }
-        ensures visited { IsTrue result → self.new.cursor.unvisited ≡ 0 }
-        ensures bookmark { IsTrue result → self.new.cursor.bookmark ≡ 0 }
-        ensures outside { IsTrue result → IsOutside self.new.cursor.current self.new }
-        ensures absent { IsFalse result → find K.eq self.old.pairs key.now ≡ None }
-        ensures unchanged { IsFalse result → self.new ≡ self.old }
+        ensures ends_visit { IsTrue result.1
+            → without_cursor self.new ≡ without_cursor self.old }
+        ensures visited { IsTrue result.1 → self.new.cursor.unvisited ≡ 0 }
+        ensures bookmark { IsTrue result.1 → self.new.cursor.bookmark ≡ 0 }
+        ensures outside { IsTrue result.1 → IsOutside self.new.cursor.current self.new }
+        ensures absent { IsFalse result.1 → find K.eq self.old.pairs key.now ≡ None }
+        ensures unchanged { IsFalse result.1 → self.new ≡ self.old }
         ensures valid { IsValid K.eq self.old }
     {
-        let Some(at) = self.table.position(hash, key) else {
-            return false;
+        let (hash, found) = locate(&self.table, &self.hasher, key);
+        let Some(at) = found else {
+            return (hash, false);
         };
         self.visit = Visit::at(at);
-        true
+        (hash, true)
     }
 
     /// Returns references to the current pair.

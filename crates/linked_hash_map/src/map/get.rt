@@ -1,5 +1,6 @@
 //! Lookups, and indexing by a key that is present.
-ghost use Rattle.std.specs.Prelude.{◌≡◌, ◌≤◌, length, option_copied, option_map, is_some, IfNone, IfSome, OnSome, Some, IsSome};
+ghost use Rattle.std.specs.Prelude.{◌≡◌, ◌≤◌, length, map, None, option_copied, option_map, is_some, IfNone, IfSome, OnSome, Some, IsSome};
+ghost use Rattle.std.specs.List.{IsDistinct, AllByRecursion};
 ghost use Rattle.std.specs.Map.Iter.{deref_pair};
 ghost use Rattle.std.specs.Borrow.{sem};
 ghost use Rattle.std.specs.Option.{option_copied_mut};
@@ -9,9 +10,12 @@ ghost use Rattle.linked_hash_map.specs.Updates.{Updates, UpdatesBy};
 ghost use Rattle.linked_hash_map.specs.Validity.{IsValid};
 ghost use Rattle.linked_hash_map.specs.Hashers.{hash_by};
 ghost use Rattle.linked_hash_map.specs.Counts.{same, beside};
+ghost use Rattle.linked_hash_map.specs.Nodes.{bare, pairs_of, IsLocated};
+ghost use Rattle.lhm_ring.specs.Pointer.{pointer_of};
 
 use super::LinkedHashMap;
 use equivalent::Equivalent;
+use lhm_ring::table::{Position, Table};
 use std::hash::{BuildHasher, Hash};
 use std::ops::{Index, IndexMut};
 
@@ -35,6 +39,27 @@ pub struct Probe {
     pub compared: usize,
 }
 
+/// Returns the hash of a key, and the position of its pair, if present. Hashes the key once.
+#[inline]
+pub(super) fn locate<K: Eq + Hash, V, S: BuildHasher, Q: Equivalent<K>>(
+    table: &Table<K, V>,
+    hasher: &S,
+    key: Q,
+) -> (u64, Option<Position<K, V>>)
+    requires distinct { IsDistinct K.eq (map (λ u. u.pair) (bare table.now.held)) }
+    requires hashed { AllByRecursion (λ u. u.hash ≡ hash_by S.Hasher.finish S.Hasher.write
+        S.build_hasher K.hash_input hasher.now u.pair) (bare table.now.held) }
+    ensures hash { result.0
+        ≡ hash_by S.Hasher.finish S.Hasher.write S.build_hasher Q.hash_input hasher.now key }
+    ensures found { IfSome result.1 (λ p.
+        IsLocated Q.equivalent key result.0 table.now.held (pointer_of p)) }
+    ensures absent { IfNone result.1
+        (find Q.equivalent (pairs_of table.now.held) key ≡ None) }
+{
+    let hash = hasher.hash_one(key);
+    (hash, table.position(hash, key))
+}
+
 impl<K: Eq + Hash, V, S: BuildHasher> LinkedHashMap<K, V, S> {
     ghost use Rattle.linked_hash_map.specs.Lends.{lends_value, lends_refreshed, lends_first, lends_last};
 
@@ -51,9 +76,8 @@ impl<K: Eq + Hash, V, S: BuildHasher> LinkedHashMap<K, V, S> {
     pub fn get<Q: Equivalent<K>>(&self, key: Q) -> Option<&V>
         ensures { option_copied result ≡ value_at Q.equivalent self.now.pairs key }
     {
-        let hash = self.hasher.hash_one(key);
-        let at = self.table.position(hash, key)?;
-        Some(self.table.value(at))
+        let (_, found) = locate(&self.table, &self.hasher, key);
+        Some(self.table.value(found?))
     }
 
     /// Returns the stored key and the value of a key, if present, in O(1). Hashes the key once.
@@ -69,9 +93,9 @@ impl<K: Eq + Hash, V, S: BuildHasher> LinkedHashMap<K, V, S> {
     pub fn get_key_value<Q: Equivalent<K>>(&self, key: Q) -> Option<(&K, &V)>
         ensures { option_map deref_pair result ≡ find Q.equivalent self.now.pairs key }
     {
-        let hash = self.hasher.hash_one(key);
-        let found = self.table.position(hash, key)?;
-        Some((self.table.key(found), self.table.value(found)))
+        let (_, found) = locate(&self.table, &self.hasher, key);
+        let at = found?;
+        Some((self.table.key(at), self.table.value(at)))
     }
 
     /// Returns a mutable reference to the value of a key, if present, in O(1). Hashes the key once.
@@ -100,8 +124,7 @@ impl<K: Eq + Hash, V, S: BuildHasher> LinkedHashMap<K, V, S> {
         ensures stays_valid { (v : V) → IsValid K.eq
             (record self.old { pairs = set_value Q.equivalent self.old.pairs key v }) }
     {
-        let hash = self.hasher.hash_one(key);
-        let found = self.table.position(hash, key);
+        let (_, found) = locate(&self.table, &self.hasher, key);
         match found {
             Some(at) => Some(self.table.value_mut(at)),
             None => None,
@@ -142,8 +165,7 @@ impl<K: Eq + Hash, V, S: BuildHasher> LinkedHashMap<K, V, S> {
         ensures stays_valid { (v : V) → OnSome result
             (IsValid K.eq (refreshed_by Q.equivalent Q.as_key self.old key v)) }
     {
-        let hash = self.hasher.hash_one(key);
-        let found = self.table.position(hash, key);
+        let (_, found) = locate(&self.table, &self.hasher, key);
         match found {
             Some(at) => {
                 self.visit.active = false;

@@ -13,6 +13,7 @@ ghost use Rattle.lhm_ring.specs.Pointer.{pointer_of};
 ghost use Rattle.lhm_ring.specs.Ring.{IsHeld};
 ghost use Rattle.lhm_ring.specs.Table.{KeepsCounts};
 
+use super::get::locate;
 use super::{LIMIT, LinkedHashMap, Mode};
 use crate::error::Refused;
 use lhm_ring::table::{Position, Table};
@@ -90,8 +91,8 @@ impl<K: Eq + Hash, V, S: BuildHasher> LinkedHashMap<K, V, S> {
         ensures absent { OnErr result (find K.eq self.old.pairs key ≡ None) }
         ensures full { OnErr result (length self.old.pairs ≡ self.old.capacity) }
     {
-        let hash = self.hasher.hash_one(&key);
-        if let Some(at) = self.table.position(hash, &key) {
+        let (hash, found) = locate(&self.table, &self.hasher, &key);
+        if let Some(at) = found {
             self.visit.active = false;
             touch(&mut self.table, at, self.mode);
             return Ok(Some(mem::replace(self.table.value_mut(at), value)));

@@ -6,6 +6,7 @@ ghost use Rattle.linked_hash_map.specs.Changes.{Keeps};
 ghost use Rattle.linked_hash_map.specs.Validity.{IsValid};
 
 use super::LinkedHashMap;
+use super::get::locate;
 use equivalent::Equivalent;
 use std::hash::{BuildHasher, Hash};
 
@@ -35,8 +36,7 @@ impl<K: Eq + Hash, V, S: BuildHasher> LinkedHashMap<K, V, S> {
         ensures len { length self.new.pairs ≡ length self.old.pairs }
         ensures finds { (q : K) → find K.eq self.new.pairs q ≡ find K.eq self.old.pairs q }
     {
-        let hash = self.hasher.hash_one(key);
-        let found = self.table.position(hash, key);
+        let (_, found) = locate(&self.table, &self.hasher, key);
         match found {
             Some(at) => {
                 self.visit.active = false;
@@ -72,8 +72,7 @@ impl<K: Eq + Hash, V, S: BuildHasher> LinkedHashMap<K, V, S> {
         ensures len { length self.new.pairs ≡ length self.old.pairs }
         ensures finds { (q : K) → find K.eq self.new.pairs q ≡ find K.eq self.old.pairs q }
     {
-        let hash = self.hasher.hash_one(key);
-        let found = self.table.position(hash, key);
+        let (_, found) = locate(&self.table, &self.hasher, key);
         match found {
             Some(at) => {
                 self.visit.active = false;

@@ -7,6 +7,7 @@ ghost use Rattle.linked_hash_map.specs.Changes.{Keeps};
 ghost use Rattle.linked_hash_map.specs.Validity.{IsValid};
 
 use super::LinkedHashMap;
+use super::get::locate;
 use std::hash::{BuildHasher, Hash};
 
 impl<K: Eq + Hash, V, S: BuildHasher> LinkedHashMap<K, V, S> {
@@ -41,8 +42,7 @@ impl<K: Eq + Hash, V, S: BuildHasher> LinkedHashMap<K, V, S> {
         ensures unchanged { OnErr result (self.new ≡ self.old) }
         ensures absent { OnErr result (find K.eq self.old.pairs key ≡ None) }
     {
-        let hash = self.hasher.hash_one(&key);
-        let found = self.table.position(hash, &key);
+        let (_, found) = locate(&self.table, &self.hasher, &key);
         match found {
             Some(at) => Ok(self.table.replace_key(at, key)),
             None => Err(key),

@@ -7,50 +7,50 @@ use Rattle.linked_hash_map.proofs.log.ActsAs.{ActsAs-same, put-ActsAs}
 use Rattle.linked_hash_map.proofs.pairs.OccupiedEntries.{occupied_pair-is}
 use Rattle.linked_hash_map.proofs.map.LinkedHashMap.entry.Goals as goal
 
-pub returns-then-seek-clause-occupied : goal.returns-then-seek-clause-occupied
-returns-then-seek-clause-occupied g c = sym (is_some-index g.met.K.Eq.laws
-    c.seek.ensures.valid.distinct (c.seek.ensures.found c.if-seek.true))
+pub returns-then-found-clause-occupied : goal.returns-then-found-clause-occupied
+returns-then-found-clause-occupied g c = sym (is_some-index g.met.K.Eq.laws
+    c.seek-hash.ensures.valid.distinct (c.seek-hash.ensures.found c.if-found.true))
 
-pub returns-then-seek-clause-key : goal.returns-then-seek-clause-key
-returns-then-seek-clause-key g c =
-    let index = c.seek.ensures.found c.if-seek.true in
-    let there = ap (λ m. slice_get m.pairs c.seek.new.self.cursor.current) (c.seek.ensures.ends_visit c.if-seek.true) ∙ index.there in
+pub returns-then-found-clause-key : goal.returns-then-found-clause-key
+returns-then-found-clause-key g c =
+    let index = c.seek-hash.ensures.found c.if-found.true in
+    let there = ap (λ m. slice_get m.pairs c.seek-hash.new.self.cursor.current) (c.seek-hash.ensures.ends_visit c.if-found.true) ∙ index.there in
     sym (ap (λ pair. pair.0) (occupied_pair-is _ index.pair there))
-    ∙ sym (ap (key_or c.args.key) (find-index g.met.K.Eq.laws c.seek.ensures.valid.distinct index index.there))
+    ∙ sym (ap (key_or c.args.key) (find-index g.met.K.Eq.laws c.seek-hash.ensures.valid.distinct index index.there))
 
-pub returns-then-seek-clause-acts : goal.returns-then-seek-clause-acts
-returns-then-seek-clause-acts g c =
-    let index = c.seek.ensures.found c.if-seek.true in
-    let there = ap (λ m. slice_get m.pairs c.seek.new.self.cursor.current) (c.seek.ensures.ends_visit c.if-seek.true) ∙ index.there in
+pub returns-then-found-clause-acts : goal.returns-then-found-clause-acts
+returns-then-found-clause-acts g c =
+    let index = c.seek-hash.ensures.found c.if-found.true in
+    let there = ap (λ m. slice_get m.pairs c.seek-hash.new.self.cursor.current) (c.seek-hash.ensures.ends_visit c.if-found.true) ∙ index.there in
     ActsAs-same g.met.K.Eq.laws c.args.self.now.pairs _ c.args.key
     (sym (ap (λ pair. g.K.PartialEq.eq c.args.key pair.0) (occupied_pair-is _ index.pair there)) ∙ index.same)
-    (is_some-index g.met.K.Eq.laws c.seek.ensures.valid.distinct index)
+    (is_some-index g.met.K.Eq.laws c.seek-hash.ensures.valid.distinct index)
 
-pub returns-then-seek-clause-value : goal.returns-then-seek-clause-value
-returns-then-seek-clause-value g c =
-    let index = c.seek.ensures.found c.if-seek.true in
-    let there = ap (λ m. slice_get m.pairs c.seek.new.self.cursor.current) (c.seek.ensures.ends_visit c.if-seek.true) ∙ index.there in
+pub returns-then-found-clause-value : goal.returns-then-found-clause-value
+returns-then-found-clause-value g c =
+    let index = c.seek-hash.ensures.found c.if-found.true in
+    let there = ap (λ m. slice_get m.pairs c.seek-hash.new.self.cursor.current) (c.seek-hash.ensures.ends_visit c.if-found.true) ∙ index.there in
     sym (ap (λ pair. Some pair.1) (occupied_pair-is _ index.pair there))
-    ∙ value_at-index g.met.K.Eq.laws c.seek.ensures.valid.distinct index index.there
+    ∙ value_at-index g.met.K.Eq.laws c.seek-hash.ensures.valid.distinct index index.there
 
-pub returns-then-seek-clause-ends_visit : goal.returns-then-seek-clause-ends_visit
-returns-then-seek-clause-ends_visit g c = λ _.
-    let same = c.seek.ensures.ends_visit c.if-seek.true in
-    (λ i. record c.seek.new.self {
-      cursor = cursor_state (c.seek.ensures.bookmark c.if-seek.true i)
-          (c.seek.ensures.visited c.if-seek.true i) nowhere;
+pub returns-then-found-clause-ends_visit : goal.returns-then-found-clause-ends_visit
+returns-then-found-clause-ends_visit g c = λ _.
+    let same = c.seek-hash.ensures.ends_visit c.if-found.true in
+    (λ i. record c.seek-hash.new.self {
+      cursor = cursor_state (c.seek-hash.ensures.bookmark c.if-found.true i)
+          (c.seek-hash.ensures.visited c.if-found.true i) nowhere;
     })
     ∙ same
 
-pub returns-then-seek-clause-updates : goal.returns-then-seek-clause-updates
-returns-then-seek-clause-updates g c v = Updates-set_or_push g.met.K.Eq.laws _ _ _ v ((returns-then-seek-clause-acts g c).sets_or_pushes v)
+pub returns-then-found-clause-updates : goal.returns-then-found-clause-updates
+returns-then-found-clause-updates g c v = Updates-set_or_push g.met.K.Eq.laws _ _ _ v ((returns-then-found-clause-acts g c).sets_or_pushes v)
 
-pub returns-then-seek-clause-inserts : goal.returns-then-seek-clause-inserts
-returns-then-seek-clause-inserts g c v = Updates-put g.met.K.Eq.laws c.args.self.now.mode _ _ _ v
-    (put-ActsAs (returns-then-seek-clause-acts g c) c.args.self.now.mode v)
+pub returns-then-found-clause-inserts : goal.returns-then-found-clause-inserts
+returns-then-found-clause-inserts g c v = Updates-put g.met.K.Eq.laws c.args.self.now.mode _ _ _ v
+    (put-ActsAs (returns-then-found-clause-acts g c) c.args.self.now.mode v)
 
-pub returns-then-seek-clause-removes : goal.returns-then-seek-clause-removes
-returns-then-seek-clause-removes g c = Updates-without g.met.K.Eq.laws _ _ _ (returns-then-seek-clause-acts g c).removes
+pub returns-then-found-clause-removes : goal.returns-then-found-clause-removes
+returns-then-found-clause-removes g c = Updates-without g.met.K.Eq.laws _ _ _ (returns-then-found-clause-acts g c).removes
 
 pub returns-clause-updates : goal.returns-clause-updates
 returns-clause-updates g c v = Updates-set_or_push g.met.K.Eq.laws c.args.self.now.pairs _ c.args.key v refl

@@ -1,11 +1,11 @@
-use Rattle.std.proofs.Common.{◌≤◌, Some, sym, ap, ◌∙◌, subst}
+use Rattle.std.proofs.Common.{◌≤◌, Some, option_map, sym, ap, ◌∙◌, subst}
 use Rattle.linked_hash_map.proofs.nodes.LookupCounts.{same-spots, beside-spots}
 use Rattle.linked_hash_map.proofs.pairs.Indexes.{value_at-index}
 use Rattle.linked_hash_map.proofs.lists.Options.{of-Some, of-None, of-OnSome}
 use Rattle.linked_hash_map.proofs.nodes.FoundKeys.{IsIndex-HasKey}
 use Rattle.linked_hash_map.proofs.nodes.CutNodes.{slice_get-held}
 use Rattle.linked_hash_map.proofs.nodes.Kept.{distinct_keys}
-use Rattle.linked_hash_map.proofs.nodes.AbsentKeys.{hash_by-respects, value_at-IsAbsent}
+use Rattle.linked_hash_map.proofs.nodes.AbsentKeys.{hash_by-respects, find-IsAbsent}
 use Rattle.linked_hash_map.proofs.map.LinkedHashMap.get_counted.Goals as goal
 
 pub returns-in-Some-clause-value : goal.returns-in-Some-clause-value
@@ -33,10 +33,11 @@ returns-in-Some-clause-visited_few g c =
 pub returns-in-None-clause-value : goal.returns-in-None-clause-value
 returns-in-None-clause-value g c =
     let m = c.self.inside in
-    rw (← c.self.view_is) (sym (value_at-IsAbsent (hash_by-respects g.S.Hasher.Hasher.finish
+    rw (← c.self.view_is) (sym (ap (option_map (λ pair. pair.1))
+    (find-IsAbsent (hash_by-respects g.S.Hasher.Hasher.finish
     g.S.Hasher.Hasher.write g.S.BuildHasher.build_hasher g.met.K.Hash.respects_eq) m.hasher
     c.args.key.now c.hash_one-hash.ensures m.table.held c.self.invariant.hashed
-    (of-None c.in-None.is c.find-found.ensures.absent)))
+    (of-None c.in-None.is c.find-found.ensures.absent))))
 
 pub returns-in-None-clause-compared : goal.returns-in-None-clause-compared
 returns-in-None-clause-compared g c =

@@ -1,12 +1,11 @@
 use Rattle.std.proofs.Common.{Some, option_map, refl, inl, ap, sym, ◌∙◌}
 use Rattle.linked_hash_map.specs.Nodes.{beside}
-use Rattle.linked_hash_map.proofs.nodes.StoredKeys.{find-stored, set_value-stored, UpdatesBy-set_value}
+use Rattle.linked_hash_map.proofs.nodes.StoredKeys.{set_value-stored, UpdatesBy-set_value}
 use Rattle.linked_hash_map.proofs.pairs.Written.{IsValid-set_value}
 use Rattle.linked_hash_map.proofs.lists.Options.{of-Some, of-None}
 use Rattle.linked_hash_map.proofs.nodes.HeldPairs.{bare-change}
 use Rattle.linked_hash_map.proofs.nodes.CutNodes.{pairs_of-change_at}
 use Rattle.linked_hash_map.proofs.nodes.Kept.{IsKept-same, distinct_keys, IsValid-view, map_of-revalued}
-use Rattle.linked_hash_map.proofs.nodes.AbsentKeys.{hash_by-respects, value_at-IsAbsent}
 use Rattle.linked_hash_map.proofs.map.LinkedHashMap.get_mut.Goals as goal
 use Rattle.lhm_ring.specs.Pointer.{pointer_of}
 use Rattle.lhm_ring.specs.Ring.{change_at, revalued}
@@ -17,7 +16,7 @@ invariant_of-self-lent g c w = IsKept-same (bare-change (pointer_of c.in-Some.at
 pub returns-in-Some : goal.returns-in-Some
 returns-in-Some g c =
     let m = c.self.inside in let at = pointer_of c.in-Some.at in
-    let h = of-Some _ c.in-Some.is c.position-found.ensures.found in
+    let it = of-Some _ c.in-Some.is c.locate-found.ensures.found in let h = it.has in
     let laws = g.met.K.Eq.laws in let respects = g.met.Q.Equivalent.respects_eq c.args.key in
     let distinct = distinct_keys m.table.held c.self.invariant in
     let valid = IsValid-view m refl c.self.invariant in
@@ -31,7 +30,7 @@ returns-in-Some g c =
         writes_back = tt;
         value = ap Some (c.value_mut.ensures.value h.held.before h.held.node h.held.after h.held.is
             h.held.at_is)
-            ∙ sym (ap (option_map (λ pair. pair.1)) (find-stored laws respects h distinct));
+            ∙ sym (ap (option_map (λ pair. pair.1)) it.pair);
         valid = valid;
         updates = UpdatesBy-set_value laws respects h distinct;
         stays_valid = IsValid-set_value valid (g.Q.Equivalent.equivalent c.args.key);
@@ -45,11 +44,7 @@ returns-in-None g c =
       refl,
       record {
         writes_back = tt;
-        value =
-            sym (value_at-IsAbsent (hash_by-respects g.S.Hasher.Hasher.finish
-            g.S.Hasher.Hasher.write g.S.BuildHasher.build_hasher g.met.Q.Equivalent.respects_hash) m.hasher
-            c.args.key c.hash_one-hash.ensures m.table.held c.self.invariant.hashed
-            (of-None c.in-None.is c.position-found.ensures.absent));
+        value = sym (ap (option_map (λ pair. pair.1)) (of-None c.in-None.is c.locate-found.ensures.absent));
         valid = IsValid-view m refl c.self.invariant;
         updates = λ v. tt;
         stays_valid = IsValid-set_value (IsValid-view m refl c.self.invariant) (g.Q.Equivalent.equivalent c.args.key);

@@ -8,14 +8,13 @@ use Rattle.linked_hash_map.proofs.lists.Options.{of-Some, of-None}
 use Rattle.linked_hash_map.proofs.nodes.Kept.{distinct_keys, IsValid-view}
 use Rattle.linked_hash_map.proofs.nodes.FoundKeys.{before-HasKey, IsIndex-before}
 use Rattle.linked_hash_map.proofs.nodes.PutPair.{IsTouchedAt, touched_cut, pairs-put, value_at-touched, IsKept-put}
-use Rattle.linked_hash_map.proofs.nodes.AbsentKeys.{hash_by-respects, value_at-IsAbsent}
 use Rattle.linked_hash_map.proofs.map.LinkedHashMap.get_refresh.Goals as goal
 use Rattle.lhm_ring.specs.Pointer.{pointer_of}
 
 pub value_mut-requires : goal.value_mut-requires
 value_mut-requires g c =
     let hs = c.self.inside.table.held in let last = c.move_to_back.ensures in
-    let has = of-Some _ c.in-Some.is c.position-found.ensures.found in
+    let has = (of-Some _ c.in-Some.is c.locate-found.ensures.found).has in
     let moved : IsTouchedAt (pointer_of c.in-Some.at) Touch hs c.move_to_back.new.self.held =
     record { lies = before-HasKey has; touched = (last.last, last.apart) } in
     (touched_cut moved).held
@@ -25,7 +24,7 @@ invariant_of-self-lent g c w =
     let hs = c.self.inside.table.held in let last = c.move_to_back.ensures in
     let moved : IsTouchedAt (pointer_of c.in-Some.at) Touch hs c.move_to_back.new.self.held =
     record {
-      lies = before-HasKey (of-Some _ c.in-Some.is c.position-found.ensures.found);
+      lies = before-HasKey (of-Some _ c.in-Some.is c.locate-found.ensures.found).has;
       touched = (last.last, last.apart);
     } in
     IsKept-put g.met.K.Eq.laws moved c.self.invariant last.keeps.capacity w
@@ -33,7 +32,7 @@ invariant_of-self-lent g c w =
 pub returns-in-Some : goal.returns-in-Some
 returns-in-Some g c =
     let m = c.self.inside in let moved = c.move_to_back.ensures in
-    let has = of-Some _ c.in-Some.is c.position-found.ensures.found in
+    let has = (of-Some _ c.in-Some.is c.locate-found.ensures.found).has in
     let laws = g.met.K.Eq.laws in let respects = g.met.Q.Equivalent.respects_eq c.args.key in
     let distinct = distinct_keys m.table.held c.self.invariant in
     let valid = IsValid-view m refl c.self.invariant in
@@ -72,11 +71,7 @@ returns-in-None g c =
       refl,
       record {
         writes_back = tt;
-        value =
-            sym (value_at-IsAbsent (hash_by-respects g.S.Hasher.Hasher.finish
-            g.S.Hasher.Hasher.write g.S.BuildHasher.build_hasher g.met.Q.Equivalent.respects_hash) m.hasher
-            c.args.key c.hash_one-hash.ensures m.table.held c.self.invariant.hashed
-            (of-None c.in-None.is c.position-found.ensures.absent));
+        value = sym (ap (option_map (λ pair. pair.1)) (of-None c.in-None.is c.locate-found.ensures.absent));
         valid = IsValid-view c.self.inside refl c.self.invariant;
         updates = λ v. tt;
         back = λ v. tt;

@@ -1,13 +1,12 @@
 use Rattle.std.proofs.Common.{◌≡◌, ◌++◌, ◌∷◌, [], take, drop, Some, None, IsSome, subst, option_map, refl, sym, ap, ◌∙◌, arith, true≢false}
 use Rattle.std.specs.Map.{keys_of}
-use Rattle.linked_hash_map.specs.Nodes.{beside, pairs_of}
+use Rattle.linked_hash_map.specs.Nodes.{pairs_of}
 use Rattle.linked_hash_map.specs.Pairs.{find, put}
 use Rattle.linked_hash_map.proofs.Callers.Updates.{Updates-put}
 use Rattle.linked_hash_map.proofs.Callers.Lookups.{last-put}
 use Rattle.linked_hash_map.proofs.pairs.Calls.{put-absent}
 use Rattle.linked_hash_map.proofs.lists.Options.{of-Some, of-None}
 use Rattle.linked_hash_map.proofs.nodes.Kept.{distinct_keys, IsValid-kept, IsValid-view}
-use Rattle.linked_hash_map.proofs.nodes.AbsentKeys.{hash_by-respects, find-IsAbsent_map}
 use Rattle.linked_hash_map.proofs.nodes.FoundKeys.{before-HasKey, IsIndex-before}
 use Rattle.linked_hash_map.proofs.nodes.PutPair.{IsTouchedAt, touched_cut, value_at-touched, pairs-put, length-put, IsKept-put}
 use Rattle.linked_hash_map.proofs.map.LinkedHashMap.insert.Goals as goal
@@ -16,9 +15,9 @@ use Rattle.lhm_ring.specs.Search.{HasKey}
 
 -- a position that is found is that of the key
 has : (g : _) (c : goal.After-drop-key g)
-    → HasKey (g.K.PartialEq.eq c.args.key) c.hash_one-hash.result c.self.inside.table.held
+    → HasKey (g.K.PartialEq.eq c.args.key) c.locate-hash.result.0 c.self.inside.table.held
     (pointer_of c.in-Some.at)
-has g c = of-Some _ c.in-Some.is c.position.ensures.found
+has g c = (of-Some _ c.in-Some.is c.locate-hash.ensures.found).has
 
 -- and the node there is moved by the map's mode
 moved : (g : _) (c : goal.After-drop-key g) → IsTouchedAt (pointer_of c.in-Some.at)
@@ -27,17 +26,12 @@ moved g c = record { lies = before-HasKey (has g c); touched = c.touch.ensures.t
 
 -- a key that is not found is absent
 absent : (g : _) (c : goal.After-push_back g) → find g.K.PartialEq.eq c.args.self.now.pairs c.args.key ≡ None
-absent g c =
-    let m = c.self.inside in
-    find-IsAbsent_map (hash_by-respects g.S.Hasher.Hasher.finish g.S.Hasher.Hasher.write
-    g.S.BuildHasher.build_hasher g.met.K.Hash.respects_eq) m.table (beside m) c.self.view_is
-    c.self.invariant c.args.key (rw (← c.self.view_is) c.hash_one-hash.ensures)
-    (of-None c.in_default.is c.position.ensures.absent)
+absent g c = rw (← c.self.view_is) (of-None c.in_default.is c.locate-hash.ensures.absent)
 
 pub value_mut-requires : goal.value_mut-requires
 value_mut-requires g c =
     let hs = c.self.inside.table.held in
-    let there = of-Some _ c.in-Some.is c.position.ensures.found in
+    let there = (of-Some _ c.in-Some.is c.locate-hash.ensures.found).has in
     let moved : IsTouchedAt (pointer_of c.in-Some.at) c.self.inside.mode hs c.touch.new.table.held =
     record { lies = before-HasKey there; touched = c.touch.ensures.touched } in
     (touched_cut moved).held
@@ -92,21 +86,12 @@ pub returns-in-Some-clause-more : goal.returns-in-Some-clause-more
 returns-in-Some-clause-more g c = λ none. absurd (let no : Some c.replace.result ≡ None = returns-in-Some-clause-old g c ∙ none in cc)
 
 pub returns-then-not-make_room-clause-absent : goal.returns-then-not-make_room-clause-absent
-returns-then-not-make_room-clause-absent g c =
-    let m = c.self.inside in
-    find-IsAbsent_map (hash_by-respects g.S.Hasher.Hasher.finish g.S.Hasher.Hasher.write
-    g.S.BuildHasher.build_hasher g.met.K.Hash.respects_eq) m.table (beside m) c.self.view_is
-    c.self.invariant c.args.key (rw (← c.self.view_is) c.hash_one-hash.ensures)
-    (of-None c.in_default.is c.position.ensures.absent)
+returns-then-not-make_room-clause-absent g c = rw (← c.self.view_is) (of-None c.in_default.is c.locate-hash.ensures.absent)
 
 pub push_back-requires-clause-absent : goal.push_back-requires-clause-absent
 push_back-requires-clause-absent g c =
-    let m = c.self.inside in
     ap (λ pairs. find g.K.PartialEq.eq pairs c.args.key) c.make_room.ensures.pairs
-    ∙ find-IsAbsent_map (hash_by-respects g.S.Hasher.Hasher.finish g.S.Hasher.Hasher.write
-    g.S.BuildHasher.build_hasher g.met.K.Hash.respects_eq) m.table (beside m) c.self.view_is
-    c.self.invariant c.args.key (rw (← c.self.view_is) c.hash_one-hash.ensures)
-    (of-None c.in_default.is c.position.ensures.absent)
+    ∙ rw (← c.self.view_is) (of-None c.in_default.is c.locate-hash.ensures.absent)
 
 pub returns-clause-old : goal.returns-clause-old
 returns-clause-old g c = sym (ap (option_map (λ pair. pair.1)) (absent g c))

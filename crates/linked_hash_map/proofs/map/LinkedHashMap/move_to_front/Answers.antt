@@ -4,12 +4,11 @@ use Rattle.linked_hash_map.specs.Nodes.{pairs_of}
 use Rattle.linked_hash_map.specs.Pairs.{find, to_front}
 use Rattle.linked_hash_map.proofs.Callers.Moves.{find-to_front, to_front-absent}
 use Rattle.linked_hash_map.proofs.lists.Options.{of-Some, of-None}
-use Rattle.linked_hash_map.proofs.nodes.AbsentKeys.{hash_by-respects, find-IsAbsent}
 use Rattle.linked_hash_map.proofs.nodes.FoundKeys.{before-HasKey, IsIndex-before}
 use Rattle.linked_hash_map.proofs.nodes.HeldPairs.{length-pairs_of}
 use Rattle.linked_hash_map.proofs.nodes.Kept.{distinct_keys, IsValid-kept}
 use Rattle.linked_hash_map.proofs.nodes.MovedToFront.{IsMovedToFront, pairs-moved, length-to_front, IsKept-front}
-use Rattle.linked_hash_map.proofs.nodes.StoredKeys.{eq-stored, HasKey-stored, find-stored}
+use Rattle.linked_hash_map.proofs.nodes.StoredKeys.{eq-stored, HasKey-stored}
 use Rattle.linked_hash_map.proofs.pairs.Indexes.{to_front-index}
 use Rattle.linked_hash_map.proofs.map.LinkedHashMap.move_to_front.Goals as goal
 use Rattle.lhm_ring.specs.Pointer.{pointer_of}
@@ -17,9 +16,9 @@ use Rattle.lhm_ring.specs.Search.{HasKey}
 
 -- a position that is found is that of the key
 has : (g : _) (c : goal.After-move_to_front g)
-    → HasKey (g.Q.Equivalent.equivalent c.args.key) c.hash_one-hash.result c.self.inside.table.held
+    → HasKey (g.Q.Equivalent.equivalent c.args.key) c.locate-found.result.0 c.self.inside.table.held
     (pointer_of c.in-Some.at)
-has g c = of-Some _ c.in-Some.is c.position-found.ensures.found
+has g c = (of-Some _ c.in-Some.is c.locate-found.ensures.found).has
 
 is_moved : (g : _) (c : goal.After-move_to_front g)
     → IsMovedToFront (pointer_of c.in-Some.at) c.self.inside.table.held c.move_to_front.new.self.held
@@ -40,8 +39,7 @@ invariant_of-self g c = IsKept-front (is_moved g c) g.met.K.Eq.laws c.self.invar
 
 pub returns-in-Some-clause-found : goal.returns-in-Some-clause-found
 returns-in-Some-clause-found g c =
-    rw (← c.self.view_is) (sym (ap is_some (find-stored g.met.K.Eq.laws (g.met.Q.Equivalent.respects_eq c.args.key)
-    (has g c) (distinct_keys c.self.inside.table.held c.self.invariant))))
+    rw (← c.self.view_is) (sym (ap is_some (of-Some _ c.in-Some.is c.locate-found.ensures.found).pair))
 
 pub returns-in-Some-clause-pairs : goal.returns-in-Some-clause-pairs
 returns-in-Some-clause-pairs g c =
@@ -67,17 +65,9 @@ returns-in-Some-clause-finds g c =
 
 pub returns-in-None-clause-found : goal.returns-in-None-clause-found
 returns-in-None-clause-found g c =
-    let m = c.self.inside in
-    rw (← c.self.view_is) (sym (ap is_some (find-IsAbsent (hash_by-respects g.S.Hasher.Hasher.finish
-    g.S.Hasher.Hasher.write g.S.BuildHasher.build_hasher g.met.Q.Equivalent.respects_hash) m.hasher
-    c.args.key c.hash_one-hash.ensures m.table.held c.self.invariant.hashed
-    (of-None c.in-None.is c.position-found.ensures.absent))))
+    rw (← c.self.view_is) (sym (ap is_some (of-None c.in-None.is c.locate-found.ensures.absent)))
 
 pub returns-in-None-clause-pairs : goal.returns-in-None-clause-pairs
 returns-in-None-clause-pairs g c =
-    let m = c.self.inside in
-    rw (← c.self.view_is) (sym (to_front-absent g.Q.Equivalent.equivalent (pairs_of m.table.held) c.args.key
-    (find-IsAbsent (hash_by-respects g.S.Hasher.Hasher.finish g.S.Hasher.Hasher.write
-    g.S.BuildHasher.build_hasher g.met.Q.Equivalent.respects_hash) m.hasher c.args.key
-    c.hash_one-hash.ensures m.table.held c.self.invariant.hashed
-    (of-None c.in-None.is c.position-found.ensures.absent))))
+    rw (← c.self.view_is) (sym (to_front-absent g.Q.Equivalent.equivalent (pairs_of c.self.inside.table.held) c.args.key
+    (of-None c.in-None.is c.locate-found.ensures.absent)))

@@ -5,19 +5,18 @@ use Rattle.linked_hash_map.specs.Nodes.{pairs_of, bare, bookmark_at, visit_of}
 use Rattle.linked_hash_map.specs.Pairs.{find, value_at, replaced, set_key}
 use Rattle.linked_hash_map.proofs.Callers.ReplacedKeys.{keys_of-set_key, value_at-set_key, length-set_key, set_key-absent}
 use Rattle.linked_hash_map.proofs.lists.Options.{of-Some, of-None}
-use Rattle.linked_hash_map.proofs.nodes.AbsentKeys.{hash_by-respects, find-IsAbsent}
+use Rattle.linked_hash_map.proofs.nodes.AbsentKeys.{hash_by-respects}
 use Rattle.linked_hash_map.proofs.nodes.Kept.{distinct_keys, IsValid-kept}
 use Rattle.linked_hash_map.proofs.nodes.ReplacedKey.{cursor_at-rekeyed, set_key-rekeyed, IsKept-rekeyed}
-use Rattle.linked_hash_map.proofs.nodes.StoredKeys.{find-stored}
 use Rattle.linked_hash_map.proofs.map.LinkedHashMap.replace_key.Goals as goal
 use Rattle.lhm_ring.specs.Pointer.{pointer_of}
 use Rattle.lhm_ring.specs.Search.{HasKey}
 
 -- a position that is found is that of the key
 has : (g : _) (c : goal.After-replace_key g)
-    → HasKey (g.K.PartialEq.eq c.args.key) c.hash_one-hash.result c.self.inside.table.held
+    → HasKey (g.K.PartialEq.eq c.args.key) c.locate-found.result.0 c.self.inside.table.held
     (pointer_of c.in-Some.at)
-has g c = of-Some _ c.in-Some.is c.position-found.ensures.found
+has g c = (of-Some _ c.in-Some.is c.locate-found.ensures.found).has
 
 -- and the pairs have the key there
 pairs : (g : _) (c : goal.After-replace_key g) → pairs_of c.replace_key.new.self.held
@@ -29,11 +28,7 @@ pairs g c =
 
 -- a key that is not found is absent
 absent : (g : _) (c : goal.In-None g) → find g.K.PartialEq.eq (pairs_of c.self.inside.table.held) c.args.key ≡ None
-absent g c =
-    let m = c.self.inside in
-    find-IsAbsent (hash_by-respects g.S.Hasher.Hasher.finish g.S.Hasher.Hasher.write
-    g.S.BuildHasher.build_hasher g.met.K.Hash.respects_eq) m.hasher c.args.key c.hash_one-hash.ensures m.table.held
-    c.self.invariant.hashed (of-None c.in-None.is c.position-found.ensures.absent)
+absent g c = of-None c.in-None.is c.locate-found.ensures.absent
 
 same_keys : (g : _) (c : goal.In-None g) → keys_of (pairs_of c.self.inside.table.held)
     ≡ map (replaced g.K.PartialEq.eq c.args.key) (keys_of (pairs_of c.self.inside.table.held))
@@ -42,7 +37,7 @@ same_keys g c =
     sym (ap keys_of (set_key-absent g.K.PartialEq.eq ps c.args.key (absent g c))) ∙ keys_of-set_key g.K.PartialEq.eq ps c.args.key
 
 pub replace_key-requires : goal.replace_key-requires
-replace_key-requires g c = (of-Some _ c.in-Some.is c.position-found.ensures.found).held
+replace_key-requires g c = (of-Some _ c.in-Some.is c.locate-found.ensures.found).has.held
 
 pub invariant_of-self : goal.invariant_of-self
 invariant_of-self g c =
@@ -54,10 +49,9 @@ invariant_of-self g c =
 
 pub returns-in-Some-clause-stored : goal.returns-in-Some-clause-stored
 returns-in-Some-clause-stored g c =
-    let h = (has g c).held in
+    let it = of-Some _ c.in-Some.is c.locate-found.ensures.found in let h = it.has.held in
     rw (← c.self.view_is)
-    (ap (option_map (λ pair. pair.0)) (find-stored g.met.K.Eq.laws (λ x y same. g.met.K.Eq.laws.congr c.args.key x y same)
-    (has g c) (distinct_keys c.self.inside.table.held c.self.invariant))
+    (ap (option_map (λ pair. pair.0)) it.pair
     ∙ ap Some (sym (c.replace_key.ensures.old h.before h.node h.after h.is h.at_is)))
 
 pub returns-in-Some-clause-pairs : goal.returns-in-Some-clause-pairs

@@ -1,7 +1,5 @@
 use Rattle.std.proofs.Common.{Some}
-use Rattle.linked_hash_map.specs.Nodes.{beside}
 use Rattle.linked_hash_map.proofs.lists.Options.{of-Some, of-None}
-use Rattle.linked_hash_map.proofs.nodes.AbsentKeys.{hash_by-respects, find-IsAbsent_map}
 use Rattle.linked_hash_map.proofs.nodes.Current.{IsKept-visited}
 use Rattle.linked_hash_map.proofs.nodes.FoundKeys.{before-HasKey_bare, IsIndex-before_bare}
 use Rattle.linked_hash_map.proofs.map.LinkedHashMap.seek.Goals as goal
@@ -10,9 +8,9 @@ use Rattle.lhm_ring.specs.Search.{HasKey}
 
 -- a position that is found is that of the key
 has : (g : _) (c : goal.After-self-1 g)
-    → HasKey (g.K.PartialEq.eq c.args.key.now) c.args.hash c.self.inside.table.held
+    → HasKey (g.K.PartialEq.eq c.args.key.now) c.locate-hash.result.0 c.self.inside.table.held
     (pointer_of c.in-Some.at)
-has g c = of-Some _ c.in-Some.is c.position.ensures.found
+has g c = (of-Some _ c.in-Some.is c.locate-hash.ensures.found).has
 
 pub invariant_of-self : goal.invariant_of-self
 invariant_of-self g c =
@@ -24,8 +22,4 @@ pub returns-clause-found : goal.returns-clause-found
 returns-clause-found g c found = rw (← c.self.view_is, c.at-self-inside.ensures.current) (IsIndex-before_bare (has g c))
 
 pub returns-in_default-clause-absent : goal.returns-in_default-clause-absent
-returns-in_default-clause-absent g c none =
-    let m = c.self.inside in
-    find-IsAbsent_map (hash_by-respects g.S.Hasher.Hasher.finish g.S.Hasher.Hasher.write
-    g.S.BuildHasher.build_hasher g.met.K.Hash.respects_eq) m.table (beside m) c.self.view_is
-    c.self.invariant c.args.key.now c.requires (of-None c.in_default.is c.position.ensures.absent)
+returns-in_default-clause-absent g c none = rw (← c.self.view_is) (of-None c.in_default.is c.locate-hash.ensures.absent)

@@ -1,0 +1,22 @@
+use Rattle.std.proofs.Common.{subst}
+use Rattle.std.proofs.lemmas.Option.{IfSome_then}
+use Rattle.std.specs.List.{IsDistinct}
+use Rattle.linked_hash_map.proofs.nodes.AbsentKeys.{hash_by-respects, find-IsAbsent}
+use Rattle.linked_hash_map.proofs.nodes.HeldPairs.{keys-bare}
+use Rattle.linked_hash_map.proofs.nodes.StoredKeys.{find-stored}
+use Rattle.linked_hash_map.proofs.map.get.locate.Goals as goal
+use Rattle.lhm_ring.proofs.lists.Options.{IfNone-then}
+
+pub returns-clause-found : goal.returns-clause-found
+returns-clause-found g c =
+    let distinct = subst (IsDistinct g.K.PartialEq.eq) (keys-bare c.args.table.now.held) c.requires.distinct in
+    IfSome_then c.position.result.0 c.position.ensures.found (λ p h. record {
+      has = h;
+      pair = find-stored g.met.K.Eq.laws (g.met.Q.Equivalent.respects_eq c.args.key) h distinct;
+    })
+
+pub returns-clause-absent : goal.returns-clause-absent
+returns-clause-absent g c = IfNone-then c.position.result.0 c.position.ensures.absent
+    (find-IsAbsent (hash_by-respects g.S.Hasher.Hasher.finish g.S.Hasher.Hasher.write
+    g.S.BuildHasher.build_hasher g.met.Q.Equivalent.respects_hash) c.args.hasher.now
+    c.args.key c.hash_one-hash.ensures c.args.table.now.held c.requires.hashed)
