@@ -2,5 +2,6 @@ pub mod HandOuts
 pub mod Leaving
 pub mod Lists
 pub mod Pairs
+pub mod Plans
 pub mod Puts
 pub mod Retained

@@ -46,7 +46,7 @@ mod put_with;
 mod retain;
 mod storage;
 
-use self::storage::{Weighted, allocate_for_put, plan_put, store};
+use self::storage::Weighted;
 use crate::error::ReserveError;
 use crate::map::{LIMIT, LinkedHashMap, Mode};
 pub use iter::SessionIter;
@@ -281,19 +281,24 @@ impl<T> Sessions<T> {
                 payload,
             });
         }
-        // No sum can overflow: the weight is subtracted from the limit, not added to the total.
-        let plan = plan_put(&self.map, self.total, id, self.limit - weight);
-        let (is_new, count) = (plan.is_new, plan.count);
-        let Ok(mut gone) = allocate_for_put(&mut self.map, self.alloc, is_new, count) else {
+        let plan = self.plan_put(id, weight);
+        let Ok(mut gone) = Vec::with_capacity(self.alloc, plan.count) else {
             return Err(PutRefused {
                 reason: PutReason::NoRoom,
                 payload,
             });
         };
-        let session = (id, weight, payload);
-        let old = store(&mut self.map, session, is_new, count, &mut gone);
-        self.total = plan.staying + weight;
-        Ok(Put { old, gone })
+        let mut push = |id, weight, payload| gone.push_reserved((id, weight, payload));
+        match self.put_planned(plan, id, weight, payload, &mut push) {
+            Ok(old) => Ok(Put { old, gone }),
+            Err(payload) => {
+                gone.destroy_empty();
+                Err(PutRefused {
+                    reason: PutReason::NoRoom,
+                    payload,
+                })
+            }
+        }
     }
 
     /// Returns a mutable reference to the payload of an id, if present, and moves its session to

@@ -1,16 +1,17 @@
 -- The sessions that a closure is handed.
 use Rattle.std.proofs.Common.{◌≡◌, ℕ, zero, suc, ◌+◌, ◌-◌, ◌<◌, ◌≤◌, Bool, true, false, List, [], ◌∷◌, ◌++◌, length}
-use Rattle.std.proofs.Common.{take, drop, nat_eq, None}
-use Rattle.std.proofs.Common.{refl, sym, ap, ◌∙◌, arith, add-one}
+use Rattle.std.proofs.Common.{take, drop, Vec, Global, vec_capacity}
+use Rattle.std.proofs.Common.{refl, sym, ap, ◌∙◌, arith, add-one, length-append}
+use Rattle.std.specs.Borrow.{MutBor}
+use Rattle.std.specs.Fn.{Takes}
+use Rattle.std.specs.List.{FoldsTo}
 use Rattle.std.specs.Prelude.{nat_le, if◌then◌else◌}
-use Rattle.std.proofs.lemmas.List.{append_assoc, append_cancel_right, take-append-drop, take-append-le}
-use Rattle.linked_hash_map.specs.Pairs as pairs
+use denote.Param.Members.{Mut}
+use Rattle.std.proofs.lemmas.Fn.{chained_keeps}
+use Rattle.std.proofs.lemmas.List.{append_assoc, append_cancel_right, append-nil}
+use Rattle.linked_hash_map.specs.SessionHandOuts.{CalledWithSession, CallableWithEachSession}
 use Rattle.linked_hash_map.specs.SessionTables.{Session, total_weight, without, with_last, fit, leaving}
-use Rattle.linked_hash_map.specs.SessionsKept.{sessions_of}
-use Rattle.linked_hash_map.specs.declared.sessions.storage.Weighted.{Weighted}
 use Rattle.linked_hash_map.proofs.session_table.Lists.{fit-append}
-use Rattle.linked_hash_map.proofs.session_table.Pairs.{length-sessions_of}
-use Rattle.linked_hash_map.proofs.session_table.Puts.{drop-with_last, fit-with_last, with_last-new}
 
 module _ {X : Type 0} where
   -- the first elements, and the one behind them
@@ -44,20 +45,6 @@ module _ {T : Type 0} where
       by_test true rest = refl
       by_test false rest = ap (λ l. session ∷ l) rest
 
-  module _ (limit weight id : ℕ) (payload : T) (sessions : List (Session T)) (count : ℕ) (light : weight ≤ limit)
-      (enough : count ≤ length (without sessions id))
-      (stay : drop count (without sessions id) ≡ fit (limit - weight) (without sessions id)) where
-    -- those that stay fit, and the others go
-    pub drop-put : drop count (with_last sessions id weight payload) ≡ fit limit (with_last sessions id weight payload)
-    drop-put = drop-with_last sessions count id weight payload enough
-        ∙ fit-with_last limit weight id payload sessions (drop count (without sessions id)) light stay
-
-    pub take-put : take count (with_last sessions id weight payload) ≡ leaving limit (with_last sessions id weight payload)
-    take-put =
-        let all = with_last sessions id weight payload in
-        append_cancel_right (take count all) (leaving limit all) (fit limit all)
-        (ap (λ l. take count all ++ l) (sym drop-put) ∙ take-append-drop count all ∙ sym (leaving-fit limit all))
-
   -- the new one does not go, so it is some of the others that do
   pub leaving-with_last : (limit weight id : ℕ) (payload : T) (sessions : List (Session T)) → weight ≤ limit
       → leaving limit (with_last sessions id weight payload) ≡ leaving (limit - weight) (without sessions id)
@@ -71,10 +58,39 @@ module _ {T : Type 0} where
       ∙ append_assoc (leaving (limit - weight) others) (fit (limit - weight) others) (session ∷ [])
       ∙ ap (λ l. leaving (limit - weight) others ++ l) (sym (fit-append limit others session light)))
 
-  -- a new session does not go before the others
-  pub take-new : (ps : List (ℕ × Weighted T)) (count id weight : ℕ) (payload : T) → pairs.find nat_eq ps id ≡ None
-      → count ≤ length ps
-      → take count (with_last (sessions_of ps) id weight payload) ≡ take count (sessions_of ps)
-  take-new ps count id weight payload none enough =
-      ap (take count) (with_last-new ps id weight payload none)
-      ∙ take-append-le count (sessions_of ps) ((id, weight, payload) ∷ []) (omega (arith, length-sessions_of ps))
+-- a closure that pushes each session that it is called with onto a vector that it borrows
+module _ {F T : Type 0} (g : Mut F (ℕ × (ℕ × (T × Unit {0}))) (Unit {0})) (vec : F → MutBor (Vec (Session T) Global)) where
+  -- these are pushed, in place
+  pub record HasPushed (f : F) (sessions : List (Session T)) (f' : F) : Type 0 where
+    pub items : (vec f').now.items ≡ (vec f).now.items ++ sessions
+    pub capacity : vec_capacity (vec f').now ≡ vec_capacity (vec f).now
+    pub same : (vec f').ghost_name ≡ (vec f).ghost_name
+
+  module _ (pushes : (f : F) (session : Session T) (f' : F) → CalledWithSession g f session f' → HasPushed f (session ∷ []) f') where
+    pub HasPushed-calls : (f : F) (sessions : List (Session T)) (f' : F) → FoldsTo (CalledWithSession g) f sessions f'
+        → HasPushed f sessions f'
+    HasPushed-calls f sessions f' calls = chained_keeps (CalledWithSession g) (HasPushed f)
+        (λ some q session q' so_far call. let next = pushes q session q' call in record {
+          items = next.items ∙ ap (λ l. l ++ session ∷ []) so_far.items ∙ append_assoc (vec f).now.items some (session ∷ []);
+          capacity = next.capacity ∙ so_far.capacity;
+          same = next.same ∙ so_far.same;
+        }) sessions f f' (record { items = sym (append-nil (vec f).now.items); capacity = refl; same = refl }) calls
+
+    -- it may be called with as many as there is room for
+    pub callable-pushes : ((f : F) (session : Session T) → length (vec f).now.items < vec_capacity (vec f).now
+        → Takes g f (session.0, (session.1, (session.2, tt))))
+        → (f : F) (sessions : List (Session T)) → length (vec f).now.items + length sessions ≤ vec_capacity (vec f).now
+        → CallableWithEachSession g f sessions
+    callable-pushes takes f sessions room =
+        record {
+          at = λ before after session f' is calls. let so_far = HasPushed-calls f before f' calls in
+              takes f' session (omega (
+                arith,
+                room,
+                ap length so_far.items,
+                so_far.capacity,
+                ap length is,
+                length-append (vec f).now.items before,
+                length-append before (session ∷ after),
+              ));
+        }

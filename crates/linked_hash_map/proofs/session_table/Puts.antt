@@ -1,13 +1,13 @@
 -- What a put does to the pairs of a table's map.
 use Rattle.std.proofs.Common.{◌≡◌, ℕ, zero, suc, ◌+◌, ◌-◌, ◌<◌, ◌≤◌, Bool, true, false, cond, not, List, [], ◌∷◌}
-use Rattle.std.proofs.Common.{◌++◌, length, drop, nat_eq}
+use Rattle.std.proofs.Common.{◌++◌, length, take, drop, nat_eq}
 use Rattle.std.proofs.Common.{Option, Some, None, is_some, option_map, true≢false, refl, sym, ap, ◌∙◌, arith, length-append, length-drop}
 use Rattle.std.specs.Prelude.{max}
 use Rattle.std.specs.Cmp.{IsEquivalence, nat_eq_equiv}
 use Rattle.std.specs.List.{IsDistinct}
 use Rattle.std.specs.Map.{keys_of}
 use Rattle.std.specs.Option.{IsSome}
-use Rattle.std.proofs.lemmas.List.{drop-map, drop-append-le}
+use Rattle.std.proofs.lemmas.List.{drop-map, drop-append-le, take-append-le}
 use Rattle.std.proofs.lemmas.Map.Keys.{IsDistinct-tail}
 use Rattle.linked_hash_map.specs.Pairs as pairs
 use Rattle.linked_hash_map.specs.SessionTables.{Session, total_weight, session_of, payload_of, without, with_last, fit}
@@ -56,32 +56,47 @@ module _ {T : Type 0} where
       → drop count (with_last sessions id weight payload) ≡ drop count (without sessions id) ++ (id, weight, payload) ∷ []
   drop-with_last sessions count id weight payload enough = drop-append-le count (without sessions id) ((id, weight, payload) ∷ []) enough
 
-  pub with_last-drop : (ps : List (ℕ × Weighted T)) (count id weight : ℕ) (payload : T) → pairs.find nat_eq ps id ≡ None → count ≤ length ps
-      → with_last (sessions_of (drop count ps)) id weight payload ≡ drop count (with_last (sessions_of ps) id weight payload)
-  with_last-drop ps count id weight payload none enough =
-      with_last-new (drop count ps) id weight payload (find-drop nat_eq ps id count none)
-      ∙ ap (λ l. l ++ (id, weight, payload) ∷ []) (sessions_of-drop count ps)
-      ∙ sym (drop-append-le count (sessions_of ps) ((id, weight, payload) ∷ []) (omega (arith, length-sessions_of ps)))
-      ∙ ap (drop count) (sym (with_last-new ps id weight payload none))
-
-  pub length-without_new : (ps : List (ℕ × Weighted T)) (id : ℕ) → pairs.find nat_eq ps id ≡ None
-      → length (without (sessions_of ps) id) ≡ length ps
-  length-without_new ps id none =
-      ap length (sym (sessions_of-without ps id)) ∙ length-sessions_of (pairs.without nat_eq ps id)
-      ∙ ap length (without-absent nat_eq ps id none)
-
   -- whether an id is new
   pub find-new : (ps : List (ℕ × Weighted T)) (id : ℕ) → is_some (session_of (sessions_of ps) id) ≡ false → pairs.find nat_eq ps id ≡ None
   find-new ps id new = none_is (pairs.find nat_eq ps id) (sym (is_some-session_of ps id) ∙ new)
 
-  pub find-drop_new : (ps : List (ℕ × Weighted T)) (count id : ℕ) {left : List (ℕ × Weighted T)}
-      → pairs.find nat_eq ps id ≡ None → left ≡ drop count ps → pairs.find nat_eq left id ≡ None
-  find-drop_new ps count id none oldest = ap (λ l. pairs.find nat_eq l id) oldest ∙ find-drop nat_eq ps id count none
+  pub length-without_new : (ps : List (ℕ × Weighted T)) (id : ℕ) → is_some (session_of (sessions_of ps) id) ≡ false
+      → length (without (sessions_of ps) id) ≡ length ps
+  length-without_new ps id new =
+      ap length (sym (sessions_of-without ps id)) ∙ length-sessions_of (pairs.without nat_eq ps id)
+      ∙ ap length (without-absent nat_eq ps id (find-new ps id new))
 
-  pub payload_of-new : (ps : List (ℕ × Weighted T)) (id : ℕ) → pairs.find nat_eq ps id ≡ None → payload_of (sessions_of ps) id ≡ None
-  payload_of-new ps id none =
-      payload_of-sessions_of ps id ∙ ap (option_map (λ (weighted : Weighted T). weighted.payload))
-      (ap (option_map (λ pair. pair.1)) none)
+  -- a session whose id is new comes behind those that go
+  module _ (ps : List (ℕ × Weighted T)) (count id : ℕ) (new : is_some (session_of (sessions_of ps) id) ≡ false)
+      (enough : count ≤ length (without (sessions_of ps) id)) where
+    pub few-new : count ≤ length ps
+    few-new = omega (arith, enough, length-without_new ps id new)
+
+    pub length-drop_new : {capacity : ℕ} → length ps ≤ capacity → (count ≡ 0 → length ps < capacity)
+        → length (drop count ps) < capacity
+    length-drop_new {capacity} within free =
+        let room = room-left count (length ps) capacity few-new within free in omega (arith, length-drop count ps)
+
+    pub take-new : (weight : ℕ) (payload : T) → take count (with_last (sessions_of ps) id weight payload) ≡ take count (sessions_of ps)
+    take-new weight payload =
+        ap (take count) (with_last-new ps id weight payload (find-new ps id new))
+        ∙ take-append-le count (sessions_of ps) ((id, weight, payload) ∷ []) (omega (arith, length-sessions_of ps, few-new))
+
+    pub with_last-drop : (weight : ℕ) (payload : T)
+        → with_last (sessions_of (drop count ps)) id weight payload ≡ drop count (with_last (sessions_of ps) id weight payload)
+    with_last-drop weight payload =
+        let none = find-new ps id new in
+        with_last-new (drop count ps) id weight payload (find-drop nat_eq ps id count none)
+        ∙ ap (λ l. l ++ (id, weight, payload) ∷ []) (sessions_of-drop count ps)
+        ∙ sym (drop-append-le count (sessions_of ps) ((id, weight, payload) ∷ []) (omega (arith, length-sessions_of ps, few-new)))
+        ∙ ap (drop count) (sym (with_last-new ps id weight payload none))
+
+    pub payload_of-drop_new : payload_of (sessions_of (drop count ps)) id ≡ payload_of (sessions_of ps) id
+    payload_of-drop_new =
+        payload_of-sessions_of (drop count ps) id
+        ∙ ap (λ o. option_map (λ (weighted : Weighted T). weighted.payload) (option_map (λ (pair : ℕ × Weighted T). pair.1) o))
+        (find-drop nat_eq ps id count (find-new ps id new) ∙ sym (find-new ps id new))
+        ∙ sym (payload_of-sessions_of ps id)
 
   -- a put adds no more than one
   pub length-with_last : (sessions : List (Session T)) (id weight : ℕ) (payload : T)
@@ -99,7 +114,7 @@ module _ {T : Type 0} where
   capacity-put true {count = zero} ps session within distinct new enough raised same =
       let all = length-with_last (sessions_of ps) session.0 session.1 session.2 in
       let grown = raised refl refl in
-      omega (arith, all, length-without_new ps session.0 (find-new ps session.0 new))
+      omega (arith, all, length-without_new ps session.0 new)
   capacity-put true {count = suc count} ps session within distinct new enough raised same =
       let all = length-with_last (sessions_of ps) session.0 session.1 session.2 in
       let stays = same (λ zero. absurd (omega (arith, zero))) in
@@ -107,7 +122,7 @@ module _ {T : Type 0} where
         arith,
         all,
         length-drop (suc count) (with_last (sessions_of ps) session.0 session.1 session.2),
-        length-without_new ps session.0 (find-new ps session.0 new),
+        length-without_new ps session.0 new,
       )
   capacity-put false {count = count} ps session within distinct present enough raised same =
       let weighted : Weighted T = record { weight = session.1; payload = session.2 } in
@@ -172,19 +187,6 @@ module _ {T : Type 0} where
       → total_weight (left ++ (id, weight, payload) ∷ []) ≡ total_weight left + weight
   total_weight-put weight id payload left =
       total_weight-append left ((id, weight, payload) ∷ []) ∙ ap (λ w. total_weight left + w) (total_weight-last (id, weight, payload))
-
-  -- as many went as were counted
-  pub length-gone : (count : ℕ) (gone left sessions : List (Session T)) → gone ++ left ≡ sessions
-      → left ≡ drop count sessions → count ≤ length sessions → length gone ≡ count
-  length-gone count gone left sessions all rest within = omega
-      (arith, ap length all, ap length rest, length-append gone left, length-drop count sessions)
-
-  -- if all fit, none goes
-  pub none-leaves : (count weight_left : ℕ) (sessions : List (Session T))
-      → drop count sessions ≡ fit weight_left sessions → count ≤ length sessions
-      → total_weight sessions ≤ weight_left → count ≡ 0
-  none-leaves count weight_left sessions stay within light = omega
-      (arith, ap length (stay ∙ fit-all weight_left sessions light), length-drop count sessions)
 
   pub not-absent : (ps : List (ℕ × Weighted T)) (id : ℕ)
       → is_some (session_of (sessions_of ps) id) ≡ true → pairs.find nat_eq ps id ≡ None

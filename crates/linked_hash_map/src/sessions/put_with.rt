@@ -1,15 +1,13 @@
-//! `put_with`.
-ghost use Rattle.std.specs.Prelude.{◌≡◌, ◌+◌, ◌<◌, ◌≤◌, ◌++◌, ◌==◌, ◌↔◌, ℕ, length, max, take, drop, nat_eq, not, is_some, Some, None, false, IsTrue, IfOk, IfErr, OnOk, OnErr, IsOk, IsSome, IsErrAnd};
+//! `put_with`, and how a session is put.
+ghost use Rattle.std.specs.Prelude.{◌≡◌, ◌+◌, ◌-◌, ◌<◌, ◌≤◌, ◌++◌, ◌==◌, ◌↔◌, ℕ, length, max, Some, None, false, IfOk, IfErr, OnOk, OnErr, IsOk, IsSome, IsErrAnd};
+ghost use Rattle.std.specs.List.{FoldsTo};
 ghost use Rattle.linked_hash_map.specs.Pairs.{last};
-ghost use Rattle.linked_hash_map.specs.SessionHandOuts.{CalledWithEachSession, CallableWithEachSession};
+ghost use Rattle.linked_hash_map.specs.SessionHandOuts.{CalledWithSession, CalledWithEachSession, CallableWithEachSession};
+ghost use Rattle.linked_hash_map.specs.SessionPuts.{IsPutPlan, HasPut};
 ghost use Rattle.linked_hash_map.specs.SessionTables.{session_of, payload_of, total_weight, without, with_last, fit, leaving, IsLongestEnd, IsValidTable};
-ghost use Rattle.linked_hash_map.specs.SessionsKept.{sessions_of};
-ghost use Rattle.linked_hash_map.specs.Validity.{IsValid};
-ghost use Rattle.linked_hash_map.specs.declared.map.Mode.TheVariants.{Touch};
 
-use super::storage::{Weighted, insert_newest, make_room, plan_put};
+use super::storage::{PutPlan, find_leaving, make_room, store, weight_at};
 use super::{PutReason, PutRefused, Sessions};
-use crate::map::LinkedHashMap;
 
 impl<T> Sessions<T> {
     /// Puts a session as `put` does, and hands those that it removes to a closure instead of a
@@ -41,7 +39,7 @@ impl<T> Sessions<T> {
         id: u64,
         weight: u64,
         payload: T,
-        gone: F,
+        mut gone: F,
     ) -> Result<Option<T>, PutRefused<T>>
         requires { weight ≤ self.old.limit
             → CallableWithEachSession F.FnMut gone (leaving self.old.limit
@@ -92,76 +90,68 @@ impl<T> Sessions<T> {
                 payload,
             });
         }
-        let plan = plan_put(&self.map, self.total, id, self.limit - weight);
-        let (is_new, count) = (plan.is_new, plan.count);
-        let Ok(()) = make_room(&mut self.map, is_new, count) else {
-            return Err(PutRefused {
+        let plan = self.plan_put(id, weight);
+        match self.put_planned(plan, id, weight, payload, &mut gone) {
+            Ok(old) => Ok(old),
+            Err(payload) => Err(PutRefused {
                 reason: PutReason::NoRoom,
                 payload,
-            });
+            }),
+        }
+    }
+
+    /// Returns what a put of an id and a weight does.
+    pub(super) fn plan_put(&self, id: u64, weight: u64) -> PutPlan
+        requires { weight ≤ self.now.limit }
+        ensures { IsPutPlan self.now.sessions id (self.now.limit - weight) result }
+    {
+        let replaced = weight_at(&self.map, id);
+        let is_new = replaced.is_none();
+        let others = self.total - replaced.unwrap_or(0);
+        // No sum can overflow: the weight is subtracted from the limit, not added to the total.
+        let leaving = find_leaving(&self.map, id, others, self.limit - weight);
+        PutPlan {
+            is_new,
+            count: leaving.count,
+            staying: leaving.staying,
+        }
+    }
+
+    /// Puts a session as planned, and hands those that it removes to a closure. Returns the payload
+    /// that the id had, or, if there is no room, the given one, and then changes nothing.
+    pub(super) fn put_planned<F: FnMut(u64, u64, T)>(
+        &mut self,
+        plan: PutPlan,
+        id: u64,
+        weight: u64,
+        payload: T,
+        gone: &mut F,
+    ) -> Result<Option<T>, T>
+        requires light { weight ≤ self.old.limit }
+        requires plan { IsPutPlan self.old.sessions id (self.old.limit - weight) plan }
+        requires callable { CallableWithEachSession F.FnMut gone.old
+            (leaving self.old.limit (with_last self.old.sessions id weight payload)) }
+        ensures put { OnOk result (HasPut self.old (id, weight, payload) self.new) }
+        ensures gone { OnOk result (FoldsTo (CalledWithSession F.FnMut) gone.old
+            (leaving self.old.limit (with_last self.old.sessions id weight payload)) gone.new) }
+        ensures old { IfOk result (λ old. old ≡ payload_of self.old.sessions id) }
+        ensures limit { self.new.limit ≡ self.old.limit }
+        ensures stays_valid { IsValidTable self.new }
+
+        ensures payload_back { IfErr result (λ payload_back. payload_back ≡ payload) }
+        ensures unchanged { OnErr result (self.new ≡ self.old) }
+        ensures uncalled { OnErr result (gone.new ≡ gone.old) }
+        ensures none_goes { OnErr result
+            (total_weight (without self.old.sessions id) + weight ≤ self.old.limit) }
+        ensures full { OnErr result (length self.old.sessions ≡ self.old.capacity) }
+        ensures absent { OnErr result (session_of self.old.sessions id ≡ None) }
+    {
+        let Ok(()) = make_room(&mut self.map, plan.is_new, plan.count) else {
+            return Err(payload);
         };
         let session = (id, weight, payload);
-        let old = store_with(&mut self.map, session, is_new, count, gone);
+        let old = store(&mut self.map, session, plan.is_new, plan.count, gone);
         self.total = plan.staying + weight;
         Ok(old)
-    }
-}
-
-/// Puts a session at the back and hands some from the front to a closure. Returns the payload that
-/// the id had.
-fn store_with<T, F: FnMut(u64, u64, T)>(
-    map: &mut LinkedHashMap<u64, Weighted<T>>,
-    session: (u64, u64, T),
-    is_new: bool,
-    count: usize,
-    gone: F,
-) -> Option<T>
-    requires valid { IsValid nat_eq map.old }
-    requires mode { map.old.mode ≡ Touch }
-    requires present { is_some (session_of (sessions_of map.old.pairs) session.0) ≡ not is_new }
-    requires enough { count ≤ length (without (sessions_of map.old.pairs) session.0) }
-    requires room { count ≡ 0 → IsTrue is_new → length map.old.pairs < map.old.capacity }
-    requires callable { CallableWithEachSession F.FnMut gone (take count
-        (with_last (sessions_of map.old.pairs) session.0 session.1 session.2)) }
-    ensures sessions { sessions_of map.new.pairs
-        ≡ drop count (with_last (sessions_of map.old.pairs) session.0 session.1 session.2) }
-    ensures gone { CalledWithEachSession F.FnMut gone (take count
-        (with_last (sessions_of map.old.pairs) session.0 session.1 session.2)) }
-    ensures old { result ≡ payload_of (sessions_of map.old.pairs) session.0 }
-    ensures capacity { map.new.capacity ≡ map.old.capacity }
-    ensures mode { map.new.mode ≡ Touch }
-    ensures stays_valid { IsValid nat_eq map.new }
-{
-    let (id, weight, payload) = session;
-    if is_new {
-        hand_out_oldest(map, count, gone);
-        return insert_newest(map, id, weight, payload);
-    }
-    let old = insert_newest(map, id, weight, payload);
-    hand_out_oldest(map, count, gone);
-    old
-}
-
-/// Removes sessions from the front and hands each to a closure.
-fn hand_out_oldest<T, F: FnMut(u64, u64, T)>(
-    map: &mut LinkedHashMap<u64, Weighted<T>>,
-    count: usize,
-    mut gone: F,
-)
-    requires valid { IsValid nat_eq map.old }
-    requires enough { count ≤ length map.old.pairs }
-    requires callable { CallableWithEachSession F.FnMut gone (take count
-        (sessions_of map.old.pairs)) }
-    ensures pairs { map.new.pairs ≡ drop count map.old.pairs }
-    ensures gone { CalledWithEachSession F.FnMut gone (take count (sessions_of map.old.pairs)) }
-    ensures capacity { map.new.capacity ≡ map.old.capacity }
-    ensures mode { map.new.mode ≡ map.old.mode }
-    ensures stays_valid { IsValid nat_eq map.new }
-{
-    for _ in 0..count {
-        let Some((id, weighted)) = map.pop_front() else {
-            unreachable!()
-        };
-        gone(id, weighted.weight, weighted.payload);
     }
 }

@@ -1,6 +1,8 @@
 //! How the sessions of a table are stored. No function here drops a payload.
-ghost use Rattle.std.specs.Prelude.{◌≡◌, ◌+◌, ◌<◌, ◌≤◌, ◌++◌, [], length, drop, nat_eq, not, is_some, max, None, option_map, IsTrue, IsFalse, IfOk, OnOk, OnErr, vec_len, vec_capacity};
+ghost use Rattle.std.specs.Prelude.{◌≡◌, ◌+◌, ◌<◌, ◌≤◌, length, take, drop, nat_eq, not, is_some, max, None, option_map, IsTrue, IsFalse, OnOk, OnErr};
+ghost use Rattle.std.specs.List.{FoldsTo};
 ghost use Rattle.linked_hash_map.specs.Pairs as pairs;
+ghost use Rattle.linked_hash_map.specs.SessionHandOuts.{CalledWithSession, CallableWithEachSession};
 ghost use Rattle.linked_hash_map.specs.SessionTables.{session_of, payload_of, total_weight, without, with_last, fit};
 ghost use Rattle.linked_hash_map.specs.Validity.{IsValid};
 ghost use Rattle.linked_hash_map.specs.SessionsKept.{sessions_of};
@@ -8,7 +10,6 @@ ghost use Rattle.linked_hash_map.specs.declared.map.Mode.TheVariants.{Touch};
 
 use crate::error::NoRoom;
 use crate::map::LinkedHashMap;
-use std::alloc::Global;
 
 /// The weight and the payload of an id.
 #[derive(Drop)]
@@ -72,34 +73,6 @@ pub(super) fn find_leaving<T>(
     Leaving { count, staying }
 }
 
-/// Returns what a put of an id does, if `weight_left` is the limit less the weight. The sessions
-/// weigh `total`.
-pub(super) fn plan_put<T>(
-    map: &LinkedHashMap<u64, Weighted<T>>,
-    total: u64,
-    id: u64,
-    weight_left: u64,
-) -> PutPlan
-    requires valid { IsValid nat_eq map.now }
-    requires sum { total ≡ total_weight (sessions_of map.now.pairs) }
-    ensures is_new { is_some (session_of (sessions_of map.now.pairs) id) ≡ not result.is_new }
-    ensures stay { drop result.count (without (sessions_of map.now.pairs) id)
-        ≡ fit weight_left (without (sessions_of map.now.pairs) id) }
-    ensures staying { result.staying
-        ≡ total_weight (fit weight_left (without (sessions_of map.now.pairs) id)) }
-    ensures within { result.count ≤ length (without (sessions_of map.now.pairs) id) }
-{
-    let replaced = weight_at(map, id);
-    let is_new = replaced.is_none();
-    let others = total - replaced.unwrap_or(0);
-    let leaving = find_leaving(map, id, others, weight_left);
-    PutPlan {
-        is_new,
-        count: leaving.count,
-        staying: leaving.staying,
-    }
-}
-
 /// Returns the sum of the weights of all sessions, in O(n).
 pub(super) fn total_of<T>(map: &LinkedHashMap<u64, Weighted<T>>) -> u64
     requires { total_weight (sessions_of map.now.pairs) ≤ u64.MAX }
@@ -141,60 +114,26 @@ pub(super) fn make_room<T>(
     }
 }
 
-/// Makes all allocations of a put: a vector for the sessions to remove, or, for none and a new id,
-/// room for one more.
-pub(super) fn allocate_for_put<T>(
-    map: &mut LinkedHashMap<u64, Weighted<T>>,
-    alloc: Global,
-    is_new: bool,
-    count: usize,
-) -> Result<Vec<(u64, u64, T)>, NoRoom>
-    requires { IsValid nat_eq map.old }
-    ensures pairs { map.new.pairs ≡ map.old.pairs }
-    ensures mode { map.new.mode ≡ map.old.mode }
-    ensures stays_valid { IsValid nat_eq map.new }
-    ensures empty { IfOk result (λ gone. gone.items ≡ []) }
-    ensures exact { IfOk result (λ gone. vec_capacity gone ≡ count) }
-    ensures raised { OnOk result (count ≡ 0 → IsTrue is_new
-        → map.new.capacity ≡ max map.old.capacity (length map.old.pairs + 1)) }
-    ensures same_room { OnOk result ((count ≡ 0 → IsFalse is_new)
-        → map.new.capacity ≡ map.old.capacity) }
-
-    ensures unchanged { OnErr result (map.new ≡ map.old) }
-    ensures new { OnErr result (count ≡ 0 → IsTrue is_new) }
-    ensures full { OnErr result (count ≡ 0 → length map.old.pairs ≡ map.old.capacity) }
-{
-    if count > 0 {
-        return match Vec::with_capacity(alloc, count) {
-            Ok(gone) => Ok(gone),
-            Err(_error) => Err(NoRoom),
-        };
-    }
-    match make_room(map, is_new, count) {
-        Ok(()) => Ok(Vec::new(alloc)),
-        Err(NoRoom) => Err(NoRoom),
-    }
-}
-
-/// Puts a session at the back and removes some from the front. Returns the payload that the id had.
-pub(super) fn store<T>(
+/// Puts a session at the back and hands some from the front to a closure. Returns the payload that
+/// the id had.
+pub(super) fn store<T, F: FnMut(u64, u64, T)>(
     map: &mut LinkedHashMap<u64, Weighted<T>>,
     session: (u64, u64, T),
     is_new: bool,
     count: usize,
-    gone: &mut Vec<(u64, u64, T)>,
+    gone: &mut F,
 ) -> Option<T>
     requires valid { IsValid nat_eq map.old }
     requires mode { map.old.mode ≡ Touch }
     requires present { is_some (session_of (sessions_of map.old.pairs) session.0) ≡ not is_new }
     requires enough { count ≤ length (without (sessions_of map.old.pairs) session.0) }
-    requires space { vec_len gone.old + count ≤ vec_capacity gone.old }
     requires room { count ≡ 0 → IsTrue is_new → length map.old.pairs < map.old.capacity }
+    requires callable { CallableWithEachSession F.FnMut gone.old (take count
+        (with_last (sessions_of map.old.pairs) session.0 session.1 session.2)) }
     ensures sessions { sessions_of map.new.pairs
         ≡ drop count (with_last (sessions_of map.old.pairs) session.0 session.1 session.2) }
-    ensures gone { gone.new.items ++ sessions_of map.new.pairs
-        ≡ gone.old.items ++ with_last (sessions_of map.old.pairs) session.0 session.1 session.2 }
-    ensures same_space { vec_capacity gone.new ≡ vec_capacity gone.old }
+    ensures gone { FoldsTo (CalledWithSession F.FnMut) gone.old (take count
+        (with_last (sessions_of map.old.pairs) session.0 session.1 session.2)) gone.new }
     ensures old { result ≡ payload_of (sessions_of map.old.pairs) session.0 }
     ensures capacity { map.new.capacity ≡ map.old.capacity }
     ensures mode { map.new.mode ≡ Touch }
@@ -210,19 +149,19 @@ pub(super) fn store<T>(
     old
 }
 
-/// Removes sessions from the front into a vector with room for them.
-pub(super) fn remove_oldest<T>(
+/// Removes sessions from the front and hands each to a closure.
+pub(super) fn remove_oldest<T, F: FnMut(u64, u64, T)>(
     map: &mut LinkedHashMap<u64, Weighted<T>>,
     count: usize,
-    gone: &mut Vec<(u64, u64, T)>,
+    gone: &mut F,
 )
     requires valid { IsValid nat_eq map.old }
     requires enough { count ≤ length map.old.pairs }
-    requires space { vec_len gone.old + count ≤ vec_capacity gone.old }
+    requires callable { CallableWithEachSession F.FnMut gone.old (take count
+        (sessions_of map.old.pairs)) }
     ensures pairs { map.new.pairs ≡ drop count map.old.pairs }
-    ensures gone { gone.new.items ++ sessions_of map.new.pairs
-        ≡ gone.old.items ++ sessions_of map.old.pairs }
-    ensures same_space { vec_capacity gone.new ≡ vec_capacity gone.old }
+    ensures gone { FoldsTo (CalledWithSession F.FnMut) gone.old (take count
+        (sessions_of map.old.pairs)) gone.new }
     ensures capacity { map.new.capacity ≡ map.old.capacity }
     ensures mode { map.new.mode ≡ map.old.mode }
     ensures stays_valid { IsValid nat_eq map.new }
@@ -231,7 +170,7 @@ pub(super) fn remove_oldest<T>(
         let Some((id, weighted)) = map.pop_front() else {
             unreachable!()
         };
-        gone.push_reserved((id, weighted.weight, weighted.payload));
+        gone(id, weighted.weight, weighted.payload);
     }
 }
 

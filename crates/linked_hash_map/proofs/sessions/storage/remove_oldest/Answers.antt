@@ -1,7 +1,14 @@
-use Rattle.std.proofs.Common.{◌++◌, length, drop, sym, ap, ◌∙◌, arith, length-drop}
-use Rattle.std.proofs.lemmas.List.{append_assoc, drop-drop}
+use Rattle.std.proofs.Common.{length, drop, take, sym, ap, ◌∙◌, subst, arith, length-drop}
+use Rattle.std.specs.List.{FoldsTo}
+use Rattle.std.proofs.lemmas.Fn.{FoldsTo-push}
+use Rattle.std.proofs.lemmas.List.{drop-drop}
+use Rattle.linked_hash_map.specs.Pairs.{without_first}
+use Rattle.linked_hash_map.specs.SessionHandOuts.{CalledWithSession}
+use Rattle.linked_hash_map.specs.SessionTables.{Session}
 use Rattle.linked_hash_map.specs.SessionsKept.{sessions_of}
 use Rattle.linked_hash_map.proofs.lists.Elements.{length-first_none, cons-without_first}
+use Rattle.linked_hash_map.proofs.session_table.HandOuts.{take-at, take-next}
+use Rattle.linked_hash_map.proofs.session_table.Puts.{sessions_of-drop}
 use Rattle.linked_hash_map.proofs.sessions.storage.remove_oldest.Goals as goal
 
 pub unreachable-requires : goal.unreachable-requires
@@ -10,16 +17,28 @@ unreachable-requires g c =
     let left = length-drop c.loop.counter c.args.map.now.pairs in
     omega (arith, ap length c.loop.invariant.pairs)
 
+pub gone-requires : goal.gone-requires
+gone-requires g c =
+    let i = c.loop.invariant in let all = sessions_of c.args.map.now.pairs in
+    let session : Session g.row.T.Denot = (c.in-Some.id, c.in-Some.weighted.weight, c.in-Some.weighted.payload) in
+    let first = cons-without_first c.loop.map.pairs (c.in-Some.id, c.in-Some.weighted) c.in-Some.ensures.pair in
+    let split = take-at all c.loop.counter c.args.count session (sessions_of (without_first c.loop.map.pairs)) c.loop-test.true
+    (sym (sessions_of-drop c.loop.counter c.args.map.now.pairs) ∙ ap sessions_of (sym i.pairs) ∙ ap sessions_of (sym first)) in
+    c.requires.callable.at (take c.loop.counter all) split.0 session c.loop.gone split.1 i.gone
+
 pub loop-preserved : goal.loop-preserved
 loop-preserved g c =
-    let i = c.loop.invariant in
+    let i = c.loop.invariant in let all = sessions_of c.args.map.now.pairs in
+    let session : Session g.row.T.Denot = (c.in-Some.id, c.in-Some.weighted.weight, c.in-Some.weighted.payload) in
     let first = cons-without_first c.loop.map.pairs (c.in-Some.id, c.in-Some.weighted) c.in-Some.ensures.pair in
+    let next = take-next all c.loop.counter session (sessions_of (without_first c.loop.map.pairs))
+    (sym (sessions_of-drop c.loop.counter c.args.map.now.pairs) ∙ ap sessions_of (sym i.pairs) ∙ ap sessions_of (sym first)) in
     record {
       pairs = c.pop_front.ensures.pairs ∙ ap (drop 1) i.pairs ∙ drop-drop 1 c.loop.counter c.args.map.now.pairs;
-      gone = rw (c.push_reserved.ensures.items, c.pop_front.ensures.pairs)
-          (append_assoc c.loop.gone.items _ _ ∙ ap (λ ps. c.loop.gone.items ++ sessions_of ps) first ∙ i.gone);
-      len = omega arith;
-      room = c.push_reserved.ensures.capacity ∙ i.room;
+      gone =
+          subst (λ sessions. FoldsTo (CalledWithSession g.F.FnMut) c.args.gone.now sessions c.gone.new.self) (sym next)
+          (FoldsTo-push (CalledWithSession g.F.FnMut) c.args.gone.now (take c.loop.counter all) c.loop.gone session
+          c.gone.new.self i.gone (record { called = c.gone.ensures }));
       capacity = c.pop_front.ensures.keeps.capacity ∙ i.capacity;
       mode = c.pop_front.ensures.keeps.mode ∙ i.mode;
       valid = c.pop_front.ensures.stays_valid;

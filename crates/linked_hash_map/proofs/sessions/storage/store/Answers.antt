@@ -1,59 +1,53 @@
-use Rattle.std.proofs.Common.{◌++◌, ◌∷◌, [], length, drop, not, true≢false, sym, ap, ◌∙◌, arith, length-drop}
-use Rattle.std.proofs.lemmas.List.{append_assoc}
+use Rattle.std.proofs.Common.{drop, length, take, not, true≢false, sym, ap, ◌∙◌, subst, arith}
+use Rattle.std.specs.List.{FoldsTo}
+use Rattle.linked_hash_map.specs.SessionHandOuts.{CalledWithSession, CallableWithEachSession}
+use Rattle.linked_hash_map.specs.SessionTables.{payload_of}
 use Rattle.linked_hash_map.specs.SessionsKept.{sessions_of}
-use Rattle.linked_hash_map.proofs.session_table.Puts.{room-left, with_last-new, sessions_of-drop}
-use Rattle.linked_hash_map.proofs.session_table.Puts.{with_last-drop, length-without_new, find-new}
-use Rattle.linked_hash_map.proofs.session_table.Puts.{payload_of-new, find-drop_new, not-absent}
+use Rattle.linked_hash_map.proofs.session_table.Puts.{sessions_of-drop, not-absent}
+use Rattle.linked_hash_map.proofs.session_table.Puts.{few-new, length-drop_new, take-new, with_last-drop, payload_of-drop_new}
 use Rattle.linked_hash_map.proofs.sessions.storage.store.Goals as goal
 
 pub remove_oldest-requires-clause-enough : goal.remove_oldest-requires-clause-enough
 remove_oldest-requires-clause-enough g c =
-    let ps = c.args.map.now.pairs in
-    let none = find-new ps c.args.session.0 (c.requires.present ∙ ap not c.if-is_new.true) in
-    omega (arith, c.requires.enough, length-without_new ps c.args.session.0 none)
+    few-new c.args.map.now.pairs c.args.count c.args.session.0 (c.requires.present ∙ ap not c.if-is_new.true) c.requires.enough
+
+pub remove_oldest-requires-clause-callable : goal.remove_oldest-requires-clause-callable
+remove_oldest-requires-clause-callable g c =
+    subst (CallableWithEachSession g.F.FnMut c.args.gone.now)
+    (take-new c.args.map.now.pairs c.args.count c.args.session.0 (c.requires.present ∙ ap not c.if-is_new.true)
+    c.requires.enough c.args.session.1 c.args.session.2) c.requires.callable
 
 pub insert_newest-requires-clause-room : goal.insert_newest-requires-clause-room
 insert_newest-requires-clause-room g c = λ _.
-    let ps = c.args.map.now.pairs in
-    let none = find-new ps c.args.session.0 (c.requires.present ∙ ap not c.if-is_new.true) in
-    let room = room-left c.args.count (length ps) c.args.map.now.capacity
-    (omega (arith, c.requires.enough, length-without_new ps c.args.session.0 none))
-    c.requires.valid.within (λ zero. c.requires.room zero c.if-is_new.true) in
-    omega (arith, room, ap length c.remove_oldest.ensures.pairs, length-drop c.args.count ps, c.remove_oldest.ensures.capacity)
+    let room = length-drop_new c.args.map.now.pairs c.args.count c.args.session.0 (c.requires.present ∙ ap not c.if-is_new.true)
+    c.requires.enough c.requires.valid.within (λ none. c.requires.room none c.if-is_new.true) in
+    omega (arith, room, ap length c.remove_oldest.ensures.pairs, c.remove_oldest.ensures.capacity)
 
 pub returns-then-is_new-clause-sessions : goal.returns-then-is_new-clause-sessions
 returns-then-is_new-clause-sessions g c =
-    let ps = c.args.map.now.pairs in
-    let none = find-new ps c.args.session.0 (c.requires.present ∙ ap not c.if-is_new.true) in
     rw (c.insert_newest.ensures.sessions, c.remove_oldest.ensures.pairs)
-    (with_last-drop ps c.args.count c.args.session.0 c.args.session.1 c.args.session.2 none
-    (omega (arith, c.requires.enough, length-without_new ps c.args.session.0 none)))
+    (with_last-drop c.args.map.now.pairs c.args.count c.args.session.0 (c.requires.present ∙ ap not c.if-is_new.true)
+    c.requires.enough c.args.session.1 c.args.session.2)
 
 pub returns-then-is_new-clause-gone : goal.returns-then-is_new-clause-gone
 returns-then-is_new-clause-gone g c =
-    let ps = c.args.map.now.pairs in let left = c.remove_oldest.new.map.pairs in
-    let session = c.args.session in
-    let none = find-new ps session.0 (c.requires.present ∙ ap not c.if-is_new.true) in
-    ap (λ l. c.remove_oldest.new.gone.items ++ l)
-    (c.insert_newest.ensures.sessions ∙ with_last-new left session.0 session.1 session.2
-    (find-drop_new ps c.args.count session.0 none c.remove_oldest.ensures.pairs))
-    ∙ sym (append_assoc c.remove_oldest.new.gone.items (sessions_of left) _)
-    ∙ ap (λ l. l ++ session ∷ []) c.remove_oldest.ensures.gone
-    ∙ append_assoc c.args.gone.now.items (sessions_of ps) _
-    ∙ ap (λ l. c.args.gone.now.items ++ l) (sym (with_last-new ps session.0 session.1 session.2 none))
+    subst (λ sessions. FoldsTo (CalledWithSession g.F.FnMut) c.args.gone.now sessions c.remove_oldest.new.gone)
+    (sym (take-new c.args.map.now.pairs c.args.count c.args.session.0 (c.requires.present ∙ ap not c.if-is_new.true)
+    c.requires.enough c.args.session.1 c.args.session.2)) c.remove_oldest.ensures.gone
 
 pub returns-then-is_new-clause-old : goal.returns-then-is_new-clause-old
 returns-then-is_new-clause-old g c =
-    let ps = c.args.map.now.pairs in
-    let none = find-new ps c.args.session.0 (c.requires.present ∙ ap not c.if-is_new.true) in
-    c.insert_newest.ensures.old
-    ∙ payload_of-new c.remove_oldest.new.map.pairs c.args.session.0
-    (find-drop_new ps c.args.count c.args.session.0 none c.remove_oldest.ensures.pairs)
-    ∙ sym (payload_of-new ps c.args.session.0 none)
+    c.insert_newest.ensures.old ∙ ap (λ ps. payload_of (sessions_of ps) c.args.session.0) c.remove_oldest.ensures.pairs
+    ∙ payload_of-drop_new c.args.map.now.pairs c.args.count c.args.session.0 (c.requires.present ∙ ap not c.if-is_new.true) c.requires.enough
 
 pub insert_newest-old-requires-clause-room : goal.insert_newest-old-requires-clause-room
 insert_newest-old-requires-clause-room g c = λ none.
     absurd (true≢false (sym (not-absent c.args.map.now.pairs c.args.session.0 (c.requires.present ∙ ap not c.if-is_new.false) none)))
+
+pub remove_oldest-requires-2-clause-callable : goal.remove_oldest-requires-2-clause-callable
+remove_oldest-requires-2-clause-callable g c =
+    subst (CallableWithEachSession g.F.FnMut c.args.gone.now)
+    (sym (ap (take c.args.count) c.insert_newest-old.ensures.sessions)) c.requires.callable
 
 pub returns-clause-sessions : goal.returns-clause-sessions
 returns-clause-sessions g c = ap sessions_of c.remove_oldest-2.ensures.pairs
@@ -61,4 +55,6 @@ returns-clause-sessions g c = ap sessions_of c.remove_oldest-2.ensures.pairs
     ∙ ap (drop c.args.count) c.insert_newest-old.ensures.sessions
 
 pub returns-clause-gone : goal.returns-clause-gone
-returns-clause-gone g c = c.remove_oldest-2.ensures.gone ∙ ap (λ l. c.args.gone.now.items ++ l) c.insert_newest-old.ensures.sessions
+returns-clause-gone g c =
+    subst (λ sessions. FoldsTo (CalledWithSession g.F.FnMut) c.args.gone.now sessions c.remove_oldest-2.new.gone)
+    (ap (take c.args.count) c.insert_newest-old.ensures.sessions) c.remove_oldest-2.ensures.gone
