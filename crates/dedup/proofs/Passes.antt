@@ -117,16 +117,6 @@ module _ (size : Option ℕ) (old : Option (List ℕ)) (output : Option (List �
       whole None is = tt
       whole (Some xs) is = subst (λ ls. Appends output output_now (text_of (new_lines (distinct_lines size) [] ls))) is filtered.written
 
-  pub IsFiltered-recent : (now : Option (List ℕ)) (recent : List (List ℕ)) (output_now : Option (List ℕ))
-      → IsFiltered size old now recent output output_now → IsAtEnd now
-      → IfSome old (λ bytes. recent ≡ distinct_lines size (lines_of bytes))
-  IsFiltered-recent now recent output_now filtered end = whole old (TakesLines-all old now filtered.lines filtered.taken end)
-    where
-      whole : (known : Option (List ℕ)) → IfSome known (λ bytes. filtered.lines ≡ lines_of bytes)
-          → IfSome known (λ bytes. recent ≡ distinct_lines size (lines_of bytes))
-      whole None is = tt
-      whole (Some xs) is = filtered.recent_is ∙ ap (distinct_lines size) is
-
 -- what is written is what is kept: at the first appearances, and at the last
 module _ {E : Type 0} (result : Result (Unit {0}) E) (known old new : Option (List ℕ)) where
   pub written-First : OnOk result (IfSome known (λ bytes. Appends old new (text_of (new_lines (distinct_lines None) [] (lines_of bytes)))))

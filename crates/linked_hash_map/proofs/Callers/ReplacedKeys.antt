@@ -3,7 +3,7 @@
 use Rattle.std.proofs.Common.{◌≡◌, Bool, true, false, cond, List, [], ◌∷◌, map, length, Option, Some, None, option_map}
 use Rattle.std.proofs.Common.{refl, ap, ap₂, ◌∙◌}
 use Rattle.std.specs.Cmp.{IsEquivalence}
-use Rattle.std.specs.Map.{keys_of, values_of}
+use Rattle.std.specs.Map.{keys_of}
 use Rattle.std.proofs.lemmas.List.{length-map}
 use Rattle.linked_hash_map.specs.Pairs.{find, value_at, replaced, set_key}
 -- of a key that is absent
@@ -13,10 +13,6 @@ module _ {K V : Type 0} (eq : K → K → Bool) where
   pub keys_of-set_key : (pairs : List (K × V)) (k : K) → keys_of (set_key eq pairs k) ≡ map (replaced eq k) (keys_of pairs)
   keys_of-set_key [] k = refl
   keys_of-set_key (pair ∷ pairs) k = ap (λ ks. replaced eq k pair.0 ∷ ks) (keys_of-set_key pairs k)
-
-  pub values_of-set_key : (pairs : List (K × V)) (k : K) → values_of (set_key eq pairs k) ≡ values_of pairs
-  values_of-set_key [] k = refl
-  values_of-set_key (pair ∷ pairs) k = ap (λ vs. pair.1 ∷ vs) (values_of-set_key pairs k)
 
   pub length-set_key : (pairs : List (K × V)) (k : K) → length (set_key eq pairs k) ≡ length pairs
   length-set_key pairs k = length-map pairs (λ pair. (replaced eq k pair.0, pair.1))

@@ -1,8 +1,7 @@
 -- For callers: what `retain` keeps, by what the closure's contract says of each call. T says what a
 -- call does: it may return this, leave this value there, and leave the closure so.
 use Rattle.std.proofs.Common.{◌≡◌, Bool, true, false, cond, List, [], ◌∷◌, map, filter, refl, ◌∙◌, subst}
-use Rattle.std.specs.List.{FoldsTo}
-use Rattle.std.specs.Map.Calls.{CallableOnEachPair, SomeCallAtPair, RetainsPairs}
+use Rattle.std.specs.Map.Calls.{RetainsPairs}
 use Rattle.std.proofs.lemmas.Map.Made as made
 -- the first pair
 pub use Rattle.linked_hash_map.proofs.nodes.Retained.{RetainsFirst, first-retained}
@@ -38,21 +37,3 @@ module _ {F K V : Type 0} (T : F → K → V → Bool → V → F → Type 0) wh
       → (b ≡ test (k, v)) × (w ≡ v) × (g ≡ f))
       → RetainsPairs T f pairs kept → kept ≡ filter test pairs
   filter_same_pairs test f pairs kept says r = made.filter_same_pairs T test f says pairs kept r
-
--- what holds of a closure after each of its calls lets it be called at each pair
-module _ {C K X : Type 0} (calls : C → K → X → Bool → X → C → Type 0) (Ready : C → Type 0)
-    (still : (c : C) (k : K) (v : X) (b : Bool) (w : X) (c' : C) → calls c k v b w c' → Ready c
-    → Ready c') where
-  ready_after : (pairs : List (K × X)) (c c' : C) → FoldsTo (SomeCallAtPair calls) c pairs c' → Ready c → Ready c'
-  ready_after [] c c' end ready = subst Ready end ready
-  ready_after (pair ∷ pairs) c c' steps ready = ready_after pairs steps.0 c' steps.2
-      (still c pair.0 pair.1 steps.1.0 steps.1.1 steps.0 steps.1.2 ready)
-
-  pub callable-ready : (Takes : C → K → X → Type 0)
-      → ((c : C) (k : K) (v : X) → Ready c → Takes c k v) → (c : C) (pairs : List (K × X)) → Ready c
-      → CallableOnEachPair calls Takes c pairs
-  callable-ready Takes takes c pairs ready =
-      record {
-        at = λ before after c' k v is steps.
-            takes c' k v (ready_after before c c' steps ready);
-      }

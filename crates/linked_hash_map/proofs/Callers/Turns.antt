@@ -8,9 +8,8 @@ use Rattle.std.specs.List.{IsDistinct}
 use Rattle.std.specs.Map.{keys_of}
 use Rattle.std.specs.Cmp.{IsEquivalence}
 use Rattle.std.proofs.lemmas.List.{drop_more, take_more, map-append}
-use Rattle.linked_hash_map.specs.Pairs.{key_or, find, to_back, put, first, without_first}
+use Rattle.linked_hash_map.specs.Pairs.{find, put, first, without_first}
 use Rattle.linked_hash_map.specs.declared.map.Mode.{Mode}
-use Rattle.linked_hash_map.proofs.pairs.Indexes.{find-own}
 use Rattle.linked_hash_map.proofs.Callers.Lookups.{lookup_entry-append, find-same, find-without_here, drop-first}
 use Rattle.linked_hash_map.proofs.Callers.Keys.{find-drop, put-absent}
 
@@ -44,15 +43,6 @@ module _ {K V : Type 0} {eq : K → K → Bool} (laws : IsEquivalence eq) where
       → put eq mode (without_first pairs) pair.0 v ≡ without_first pairs ++ (pair.0, v) ∷ []
   put-without_first mode pairs pair v distinct there = put-absent eq mode (without_first pairs)
       pair.0 v (find-without_first pairs pair distinct there)
-
--- the first pair with another value, put at the back in its place
-pub to_back-first : {K V : Type 0} {eq : K → K → Bool} → IsEquivalence eq → (pairs : List (K × V))
-    (pair : K × V) (v : V)
-    → IsDistinct eq (keys_of pairs) → first pairs ≡ Some pair
-    → to_back eq pairs pair.0 v ≡ without_first pairs ++ (pair.0, v) ∷ []
-to_back-first {eq = eq} laws pairs pair v distinct there =
-    ap₂ (λ ps k. ps ++ (k, v) ∷ []) (sym (drop-first laws pairs pair distinct there))
-    (ap (key_or pair.0) (find-own laws pairs distinct 0 pair there))
 
 -- after some turns of a renaming the first of the old pairs stand behind the others, the one of
 -- `from` with `to` as its key; and while the pair of `from` is there, `to` is free

@@ -5,13 +5,12 @@ use Rattle.std.proofs.Common.{refl, sym, ap, ◌∙◌, arith, add-one, length-a
 use Rattle.std.specs.Borrow.{MutBor}
 use Rattle.std.specs.Fn.{Takes}
 use Rattle.std.specs.List.{FoldsTo}
-use Rattle.std.specs.Prelude.{nat_le, if◌then◌else◌}
+use Rattle.std.specs.Prelude.{nat_le}
 use denote.Param.Members.{Mut}
 use Rattle.std.proofs.lemmas.Fn.{chained_keeps}
-use Rattle.std.proofs.lemmas.List.{append_assoc, append_cancel_right, append-nil}
+use Rattle.std.proofs.lemmas.List.{append_assoc, append-nil}
 use Rattle.linked_hash_map.specs.SessionHandOuts.{CalledWithSession, CallableWithEachSession}
-use Rattle.linked_hash_map.specs.SessionTables.{Session, total_weight, without, with_last, fit, leaving}
-use Rattle.linked_hash_map.proofs.session_table.Lists.{fit-append}
+use Rattle.linked_hash_map.specs.SessionTables.{Session, total_weight, fit, leaving}
 
 module _ {X : Type 0} where
   -- the first elements, and the one behind them
@@ -44,19 +43,6 @@ module _ {T : Type 0} where
           ++ (if b then session ∷ sessions else fit limit sessions) ≡ session ∷ sessions
       by_test true rest = refl
       by_test false rest = ap (λ l. session ∷ l) rest
-
-  -- the new one does not go, so it is some of the others that do
-  pub leaving-with_last : (limit weight id : ℕ) (payload : T) (sessions : List (Session T)) → weight ≤ limit
-      → leaving limit (with_last sessions id weight payload) ≡ leaving (limit - weight) (without sessions id)
-  leaving-with_last limit weight id payload sessions light =
-      let all = with_last sessions id weight payload in
-      let others = without sessions id in
-      let session : Session T = (id, weight, payload) in
-      append_cancel_right (leaving limit all) (leaving (limit - weight) others) (fit limit all)
-      (leaving-fit limit all
-      ∙ ap (λ l. l ++ session ∷ []) (sym (leaving-fit (limit - weight) others))
-      ∙ append_assoc (leaving (limit - weight) others) (fit (limit - weight) others) (session ∷ [])
-      ∙ ap (λ l. leaving (limit - weight) others ++ l) (sym (fit-append limit others session light)))
 
 -- a closure that pushes each session that it is called with onto a vector that it borrows
 module _ {F T : Type 0} (g : Mut F (ℕ × (ℕ × (T × Unit {0}))) (Unit {0})) (vec : F → MutBor (Vec (Session T) Global)) where

@@ -1,6 +1,6 @@
-use Rattle.std.proofs.Common.{◌≡◌, true, false, [], ◌∷◌, ◌∙◌, None, rules}
+use Rattle.std.proofs.Common.{◌≡◌, true, ◌∙◌, None, rules}
 use Rattle.dedup.specs.Recent.{recent_lines}
-use Rattle.dedup.proofs.Passes.{IsFiltered-start, IsFiltered-push, IsFiltered-recent}
+use Rattle.dedup.proofs.Passes.{IsFiltered-push}
 use Rattle.dedup.proofs.filter.read_lines.Goals as goal
 
 pub loop-preserved : goal.loop-preserved
