@@ -7,3 +7,4 @@ pub mod Rearranged
 pub mod RearrangedCounts
 pub mod RearrangedFilters
 pub mod Results
+pub mod Splits

@@ -11,19 +11,6 @@ pub record SplitAt {X Y : Type 0} (f : X → Y) (xs : List X) (y : Y) : Type 0 w
   pub is : xs ≡ before ++ node ∷ after
   pub at_is : f node ≡ y
 
--- at an element in the middle that is known itself
-pub record SplitAround {X : Type 0} (xs : List X) (x : X) : Type 0 where
-  pub before : List X
-  pub after : List X
-  pub is : xs ≡ before ++ x ∷ after
-
--- at the first
-pub record SplitFirst {X Y : Type 0} (f : X → Y) (xs : List X) (y : Y) : Type 0 where
-  pub node : X
-  pub after : List X
-  pub is : xs ≡ node ∷ after
-  pub at_is : f node ≡ y
-
 -- at the last
 pub record SplitLast {X Y : Type 0} (f : X → Y) (xs : List X) (y : Y) : Type 0 where
   pub before : List X
@@ -113,10 +100,6 @@ revalued w t = held t.at t.hash t.link (pair t.pair.0 w)
 -- the same triple with the key k
 abbrev pub rekeyed : {K V : Type 0} → K → Held (K × V) → Held (K × V)
 rekeyed k t = held t.at t.hash t.link (pair k t.pair.1)
-
--- the values of what is held, in order
-abbrev pub held_values : {K V : Type 0} → List (Held (K × V)) → List V
-held_values = map (λ t. t.pair.1)
 
 -- what is held, with the values vs in order, as far as there are both
 abbrev pub set_held_values : {K V : Type 0} → List (Held (K × V)) → List V → List (Held (K × V))

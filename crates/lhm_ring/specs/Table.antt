@@ -1,12 +1,10 @@
 -- What callers see of a table, and what `retain` leaves of it.
-use Rattle.std.specs.Prelude.{◌≡◌, ℕ, ◌+◌, ◌≤◌, ◌^◌, Bool, List, ◌∷◌, ◌++◌, length, Option, cond, [], map, Some, None}
+use Rattle.std.specs.Prelude.{◌≡◌, ℕ, ◌+◌, ◌≤◌, ◌^◌, Bool, List, ◌∷◌, ◌++◌, length, cond, []}
 use denote.RawPtr.{Ptr}
-use Rattle.std.specs.Map.Calls.{CallableOnEachPair}
-use Rattle.lhm_ring.specs.Ring.{State, Held, AtHeld, change_at, revalued, IsHeld, first_at}
+use Rattle.lhm_ring.specs.Ring.{State, Held, AtHeld, change_at, revalued, IsHeld}
 use Rattle.lhm_ring.specs.Search.{HasKey}
 use Rattle.lhm_ring.specs.Index.{entries, IsIndexed}
 use Rattle.lhm_ring.specs.Buckets.{BucketState}
-use Rattle.lhm_ring.specs.Nodes.{same_ptr}
 
 -- the pairs in order, each with its position and its hash and with no chain link; the capacity; how
 -- many nodes rehashes have moved; and how many nodes the chunks have
@@ -86,21 +84,3 @@ module _ {F K V : Type 0} (T : F → K → V → Bool → V → F → Type 0) wh
     retained : RetainsHeld closure hs rest;
     kept_is : kept ≡ cond returned (revalued value t ∷ rest) rest;
   }
-
-  -- the closure, which was start, has been called at some of the pairs in old, and is now f; the
-  -- rest begins at next
-  pub record IsRetaining (Q : F → K → V → Type 0) (start : F) (old : List (Held (K × V))) (f : F)
-      (now : List (Held (K × V))) (next : Option Ptr) : Type 0 where
-    pub kept : List (Held (K × V))
-    pub rest : List (Held (K × V))
-    pub now_is : now ≡ kept ++ rest
-    pub next_is : next ≡ first_at rest
-    pub callable : CallableOnEachPair T Q f (map (λ t. t.pair) rest)
-    pub ends : (last : List (Held (K × V))) → RetainsHeld f rest last
-        → RetainsHeld start old (kept ++ last)
-
--- how many are held from the one at a pointer on
-abbrev pub left_from : {B : Type 0} → Option Ptr → List (Held B) → ℕ
-left_from None hs = 0
-left_from (Some p) [] = 0
-left_from (Some p) (t ∷ hs) = cond (same_ptr t.at p) (length (t ∷ hs)) (left_from (Some p) hs)

@@ -32,14 +32,10 @@ module _ {K V : Type 0} where
   abbrev pub refusals : List (Reply K V) → List (Option ℕ)
   refusals replies = map (λ reply. refused_after reply.answer) replies
 
-  -- the mode after a command, and after commands in turn
+  -- the mode after a command
   abbrev pub mode_after : Mode → Command K V → Mode
   mode_after mode (SetMode m) = m
   mode_after mode _ = mode
-
-  abbrev pub mode_after_all : Mode → List (Command K V) → Mode
-  mode_after_all mode [] = mode
-  mode_after_all mode (command ∷ commands) = mode_after_all (mode_after mode command) commands
 
   -- the old value if there is one, and the pair if there is one
   abbrev pub old_or : Answer K V → Option V → Answer K V
@@ -117,7 +113,7 @@ module _ {K V : Type 0} (eq : K → K → Bool) where
     capacity = capacity_after mode capacity pairs command;
   }
 
-  -- after commands in turn: the replies, the pairs and the capacity
+  -- after commands in turn: the replies and the pairs
   abbrev pub replies_to : Mode → ℕ → List (K × V) → List (Command K V) → List (Reply K V)
   replies_to mode capacity pairs [] = []
   replies_to mode capacity pairs (command ∷ commands) =
@@ -129,9 +125,3 @@ module _ {K V : Type 0} (eq : K → K → Bool) where
   pairs_after_all mode pairs [] = pairs
   pairs_after_all mode pairs (command ∷ commands) =
       pairs_after_all (mode_after mode command) (pairs_after mode pairs command) commands
-
-  abbrev pub capacity_after_all : Mode → ℕ → List (K × V) → List (Command K V) → ℕ
-  capacity_after_all mode capacity pairs [] = capacity
-  capacity_after_all mode capacity pairs (command ∷ commands) =
-      capacity_after_all (mode_after mode command) (capacity_after mode capacity pairs command)
-      (pairs_after mode pairs command) commands

@@ -20,9 +20,6 @@ pub record VisitState : Type 0 where
   pub unvisited : ℕ
   pub current : Option Ptr
 
-abbrev pub no_visit : VisitState
-no_visit = record { bookmark = None; unvisited = 0; current = None }
-
 module _ {B : Type 0} where
   -- how many nodes come before the one at p: all, if none lies there
   abbrev pub before : Ptr → List (Held B) → ℕ

@@ -3,7 +3,7 @@ use Rattle.std.proofs.Common.{◌≡◌, ℕ, List, [], ◌∷◌, ◌++◌, ref
 use Rattle.std.specs.Prelude.{filter}
 use denote.RawPtr.{Ptr}
 use Rattle.lhm_ring.proofs.lists.RearrangedFilters.{filter-PutsIn, PutsIn-filter_in}
-use Rattle.lhm_ring.specs.Ring.{SplitFirst}
+use Rattle.lhm_ring.proofs.lists.Splits.{SplitFirst}
 use Rattle.lhm_ring.specs.Index.{PutsIn, IsRearranged, IsChain, is_in, HasChain, Spot}
 
 abbrev pub ChainFirst : List Spot → Ptr → Type 0

@@ -1,7 +1,7 @@
 -- Lists that are one another in another order.
 use Rattle.std.proofs.Common.{◌≡◌, List, [], ◌∷◌, ◌++◌, ◌⊎◌, inl, inr, refl, sym, ◌∙◌, ap, subst}
 use Rattle.lhm_ring.specs.Index.{PutsIn, IsRearranged}
-use Rattle.lhm_ring.specs.Ring.{SplitAround}
+use Rattle.lhm_ring.proofs.lists.Splits.{SplitAround}
 
 module _ {X : Type 0} where
   pub PutsIn-here : (x : X) (xs : List X) → PutsIn x xs (x ∷ xs)

@@ -9,7 +9,7 @@ use Rattle.lhm_ring.proofs.memory.NodeFields.{Three, RL, RK, RV}
 use Rattle.lhm_ring.proofs.lists.Options.{none_some}
 use Rattle.lhm_ring.specs.Nodes.{same_ptr, body_owns}
 use Rattle.lhm_ring.specs.ContentLoan.{body_in, without_body, bodies, firsts, seconds}
-use Rattle.lhm_ring.specs.Ring.{SplitAround}
+use Rattle.lhm_ring.proofs.lists.Splits.{SplitAround}
 
 module _ {B : Type 0} where
   pub record CutBody (cs : List (Ptr × Option B)) (p : Ptr) (x : B) : Type 0 where

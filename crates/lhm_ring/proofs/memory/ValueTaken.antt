@@ -12,7 +12,7 @@ use Rattle.lhm_ring.proofs.lists.Apart.{same_ptr-equal}
 use Rattle.lhm_ring.proofs.lists.Options.{none_some, Some-injective}
 use Rattle.lhm_ring.specs.Nodes.{same_ptr}
 use Rattle.lhm_ring.specs.ValueLoan.{value_at, without_value, spread}
-use Rattle.lhm_ring.specs.Ring.{SplitAround}
+use Rattle.lhm_ring.proofs.lists.Splits.{SplitAround}
 
 module _ {V : Type 0} where
   pub record CutValue (cs : List (Ptr × V)) (p : Ptr) (v : V) : Type 0 where

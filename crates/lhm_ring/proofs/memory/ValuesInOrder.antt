@@ -10,7 +10,11 @@ use Rattle.lhm_ring.proofs.memory.ValuesReplaced.{lent_then-cases, run_of, taken
 use Rattle.lhm_ring.proofs.memory.ValuesReplaced.{revalued_by}
 use Rattle.lhm_ring.specs.Nodes.{Cell, same_ptr, IsApart}
 use Rattle.lhm_ring.specs.ValueLoan.{value_at}
-use Rattle.lhm_ring.specs.Ring.{SplitAt, Held, IsHeld, AtHeld, revalued, unvalued, held_values, set_held_values}
+use Rattle.lhm_ring.specs.Ring.{SplitAt, Held, IsHeld, AtHeld, revalued, unvalued, set_held_values}
+
+-- the values of what is held, in order
+abbrev pub held_values : {K V : Type 0} → List (Held (K × V)) → List V
+held_values = map (λ t. t.pair.1)
 
 module _ {K V : Type 0} where
   pub unvalued-set_held_values : (hs : Triples K V) (vs : List V) → map unvalued (set_held_values hs vs) ≡ map unvalued hs

@@ -53,7 +53,7 @@ use Rattle.lhm_ring.proofs.memory.ValuesReplaced.{IsOwned-held_written, ring_lis
 use Rattle.lhm_ring.proofs.memory.ValuesReplaced.{AreLent-held_entries}
 use Rattle.lhm_ring.proofs.memory.ValuesInOrder.{HasOwnValue, AllByRecursion-own_values, taken-own}
 use Rattle.lhm_ring.proofs.memory.ValuesInOrder.{taken-by, AllByRecursion-kept, set_held_values-own}
-use Rattle.lhm_ring.proofs.memory.ValuesInOrder.{set_held_values-by, revalued_by-set_held_values}
+use Rattle.lhm_ring.proofs.memory.ValuesInOrder.{set_held_values-by, revalued_by-set_held_values, held_values}
 use Rattle.lhm_ring.proofs.memory.Sharing.{parts_own, Lends-less, Lends-parts, Thin, Law-thin}
 use Rattle.lhm_ring.proofs.memory.PartsTaken.{Entails, ◌∗◌, parts_cut, parts_glue}
 use Rattle.lhm_ring.proofs.memory.NodeTaken.{with_cells}
@@ -62,7 +62,7 @@ use Rattle.lhm_ring.specs.Nodes.{Cell, cell, IsApart, links_address, key_address
 use Rattle.lhm_ring.specs.Nodes.{body_owns, deed_owns, land_owns, cell_owns, cells_own, cell_lent}
 use Rattle.lhm_ring.specs.Nodes.{cells_lent}
 use Rattle.lhm_ring.specs.ValueLoan.{Spread, spread, AreLent}
-use Rattle.lhm_ring.specs.Ring.{State, state, held_values, set_held_values}
+use Rattle.lhm_ring.specs.Ring.{State, state, set_held_values}
 use Rattle.lhm_ring.specs.Links.{ring_cells, ring_pointers}
 
 module _ (R S W : RattleType) where

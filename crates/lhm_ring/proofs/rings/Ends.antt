@@ -5,7 +5,8 @@ use Rattle.std.specs.List.{AllZip}
 use Rattle.std.proofs.lemmas.List.{map-append}
 use denote.RawPtr.{Ptr}
 use Rattle.lhm_ring.proofs.lists.Options.{none_some, Some-injective}
-use Rattle.lhm_ring.specs.Ring.{SplitFirst, SplitLast, Held, IsHeld, first_at, last_at, last_of, triples}
+use Rattle.lhm_ring.specs.Ring.{SplitLast, Held, IsHeld, first_at, last_at, last_of, triples}
+use Rattle.lhm_ring.proofs.lists.Splits.{SplitFirst}
 
 -- a node at p comes first, or last
 abbrev pub First : {B : Type 0} → List (Held B) → Ptr → Type 0

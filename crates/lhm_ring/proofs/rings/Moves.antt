@@ -17,7 +17,8 @@ use Rattle.lhm_ring.specs.Nodes.{Cell, IsApart, links_at, same_ptr}
 use Rattle.lhm_ring.specs.Links.{next_of, prev_of, next_at, prev_at, content_at, AreLinked}
 use Rattle.lhm_ring.specs.Links.{IsSpareList, HasContent, IsRing, listed, one_of, IsJoined}
 use Rattle.lhm_ring.specs.Links.{ring_list, IsOwned, IsThere}
-use Rattle.lhm_ring.specs.Ring.{state, Held, State, IsHeld, AtHeld, SplitAround}
+use Rattle.lhm_ring.specs.Ring.{state, Held, State, IsHeld, AtHeld}
+use Rattle.lhm_ring.proofs.lists.Splits.{SplitAround}
 
 module _ {B : Type 0} where
   pub listed-one : (cs : List (Cell Links B)) (p : Ptr) (t : Held B) → content_at cs p ≡ Some t → listed cs (p ∷ []) ≡ t ∷ []

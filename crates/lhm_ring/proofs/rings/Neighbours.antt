@@ -11,7 +11,8 @@ use Rattle.lhm_ring.proofs.rings.RingNodes.{Found-held, ring_split}
 use Rattle.lhm_ring.proofs.lists.LinkRows.{RowCut, RowCut-linked, AreLinked-glued}
 use Rattle.lhm_ring.specs.Nodes.{Cell, same_ptr, links_at}
 use Rattle.lhm_ring.specs.Links.{next_of, prev_of, next_at, prev_at, HasContent, IsRing, listed, ring_list, IsOwned}
-use Rattle.lhm_ring.specs.Ring.{State, state, AtHeld, SplitAround, first_at, last_at}
+use Rattle.lhm_ring.specs.Ring.{State, state, AtHeld, first_at, last_at}
+use Rattle.lhm_ring.proofs.lists.Splits.{SplitAround}
 use Rattle.lhm_ring.specs.Pointer.{led_to}
 
 module _ {B : Type 0} {cs : List (Cell Links B)} {ps : List Ptr} {spare : Option Ptr}

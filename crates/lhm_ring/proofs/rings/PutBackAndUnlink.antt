@@ -34,7 +34,8 @@ use Rattle.lhm_ring.specs.Links.{ring_cells, chaining_to, ChainsTo, prev_of, lin
 use Rattle.lhm_ring.specs.Links.{prev_at, link_at, content_of, content_at, IsSpareList, IsRing}
 use Rattle.lhm_ring.specs.Links.{listed, IsJoined, ring_list, IsOwned, AreLinked, HasContent}
 use Rattle.lhm_ring.specs.Links.{IsThere}
-use Rattle.lhm_ring.specs.Ring.{State, state, held, IsHeld, Held, SplitAround}
+use Rattle.lhm_ring.specs.Ring.{State, state, held, IsHeld, Held}
+use Rattle.lhm_ring.proofs.lists.Splits.{SplitAround}
 use Rattle.lhm_ring.specs.Pointer.{target}
 
 -- the first spare node p is given links, a hash and a body, and comes last

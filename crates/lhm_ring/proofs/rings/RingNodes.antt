@@ -8,7 +8,8 @@ use Rattle.lhm_ring.proofs.rings.Contents.{at-content}
 use Rattle.lhm_ring.proofs.lists.LinkRows.{follow-row}
 use Rattle.lhm_ring.specs.Nodes.{Cell}
 use Rattle.lhm_ring.specs.Links.{HasContent, IsRing, follow, listed, one_of, ring_list, IsOwned, content_at}
-use Rattle.lhm_ring.specs.Ring.{state, State, IsHeld, AtHeld, Held, SplitAround}
+use Rattle.lhm_ring.specs.Ring.{state, State, IsHeld, AtHeld, Held}
+use Rattle.lhm_ring.proofs.lists.Splits.{SplitAround}
 
 module _ {B : Type 0} where
   -- where a ring is cut at p, if what it lists is

@@ -10,7 +10,26 @@ use Rattle.lhm_ring.proofs.rings.HeldPointers.{pointers_of, pointers_of-append, 
 use Rattle.lhm_ring.proofs.indexes.Entries.{EntriesCut-split}
 use Rattle.lhm_ring.specs.Nodes.{Cell, cell, same_ptr, IsApart, change, with_body}
 use Rattle.lhm_ring.specs.Ring.{State, Held, IsHeld, AtHeld, first_at, change_at, revalued}
-use Rattle.lhm_ring.specs.Table.{TableState, table_of, WritesOnly, TakesAt, CallsAt, RetainsAt, RetainsHeld, IsRetaining, left_from}
+use Rattle.lhm_ring.specs.Table.{TableState, table_of, WritesOnly, TakesAt, CallsAt, RetainsAt, RetainsHeld}
+
+-- how many are held from the one at a pointer on
+abbrev pub left_from : {B : Type 0} → Option Ptr → List (Held B) → ℕ
+left_from None hs = 0
+left_from (Some p) [] = 0
+left_from (Some p) (t ∷ hs) = cond (same_ptr t.at p) (length (t ∷ hs)) (left_from (Some p) hs)
+
+module _ {F K V : Type 0} (T : F → K → V → Bool → V → F → Type 0) where
+  -- the closure, which was start, has been called at some of the pairs in old, and is now f; the
+  -- rest begins at next
+  pub record IsRetaining (Q : F → K → V → Type 0) (start : F) (old : List (Held (K × V))) (f : F)
+      (now : List (Held (K × V))) (next : Option Ptr) : Type 0 where
+    pub kept : List (Held (K × V))
+    pub rest : List (Held (K × V))
+    pub now_is : now ≡ kept ++ rest
+    pub next_is : next ≡ first_at rest
+    pub callable : CallableOnEachPair T Q f (map (λ t. t.pair) rest)
+    pub ends : (last : List (Held (K × V))) → RetainsHeld f rest last
+        → RetainsHeld start old (kept ++ last)
 
 -- what a node holds is written twice
 module _ {L B : Type 0} where

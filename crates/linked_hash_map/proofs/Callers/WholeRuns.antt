@@ -10,8 +10,8 @@ use Rattle.linked_hash_map.specs.Validity.{IsValid}
 use Rattle.linked_hash_map.specs.Log.{Log, mode, pairs, high, Defines}
 use Rattle.linked_hash_map.specs.AllowedAnswers.{log_after, Answers}
 use Rattle.linked_hash_map.specs.Run.{first_log, last_log, IsReply, IsRun}
-use Rattle.linked_hash_map.specs.Commands.{is_refusal, refused_after, refusals, answer_to, mode_after_all, replies_to}
-use Rattle.linked_hash_map.specs.Commands.{pairs_after_all, capacity_after_all}
+use Rattle.linked_hash_map.specs.Commands.{is_refusal, refused_after, refusals, answer_to, replies_to}
+use Rattle.linked_hash_map.specs.Commands.{mode_after, pairs_after, capacity_after, pairs_after_all}
 use Rattle.linked_hash_map.specs.LastUses.{sets_keep, pairs_by_use}
 use Rattle.linked_hash_map.specs.declared.replay.Command.{Command}
 use Rattle.linked_hash_map.specs.declared.replay.Command.TheVariants.{Insert, Write, Refresh, Remove, PopFront, PopBack, Clear, Drain}
@@ -44,6 +44,18 @@ never_refused PopBack = true
 never_refused Clear = true
 never_refused (SetMode mode) = true
 never_refused _ = false
+
+-- the mode and the capacity after commands in turn, if none is refused
+abbrev pub mode_after_all : {K V : Type 0} → Mode → List (Command K V) → Mode
+mode_after_all mode [] = mode
+mode_after_all mode (command ∷ commands) = mode_after_all (mode_after mode command) commands
+
+abbrev pub capacity_after_all : {K V : Type 0} → (K → K → Bool) → Mode → ℕ → List (K × V)
+    → List (Command K V) → ℕ
+capacity_after_all eq mode capacity contents [] = capacity
+capacity_after_all eq mode capacity contents (command ∷ commands) =
+    capacity_after_all eq (mode_after mode command) (capacity_after eq mode capacity contents command)
+    (pairs_after eq mode contents command) commands
 
 module _ {K V : Type 0} {eq : K → K → Bool} (laws : IsEquivalence eq) where
   -- a run on a log that defines these pairs and this capacity

@@ -15,7 +15,7 @@ use Rattle.linked_hash_map.specs.Visits.{VisitMaps}
 use Rattle.linked_hash_map.proofs.pairs.Indexes.{find-own, without-own, set_value-own_at, set_value_at-append}
 use Rattle.linked_hash_map.proofs.lists.Elements.{slice_get-append, remove-append}
 use Rattle.linked_hash_map.proofs.Callers.Visits.{Next, next_of}
-use Rattle.lhm_ring.specs.Ring.{SplitFirst}
+use Rattle.lhm_ring.proofs.lists.Splits.{SplitFirst}
 
 module _ {K V : Type 0} {eq : K → K → Bool} (laws : IsEquivalence eq) {keeps : K × V → Bool} {change : K × V → V}
     {start now : List (K × V)} {k : K} {left : List K} {v : V}

@@ -5,7 +5,8 @@ use denote.RawPtr.{Ptr}
 use Rattle.lhm_ring.specs.declared.pointer.Position.{Position}
 use Rattle.linked_hash_map.specs.LinkedMap.{LinkedMap, CursorState}
 use Rattle.linked_hash_map.specs.Cursor.{IsOutside}
-use Rattle.linked_hash_map.specs.Nodes.{VisitState, no_visit, bare, before, current_at, cursor_at, Lies, IsKept}
+use Rattle.linked_hash_map.specs.Nodes.{VisitState, bare, before, current_at, cursor_at, Lies, IsKept}
+use Rattle.linked_hash_map.proofs.nodes.Kept.{no_visit}
 use Rattle.linked_hash_map.proofs.nodes.HeldPairs.{length-bare, before-bare}
 use Rattle.linked_hash_map.proofs.nodes.CutNodes.{CutAt, CutAt-before}
 use Rattle.linked_hash_map.proofs.nodes.Outside.{IsElsewhere}

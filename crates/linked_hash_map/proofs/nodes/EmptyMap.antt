@@ -1,7 +1,8 @@
 -- A map with no pairs.
 use Rattle.std.proofs.Common.{◌≡◌, ℕ, ◌≤◌, Bool, List, [], refl, sym, subst, arith}
 use Rattle.std.specs.List.{IsDistinct}
-use Rattle.linked_hash_map.specs.Nodes.{no_visit, IsKept}
+use Rattle.linked_hash_map.specs.Nodes.{IsKept}
+use Rattle.linked_hash_map.proofs.nodes.Kept.{no_visit}
 use Rattle.linked_hash_map.specs.declared.map.TheConstants.{LIMIT}
 use Rattle.lhm_ring.specs.Ring.{Held}
 

@@ -1,5 +1,5 @@
 -- A map whose table and visit are kept, as its callers see it.
-use Rattle.std.proofs.Common.{◌≡◌, ℕ, Bool, List, [], ◌∷◌, length, refl, sym, ap, subst, arith}
+use Rattle.std.proofs.Common.{◌≡◌, ℕ, Bool, List, [], ◌∷◌, length, None, refl, sym, ap, subst, arith}
 use Rattle.std.specs.List.{IsDistinct}
 use Rattle.std.specs.Map.{keys_of}
 use Rattle.linked_hash_map.specs.LinkedMap.{LinkedMap}
@@ -10,6 +10,10 @@ use Rattle.linked_hash_map.specs.Validity.{IsValid}
 use Rattle.linked_hash_map.proofs.nodes.HeldPairs.{bare-values, keys-bare, length-bare, length-pairs_of}
 use Rattle.lhm_ring.specs.Ring.{Held, set_held_values}
 use Rattle.lhm_ring.specs.Table.{TableState}
+
+-- nothing is left to visit, and no entry stands for a pair
+abbrev pub no_visit : VisitState
+no_visit = record { bookmark = None; unvisited = 0; current = None }
 
 -- other nodes that are the same without their values
 pub IsKept-same : {K : Type 0} {eq : K → K → Bool} {hash : K → ℕ} {us ws : List (Held K)} {m n : ℕ}

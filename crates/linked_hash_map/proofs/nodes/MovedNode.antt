@@ -9,12 +9,12 @@ use Rattle.std.proofs.lemmas.Map.Keys.{IsDistinct-head, IsDistinct-tail}
 use denote.RawPtr.{Ptr}
 use Rattle.lhm_ring.proofs.lists.Apart.{IsFresh, same_ptr-reflexive, same_ptr-symmetric, IsFresh-middle}
 use Rattle.lhm_ring.proofs.lists.ForAll.{AllByRecursion-right}
-use Rattle.linked_hash_map.specs.Nodes.{VisitState, no_visit, Lies, pairs_of, bare, bare_node, before, bookmark_at, IsKept}
+use Rattle.linked_hash_map.specs.Nodes.{VisitState, Lies, pairs_of, bare, bare_node, before, bookmark_at, IsKept}
+use Rattle.linked_hash_map.proofs.nodes.Kept.{no_visit, IsKept-same}
 use Rattle.linked_hash_map.proofs.lists.Distinct.{none_from_all}
 use Rattle.linked_hash_map.proofs.nodes.HeldPairs.{length-bare, before-bare, pairs_of-append}
 use Rattle.linked_hash_map.proofs.nodes.CutNodes.{CutAt, CutAt-before, slice_get-held, pairs_of-removed}
 use Rattle.linked_hash_map.proofs.nodes.Outside.{IsElsewhere, to_visit_at, to_visit_of, to_visit-bare, before_held, to_visit-out, bare-cut}
-use Rattle.linked_hash_map.proofs.nodes.Kept.{IsKept-same}
 use Rattle.linked_hash_map.proofs.nodes.Outside.{IsKept-cut, IsElsewhere-cut}
 use Rattle.linked_hash_map.proofs.nodes.TakenNode.{IsKept-out}
 use Rattle.linked_hash_map.proofs.nodes.PushedPair.{IsKept-append, bookmark_at-append, to_visit-append}

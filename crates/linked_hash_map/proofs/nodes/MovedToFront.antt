@@ -10,13 +10,13 @@ use denote.RawPtr.{Ptr}
 use Rattle.lhm_ring.proofs.lists.Apart.{IsFresh, same_ptr-reflexive, IsFresh-middle}
 use Rattle.lhm_ring.proofs.lists.ForAll.{AllByRecursion-right}
 use Rattle.lhm_ring.proofs.rings.HeldPointers.{same_ptr-fresh}
-use Rattle.linked_hash_map.specs.Nodes.{VisitState, no_visit, Lies, pairs_of, bare, bare_node, before, bookmark_at, IsKept}
+use Rattle.linked_hash_map.specs.Nodes.{VisitState, Lies, pairs_of, bare, bare_node, before, bookmark_at, IsKept}
+use Rattle.linked_hash_map.proofs.nodes.Kept.{no_visit, IsKept-same}
 use Rattle.linked_hash_map.proofs.nodes.Current.{IsKept-visited}
 use Rattle.linked_hash_map.proofs.nodes.HeldPairs.{before-bare, length-bare}
 use Rattle.linked_hash_map.proofs.nodes.CutNodes.{CutAt, CutAt-before, slice_get-held, pairs_of-removed}
 use Rattle.linked_hash_map.proofs.nodes.Outside.{IsElsewhere, IsKept-cut, IsElsewhere-cut, bare-cut, bookmark_lies}
 use Rattle.linked_hash_map.proofs.nodes.Outside.{to_visit_at, to_visit_of, to_visit-bare, to_visit-out}
-use Rattle.linked_hash_map.proofs.nodes.Kept.{IsKept-same}
 use Rattle.linked_hash_map.proofs.nodes.TakenNode.{IsKept-out}
 use Rattle.linked_hash_map.proofs.lists.Stretches.{take-none}
 use Rattle.lhm_ring.specs.Nodes.{same_ptr, IsApart}

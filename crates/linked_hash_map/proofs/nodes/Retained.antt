@@ -3,7 +3,8 @@ use Rattle.std.proofs.Common.{◌≡◌, ℕ, ◌≤◌, inl, inr, Bool, true, f
 use Rattle.std.specs.List.{IsDistinct, AllByRecursion}
 use Rattle.std.specs.Map.{keys_of}
 use Rattle.std.specs.Map.Calls.{RetainsPairs}
-use Rattle.linked_hash_map.specs.Nodes.{VisitState, no_visit, pairs_of, bare, bare_node, IsKept}
+use Rattle.linked_hash_map.specs.Nodes.{VisitState, pairs_of, bare, bare_node, IsKept}
+use Rattle.linked_hash_map.proofs.nodes.Kept.{no_visit}
 use Rattle.linked_hash_map.specs.Retains.{IsSublist}
 use Rattle.linked_hash_map.proofs.nodes.HeldPairs.{keys-bare, length-bare, length-pairs_of}
 use Rattle.lhm_ring.specs.Ring.{Held, revalued}

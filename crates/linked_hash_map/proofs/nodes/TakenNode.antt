@@ -5,12 +5,12 @@ use Rattle.std.specs.List.{IsDistinct}
 use Rattle.std.proofs.lemmas.List.{map-append}
 use denote.RawPtr.{Ptr}
 use Rattle.lhm_ring.proofs.lists.ForAll.{AllByRecursion-removed}
-use Rattle.linked_hash_map.specs.Nodes.{VisitState, no_visit, pairs_of, bare, bare_node, before, IsKept}
+use Rattle.linked_hash_map.specs.Nodes.{VisitState, pairs_of, bare, bare_node, before, IsKept}
+use Rattle.linked_hash_map.proofs.nodes.Kept.{no_visit, IsKept-same}
 use Rattle.linked_hash_map.proofs.lists.Distinct.{distinct_removed}
 use Rattle.linked_hash_map.proofs.nodes.CutNodes.{CutAt, CutAt-before, slice_get-held, pairs_of-removed}
 use Rattle.linked_hash_map.proofs.lists.Elements.{remove-append}
 use Rattle.linked_hash_map.proofs.nodes.Current.{IsKept-visited}
-use Rattle.linked_hash_map.proofs.nodes.Kept.{IsKept-same}
 use Rattle.linked_hash_map.proofs.nodes.Outside.{IsElsewhere, to_visit_at, to_visit_of, to_visit-bare, in_reach-out, to_visit-out, bare-cut}
 use Rattle.linked_hash_map.proofs.nodes.Outside.{IsKept-cut, IsElsewhere-cut}
 use Rattle.lhm_ring.specs.Ring.{Held, AtHeld}

@@ -5,7 +5,7 @@ use Rattle.std.proofs.Common.{refl, sym, ap, ◌∙◌, arith, add-one, length-a
 use Rattle.std.specs.Borrow.{MutBor}
 use Rattle.std.specs.Fn.{Takes}
 use Rattle.std.specs.List.{FoldsTo}
-use Rattle.std.specs.Prelude.{nat_le}
+use Rattle.std.specs.Prelude.{nat_le, if◌then◌else◌}
 use denote.Param.Members.{Mut}
 use Rattle.std.proofs.lemmas.Fn.{chained_keeps}
 use Rattle.std.proofs.lemmas.List.{append_assoc, append-nil}

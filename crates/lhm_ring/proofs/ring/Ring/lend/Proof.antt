@@ -60,7 +60,8 @@ use Rattle.lhm_ring.specs.contracts.ring.Ring.lend.Key.{name as #self}
 use Rattle.lhm_ring.proofs.ring.Ring.lend.Statement.{statement}
 use Rattle.lhm_ring.proofs.ring.Ring.lend.Code as code
 use Rattle.lhm_ring.specs.ValueLoan.{spread, AreLent}
-use Rattle.lhm_ring.specs.Ring.{State, held_values}
+use Rattle.lhm_ring.specs.Ring.{State}
+use Rattle.lhm_ring.proofs.memory.ValuesInOrder.{held_values}
 use Rattle.lhm_ring.specs.RingAfterLoan.{with_values}
 use Rattle.lhm_ring.specs.Iter.{held_left, loan_name}
 

@@ -1,11 +1,11 @@
 use Rattle.std.proofs.Common.{Bool, option_map, refl, inl, ap, sym, ◌∙◌}
 use Rattle.linked_hash_map.specs.declared.map.Mode.TheVariants.{Touch}
 use Rattle.std.specs.Map.{lookup_entry}
-use Rattle.linked_hash_map.specs.Nodes.{map_of, beside, no_visit, pairs_of}
+use Rattle.linked_hash_map.specs.Nodes.{map_of, beside, pairs_of}
+use Rattle.linked_hash_map.proofs.nodes.Kept.{no_visit, distinct_keys, IsValid-view}
 use Rattle.linked_hash_map.proofs.nodes.StoredKeys.{eq-stored, HasKey-stored, to_back_by-stored, UpdatesBy-to_back_by}
 use Rattle.linked_hash_map.proofs.nodes.StoredKeys.{last-to_back_by, length-to_back_by, IsValid-refreshed}
 use Rattle.linked_hash_map.proofs.lists.Options.{of-Some, of-None}
-use Rattle.linked_hash_map.proofs.nodes.Kept.{distinct_keys, IsValid-view}
 use Rattle.linked_hash_map.proofs.nodes.FoundKeys.{before-HasKey, IsIndex-before}
 use Rattle.linked_hash_map.proofs.nodes.PutPair.{IsTouchedAt, touched_cut, pairs-put, value_at-touched, IsKept-put}
 use Rattle.linked_hash_map.proofs.map.LinkedHashMap.get_refresh.Goals as goal
