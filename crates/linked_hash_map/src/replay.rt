@@ -7,13 +7,14 @@
 //!
 //! ```rust
 //! use linked_hash_map::LinkedHashMap;
-//! use linked_hash_map::replay::{Answer, Command, replay};
+//! use linked_hash_map::replay::{Answer, Command, Reply, replay};
 //!
 //! let mut map = LinkedHashMap::new(rt.alloc());
 //! let commands = Vec::from_array(rt.alloc(), [Command::Insert('x', 1), Command::PopFront])?;
-//! let mut replies = replay(&mut map, commands)?.into_iter();
-//! assert_eq!(rt; replies.next().map(|reply| reply.answer), Some(Answer::New));
-//! assert_eq!(rt; replies.next().map(|reply| reply.answer), Some(Answer::Pair('x', 1)));
+//! let replies = replay(&mut map, commands)?;
+//! let inserted = Reply { answer: Answer::New, len: 1, capacity: 1 };
+//! let popped = Reply { answer: Answer::Pair('x', 1), len: 0, capacity: 1 };
+//! assert_eq!(rt; replies.as_slice(), [inserted, popped].as_slice());
 //! assert_eq!(rt; (map.len(), map.capacity()), (0, 1));
 //! ```
 ghost use Rattle.std.specs.Prelude.{◌≡◌, ℕ, [], length, IfOk, IfErr, OnErr, IsOk};
@@ -34,18 +35,6 @@ mod pair_list;
 pub use pair_list::PairList;
 
 /// A command to a map. Each variant names its call, whose cost it has, and its answers.
-///
-/// # Examples
-///
-/// ```rust
-/// use linked_hash_map::LinkedHashMap;
-/// use linked_hash_map::replay::{Answer, Command, replay};
-///
-/// let mut map = LinkedHashMap::new(rt.alloc());
-/// let commands = Vec::from_array(rt.alloc(), [Command::Insert('x', 1), Command::PopFront])?;
-/// let mut replies = replay(&mut map, commands)?.into_iter();
-/// assert_eq!(rt; replies.next().map(|reply| reply.answer), Some(Answer::New));
-/// ```
 #[derive(Debug, PartialEq, Drop)]
 pub enum Command<K, V> {
     /// `insert`: `New`, `Old` or `Refused`.
@@ -82,19 +71,6 @@ pub enum Command<K, V> {
 
 /// The answer to a command. A failed command changes nothing, but a `Stopped` one keeps the pairs
 /// inserted.
-///
-/// # Examples
-///
-/// ```rust
-/// use linked_hash_map::LinkedHashMap;
-/// use linked_hash_map::replay::{Answer, Command, replay};
-///
-/// let mut map = LinkedHashMap::new(rt.alloc());
-/// let commands = Vec::from_array(rt.alloc(), [Command::Insert('x', 1), Command::PopFront])?;
-/// let mut replies = replay(&mut map, commands)?.into_iter();
-/// assert_eq!(rt; replies.next().map(|reply| reply.answer), Some(Answer::New));
-/// assert_eq!(rt; replies.next().map(|reply| reply.answer), Some(Answer::Pair('x', 1)));
-/// ```
 #[derive(Debug, PartialEq, Drop)]
 pub enum Answer<K, V> {
     /// The key was absent, and its pair was inserted.
@@ -126,20 +102,6 @@ pub enum Answer<K, V> {
 }
 
 /// An answer, and the length and the capacity after it.
-///
-/// # Examples
-///
-/// ```rust
-/// use linked_hash_map::LinkedHashMap;
-/// use linked_hash_map::replay::{Answer, Command, replay};
-///
-/// let mut map: LinkedHashMap<char, u64> = LinkedHashMap::new(rt.alloc());
-/// let commands = Vec::from_array(rt.alloc(), [Command::Reserve(4)])?;
-/// for reply in replay(&mut map, commands)? {
-///     assert_eq!(rt; reply.answer, Answer::Done);
-///     assert_eq!(rt; (reply.len, reply.capacity), (0, 4));
-/// }
-/// ```
 #[derive(Debug, PartialEq, Drop)]
 pub struct Reply<K, V> {
     /// The answer.
