@@ -67,10 +67,10 @@ impl<K: Eq + Hash, V, S: BuildHasher> LinkedHashMap<K, V, S> {
     /// [`next_entry`](LinkedHashMap::next_entry) returns the entries. A pair that goes in later, as
     /// by a vacant entry, is not visited, and leaves the visit.
     ///
-    /// Another visit, by this call or by `entries`, ends it, and so does each call, except an
-    /// entry's, that may remove or move a pair: in both modes `insert`, the extensions, `entry`,
-    /// `remove`, `get_refresh`, `move_to_back` and `move_to_front` of a present key, the pops,
-    /// `retain`, `rotate_left`, `clear`, `drain`, `shrink_to_fit` and `replay` of such a command.
+    /// Another visit, by this call or by `entries`, ends it. So do `shrink_to_fit` and each call that
+    /// may remove or move a pair, except an entry's, and `replay` of such a command. A call by a key
+    /// does so only if that is present, and then also `entry`, and in both modes `insert` and the
+    /// extensions.
     ///
     /// # Examples
     ///
