@@ -7,7 +7,8 @@ use Rattle.std.specs.Map.{keys_of}
 use denote.RawPtr.{Ptr}
 use Rattle.lhm_ring.specs.declared.pointer.Position.{Position}
 use Rattle.lhm_ring.proofs.indexes.Entries.{length-same_triples}
-use Rattle.linked_hash_map.specs.Nodes.{VisitState, IsKept, HasBehind, Lies, pairs_of, bare, before, bookmark_at}
+use Rattle.linked_hash_map.specs.Nodes.{VisitState, IsKept, HasBehind, Lies, pairs_of, bare, bookmark_at}
+use Rattle.lhm_ring.specs.Positions.{index_of}
 use Rattle.linked_hash_map.proofs.nodes.HeldPairs.{length-bare, keys-bare, pairs-triples}
 use Rattle.linked_hash_map.proofs.nodes.CutNodes.{CutAt, CutAt-before}
 use Rattle.linked_hash_map.proofs.nodes.BookmarkMoves.{bookmark-bare, bookmarked_cut}
@@ -23,8 +24,8 @@ module _ {B : Type 0} {p : Ptr} {hs : List (Held B)} where
       let all = ap length at.is in let long = length-append at.before (at.node ∷ at.after) in
       omega (arith, cut.long, after, all, long)
 
-  held_lies : IsHeld hs p → before p hs < length hs
-  held_lies h = subst (λ (ks : List (Held B)). before p ks < length ks) (sym h.is) (before_held p h.before h.node h.after h.at_is)
+  held_lies : IsHeld hs p → index_of p hs < length hs
+  held_lies h = subst (λ (ks : List (Held B)). index_of p ks < length ks) (sym h.is) (before_held p h.before h.node h.after h.at_is)
 
 module _ {K V : Type 0} (hs : List (Held (K × V))) where
   -- a position with so many behind it

@@ -9,7 +9,8 @@ use Rattle.std.proofs.lemmas.Map.Keys.{IsDistinct-head, IsDistinct-tail}
 use denote.RawPtr.{Ptr}
 use Rattle.lhm_ring.proofs.lists.Apart.{IsFresh, same_ptr-reflexive, same_ptr-symmetric, IsFresh-middle}
 use Rattle.lhm_ring.proofs.lists.ForAll.{AllByRecursion-right}
-use Rattle.linked_hash_map.specs.Nodes.{VisitState, no_visit, Lies, pairs_of, bare, bare_node, before, bookmark_at, IsKept}
+use Rattle.linked_hash_map.specs.Nodes.{VisitState, no_visit, Lies, pairs_of, bare, bare_node, bookmark_at, IsKept}
+use Rattle.lhm_ring.specs.Positions.{index_of}
 use Rattle.linked_hash_map.proofs.lists.Distinct.{none_from_all}
 use Rattle.linked_hash_map.proofs.nodes.HeldPairs.{length-bare, before-bare, pairs_of-append}
 use Rattle.linked_hash_map.proofs.nodes.CutNodes.{CutAt, CutAt-before, slice_get-held, pairs_of-removed}
@@ -33,12 +34,12 @@ list_any-others {K} {eq} laws (q ∷ xs) x ys h =
 
 -- before a node that lies last come all others
 before-last : {B : Type 0} (p : Ptr) (hs : List (Held B)) (t : Held B) → t.at ≡ p
-    → IsFresh p (map (λ u. u.at) hs) → before p (hs ++ t ∷ []) ≡ length hs
+    → IsFresh p (map (λ u. u.at) hs) → index_of p (hs ++ t ∷ []) ≡ length hs
 before-last p [] t at fresh = ap (λ y. cond y 0 1) (subst (λ q. same_ptr t.at q ≡ true) at (same_ptr-reflexive t.at))
 before-last p (x ∷ hs) t at fresh =
     let on = before-last p hs t at fresh.1 in
-    let one : before p (hs ++ t ∷ []) + 1 ≡ suc (length hs) = omega (arith, on) in
-    ap (λ y. cond y 0 (before p (hs ++ t ∷ []) + 1)) (same_ptr-symmetric x.at p ∙ fresh.0) ∙ one
+    let one : index_of p (hs ++ t ∷ []) + 1 ≡ suc (length hs) = omega (arith, on) in
+    ap (λ y. cond y 0 (index_of p (hs ++ t ∷ []) + 1)) (same_ptr-symmetric x.at p ∙ fresh.0) ∙ one
 
 -- the nodes with one that is not to be visited moved behind the others
 module _ {K : Type 0} {eq : K → K → Bool} {hash : K → ℕ} (front : List (Held K)) (u : Held K)
@@ -73,15 +74,15 @@ module _ {K : Type 0} {eq : K → K → Bool} {hash : K → ℕ} (front : List (
 -- hs are the nodes before, and ks those where the one at p is behind the others
 module _ {K V : Type 0} (hs ks : List (Held (K × V))) {p : Ptr}
     (last : AtHeld hs p (λ xs x ys. ks ≡ (xs ++ ys) ++ x ∷ []))
-    (lies : before p hs < length hs) where
+    (lies : index_of p hs < length hs) where
   cut_moved : CutAt p hs
   cut_moved = CutAt-before p hs lies
 
   moved : ks ≡ (cut_moved.held.before ++ cut_moved.held.after) ++ cut_moved.held.node ∷ []
   moved = let h = cut_moved.held in last h.before h.node h.after h.is h.at_is
 
-  pub pairs-moved : (pair : K × V) → slice_get (pairs_of hs) (before p hs) ≡ Some pair
-      → pairs_of ks ≡ remove (pairs_of hs) (before p hs) ++ pair ∷ []
+  pub pairs-moved : (pair : K × V) → slice_get (pairs_of hs) (index_of p hs) ≡ Some pair
+      → pairs_of ks ≡ remove (pairs_of hs) (index_of p hs) ++ pair ∷ []
   pairs-moved pair there =
       let h = cut_moved.held in
       let same : h.node.pair ≡ pair = let a = sym (slice_get-held h) ∙ ap (slice_get (pairs_of hs)) cut_moved.long ∙ there in cc in
@@ -96,16 +97,16 @@ module _ {K V : Type 0} (hs ks : List (Held (K × V))) {p : Ptr}
       let of_cut = length-append h.before (h.node ∷ h.after) in
       omega (arith, of_ks, of_moved, of_rest, of_hs, of_cut)
 
-  before-moved : IsApart (map (λ t. t.at) hs) → before p ks ≡ length (cut_moved.held.before ++ cut_moved.held.after)
+  before-moved : IsApart (map (λ t. t.at) hs) → index_of p ks ≡ length (cut_moved.held.before ++ cut_moved.held.after)
   before-moved apart =
       let h = cut_moved.held in let pointers : List (Held (K × V)) → List Ptr = map (λ t. t.at) in
       let cut = subst IsApart (ap pointers h.is ∙ map-append (λ (t : Held (K × V)). t.at) h.before (h.node ∷ h.after)) apart in
       let fresh = subst (λ q. IsFresh q (pointers h.before ++ pointers h.after)) h.at_is
       (IsFresh-middle (pointers h.before) h.node.at (pointers h.after) cut) in
-      ap (before p) moved ∙ before-last p (h.before ++ h.after) h.node h.at_is
+      ap (index_of p) moved ∙ before-last p (h.before ++ h.after) h.node h.at_is
       (subst (IsFresh p) (sym (map-append (λ (t : Held (K × V)). t.at) h.before h.after)) fresh)
 
-  pub before-at_back : IsApart (map (λ t. t.at) hs) → before p ks ≡ length hs - 1
+  pub before-at_back : IsApart (map (λ t. t.at) hs) → index_of p ks ≡ length hs - 1
   before-at_back apart =
       let h = cut_moved.held in let index = before-moved apart in let of_ks = ap length moved in
       let of_moved = length-append (h.before ++ h.after) (h.node ∷ []) in
@@ -120,7 +121,7 @@ module _ {K V : Type 0} (hs ks : List (Held (K × V))) {p : Ptr}
   -- the node is none of those that are still to be visited
   module _ {eq : K → K → Bool} {hash : K → ℕ} {capacity : ℕ} {visit : VisitState}
       (kept : IsKept eq hash (bare hs) capacity visit)
-      (elsewhere : IsElsewhere (before p hs) visit (bare hs)) where
+      (elsewhere : IsElsewhere (index_of p hs) visit (bare hs)) where
     pub IsKept-moved : IsEquivalence eq → visit.current ≡ Some p → {n : ℕ} → n ≡ capacity
         → IsKept eq hash (bare ks) n visit
     IsKept-moved laws is same =
@@ -136,7 +137,7 @@ module _ {K V : Type 0} (hs ks : List (Held (K × V))) {p : Ptr}
         (IsKept-cut cut_moved kept) (IsElsewhere-cut cut_moved visit elsewhere)
         ∙ ap (to_visit_at visit) (sym (bare-cut cut_moved)) ∙ to_visit-bare visit hs
 
-    pub behind-moved : IsApart (map (λ t. t.at) hs) → bookmark_at visit.bookmark (bare ks) + visit.unvisited ≤ before p ks
+    pub behind-moved : IsApart (map (λ t. t.at) hs) → bookmark_at visit.bookmark (bare ks) + visit.unvisited ≤ index_of p ks
     behind-moved apart =
         let h = cut_moved.held in let index = before-moved apart in
         let of_bare = length-bare (h.before ++ h.after) in

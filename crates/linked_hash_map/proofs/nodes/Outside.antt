@@ -7,7 +7,8 @@ use Rattle.std.proofs.Math.Nat.{pos_of_ne-zero}
 use Rattle.std.proofs.lemmas.List.{map-append, length-map}
 use denote.RawPtr.{Ptr}
 use Rattle.lhm_ring.proofs.lists.Apart.{same_ptr-reflexive}
-use Rattle.linked_hash_map.specs.Nodes.{VisitState, IsKept, pairs_of, bare, bare_node, before, bookmark_at}
+use Rattle.linked_hash_map.specs.Nodes.{VisitState, IsKept, pairs_of, bare, bare_node, bookmark_at}
+use Rattle.lhm_ring.specs.Positions.{index_of}
 use Rattle.linked_hash_map.proofs.nodes.HeldPairs.{keys-bare, length-bare}
 use Rattle.linked_hash_map.proofs.nodes.CutNodes.{CutAt}
 use Rattle.linked_hash_map.proofs.lists.Stretches.{stretch-out}
@@ -18,51 +19,51 @@ use Rattle.lhm_ring.specs.Ring.{Held}
 -- behind
 module _ {B : Type 0} (p : Ptr) where
   before_earlier : (front : List (Held B)) (t : Held B) (back : List (Held B))
-      → length front < before p (front ++ t ∷ back)
-      → before p (front ++ back) + 1 ≡ before p (front ++ t ∷ back)
-  before_earlier [] t back h = (elim (same_ptr t.at p) as (λ y. 0 < cond y 0 (before p back + 1)
-      → before p back + 1 ≡ cond y 0 (before p back + 1))
+      → length front < index_of p (front ++ t ∷ back)
+      → index_of p (front ++ back) + 1 ≡ index_of p (front ++ t ∷ back)
+  before_earlier [] t back h = (elim (same_ptr t.at p) as (λ y. 0 < cond y 0 (index_of p back + 1)
+      → index_of p back + 1 ≡ cond y 0 (index_of p back + 1))
       [ true ↦ λ k. absurd (omega (arith, k)) | false ↦ λ k. refl ]) h
   before_earlier (x ∷ front) t back h =
       (elim (same_ptr x.at p) as (λ y.
-      suc (length front) < cond y 0 (before p (front ++ t ∷ back) + 1)
-      → cond y 0 (before p (front ++ back) + 1) + 1 ≡ cond y 0 (before p (front ++ t ∷ back) + 1)) [
+      suc (length front) < cond y 0 (index_of p (front ++ t ∷ back) + 1)
+      → cond y 0 (index_of p (front ++ back) + 1) + 1 ≡ cond y 0 (index_of p (front ++ t ∷ back) + 1)) [
         | true ↦ λ k. absurd (omega (arith, k))
         | false ↦ λ k. ap (λ n. n + 1) (before_earlier front t back (omega (arith, k)))
       ]) h
 
-  pub before_within : (front back : List (Held B)) → before p front < length front → before p (front ++ back) ≡ before p front
+  pub before_within : (front back : List (Held B)) → index_of p front < length front → index_of p (front ++ back) ≡ index_of p front
   before_within [] back h = absurd (omega (arith, h))
   before_within (x ∷ front) back h =
-      (elim (same_ptr x.at p) as (λ y. cond y 0 (before p front + 1) < suc (length front)
-      → cond y 0 (before p (front ++ back) + 1) ≡ cond y 0 (before p front + 1)) [
+      (elim (same_ptr x.at p) as (λ y. cond y 0 (index_of p front + 1) < suc (length front)
+      → cond y 0 (index_of p (front ++ back) + 1) ≡ cond y 0 (index_of p front + 1)) [
         | true ↦ λ k. refl
         | false ↦ λ k. ap (λ n. n + 1) (before_within front back (omega (arith, k)))
       ]) h
 
   before_later : (front : List (Held B)) (t : Held B) (back : List (Held B))
-      → before p (front ++ t ∷ back) < length front
-      → before p (front ++ back) ≡ before p (front ++ t ∷ back)
+      → index_of p (front ++ t ∷ back) < length front
+      → index_of p (front ++ back) ≡ index_of p (front ++ t ∷ back)
   before_later [] t back h = absurd (omega (arith, h))
   before_later (x ∷ front) t back h =
       (elim (same_ptr x.at p) as (λ y.
-      cond y 0 (before p (front ++ t ∷ back) + 1) < suc (length front)
-      → cond y 0 (before p (front ++ back) + 1) ≡ cond y 0 (before p (front ++ t ∷ back) + 1)) [
+      cond y 0 (index_of p (front ++ t ∷ back) + 1) < suc (length front)
+      → cond y 0 (index_of p (front ++ back) + 1) ≡ cond y 0 (index_of p (front ++ t ∷ back) + 1)) [
         | true ↦ λ k. refl
         | false ↦ λ k. ap (λ n. n + 1) (before_later front t back (omega (arith, k)))
       ]) h
 
 -- a node lies at its pointer
 pub before_held : {B : Type 0} (p : Ptr) (front : List (Held B)) (t : Held B) (back : List (Held B))
-    → t.at ≡ p → before p (front ++ t ∷ back) < length (front ++ t ∷ back)
+    → t.at ≡ p → index_of p (front ++ t ∷ back) < length (front ++ t ∷ back)
 before_held p [] t back at =
-    let here : before p (t ∷ back) ≡ 0 = ap (λ y. cond y 0 (before p back + 1))
+    let here : index_of p (t ∷ back) ≡ 0 = ap (λ y. cond y 0 (index_of p back + 1))
     (subst (λ q. same_ptr t.at q ≡ true) at (same_ptr-reflexive t.at)) in
     omega (arith, here)
 before_held p (x ∷ front) t back at =
     let on = before_held p front t back at in
     elim (same_ptr x.at p) as (λ y.
-    cond y 0 (before p (front ++ t ∷ back) + 1) < suc (length (front ++ t ∷ back)))
+    cond y 0 (index_of p (front ++ t ∷ back) + 1) < suc (length (front ++ t ∷ back)))
     [ true ↦ omega arith | false ↦ omega (arith, on) ]
 
 -- a stretch that ends before an element is out, and what is behind that element
@@ -90,7 +91,7 @@ module _ {K : Type 0} {eq : K → K → Bool} {hash : K → ℕ} {us : List (Hel
   pub unvisited_some : 0 < visit.unvisited
   unvisited_some = pos_of_ne-zero (λ z. let h : Some p ≡ None = sym is ∙ kept.ended z in cc)
 
-  pub bookmark_lies : before p us < length us
+  pub bookmark_lies : index_of p us < length us
   bookmark_lies =
       let some = unvisited_some in let at = ap (λ o. bookmark_at o us) is in
       omega (arith, some, at, kept.in_reach)
@@ -145,7 +146,7 @@ module _ {K V : Type 0} {p : Ptr} {hs : List (Held (K × V))} (cut : CutAt p hs)
       capacity visit
   IsKept-cut {eq} {hash} {capacity} {visit} kept = subst (λ us. IsKept eq hash us capacity visit) bare-cut kept
 
-  pub IsElsewhere-cut : (visit : VisitState) → IsElsewhere (before p hs) visit (bare hs)
+  pub IsElsewhere-cut : (visit : VisitState) → IsElsewhere (index_of p hs) visit (bare hs)
       → IsElsewhere (length (bare cut.held.before)) visit
       (bare cut.held.before ++ bare_node cut.held.node ∷ bare cut.held.after)
   IsElsewhere-cut visit elsewhere =

@@ -5,7 +5,8 @@ use Rattle.std.specs.List.{IsDistinct}
 use Rattle.std.proofs.lemmas.List.{map-append}
 use denote.RawPtr.{Ptr}
 use Rattle.lhm_ring.proofs.lists.ForAll.{AllByRecursion-removed}
-use Rattle.linked_hash_map.specs.Nodes.{VisitState, no_visit, pairs_of, bare, bare_node, before, IsKept}
+use Rattle.linked_hash_map.specs.Nodes.{VisitState, no_visit, pairs_of, bare, bare_node, IsKept}
+use Rattle.lhm_ring.specs.Positions.{index_of}
 use Rattle.linked_hash_map.proofs.lists.Distinct.{distinct_removed}
 use Rattle.linked_hash_map.proofs.nodes.CutNodes.{CutAt, CutAt-before, slice_get-held, pairs_of-removed}
 use Rattle.linked_hash_map.proofs.lists.Elements.{remove-append}
@@ -44,12 +45,12 @@ IsKept-out {K} {eq} {hash} front u back kept elsewhere =
 
 -- hs are the nodes before, and ws those without the one at p
 module _ {K V : Type 0} (hs ws : List (Held (K × V))) {p : Ptr}
-    (others : AtHeld hs p (λ xs x ys. ws ≡ xs ++ ys)) (lies : before p hs < length hs) where
+    (others : AtHeld hs p (λ xs x ys. ws ≡ xs ++ ys)) (lies : index_of p hs < length hs) where
   cut_removed : CutAt p hs
   cut_removed = CutAt-before p hs lies
 
   -- what was removed is the pair that was there
-  pub pair-removed : {pair : K × V} → AtHeld hs p (λ xs x ys. pair ≡ x.pair) → slice_get (pairs_of hs) (before p hs) ≡ Some pair
+  pub pair-removed : {pair : K × V} → AtHeld hs p (λ xs x ys. pair ≡ x.pair) → slice_get (pairs_of hs) (index_of p hs) ≡ Some pair
   pair-removed is =
       let h = cut_removed.held in
       ap (slice_get (pairs_of hs)) (sym cut_removed.long) ∙ slice_get-held h ∙ ap Some (sym (is h.before h.node h.after h.is h.at_is))
@@ -57,7 +58,7 @@ module _ {K V : Type 0} (hs ws : List (Held (K × V))) {p : Ptr}
   rest : ws ≡ cut_removed.held.before ++ cut_removed.held.after
   rest = let h = cut_removed.held in others h.before h.node h.after h.is h.at_is
 
-  pub pairs-removed : pairs_of ws ≡ remove (pairs_of hs) (before p hs)
+  pub pairs-removed : pairs_of ws ≡ remove (pairs_of hs) (index_of p hs)
   pairs-removed = ap pairs_of rest ∙ pairs_of-removed cut_removed.held ∙ ap (remove (pairs_of hs)) cut_removed.long
 
   bare_rest : bare ws ≡ bare cut_removed.held.before ++ bare cut_removed.held.after
@@ -66,7 +67,7 @@ module _ {K V : Type 0} (hs ws : List (Held (K × V))) {p : Ptr}
   -- the node is none of those that are still to be visited
   module _ {eq : K → K → Bool} {hash : K → ℕ} {capacity : ℕ} {visit : VisitState}
       (kept : IsKept eq hash (bare hs) capacity visit)
-      (elsewhere : IsElsewhere (before p hs) visit (bare hs)) where
+      (elsewhere : IsElsewhere (index_of p hs) visit (bare hs)) where
     pub to_visit-removed : to_visit_of visit ws ≡ to_visit_of visit hs
     to_visit-removed =
         let h = cut_removed.held in

@@ -1,5 +1,6 @@
 use Rattle.std.proofs.Common.{◌≡◌, ◌<◌, Some, length, slice_get, remove, refl, sym, ap, ◌∙◌}
-use Rattle.linked_hash_map.specs.Nodes.{pairs_of, bare, before, visit_of, current_of}
+use Rattle.linked_hash_map.specs.Nodes.{pairs_of, bare, visit_of, current_of}
+use Rattle.lhm_ring.specs.Positions.{index_of}
 use Rattle.linked_hash_map.proofs.nodes.Kept.{IsValid-kept}
 use Rattle.linked_hash_map.proofs.nodes.Outside.{IsElsewhere}
 use Rattle.linked_hash_map.proofs.nodes.Current.{current_of-Some, before-current, CutAt-current}
@@ -16,11 +17,11 @@ is : (g : _) (c : goal.After-remove_at g) → current_of c.self.inside.visit ≡
 is g c = current_of-Some c.current.ensures c.unwrap-at.ensures
 
 lies : (g : _) (c : goal.After-remove_at g)
-    → before (pointer_of c.unwrap-at.result) c.self.inside.table.held < length c.self.inside.table.held
+    → index_of (pointer_of c.unwrap-at.result) c.self.inside.table.held < length c.self.inside.table.held
 lies g c = before-current c.self.inside.table.held c.self.invariant (is g c)
 
 elsewhere : (g : _) (c : goal.After-remove_at g)
-    → IsElsewhere (before (pointer_of c.unwrap-at.result) c.self.inside.table.held)
+    → IsElsewhere (index_of (pointer_of c.unwrap-at.result) c.self.inside.table.held)
     (visit_of c.self.inside.visit) (bare c.self.inside.table.held)
 elsewhere g c = IsElsewhere-current c.self.inside.table.held c.self.invariant (is g c) c.args.self.now
     (ap (λ m. m.cursor) c.self.view_is) c.requires.outside
