@@ -1,5 +1,6 @@
 pub mod IndexedRing
 pub mod NodesBehind
+pub mod Positions
 pub mod Retained
 pub mod Rotated
 pub mod TableValues

@@ -9,7 +9,8 @@ use Rattle.lhm_ring.specs.Positions.{index_of}
 use Rattle.linked_hash_map.specs.Indexes.{set_value_at}
 use Rattle.linked_hash_map.proofs.nodes.HeldPairs.{length-pairs_of, pairs_of-append}
 use Rattle.linked_hash_map.proofs.pairs.Indexes.{set_value_at-append}
-use Rattle.linked_hash_map.proofs.lists.Elements.{slice_get-append, remove-append}
+use Rattle.lhm_ring.proofs.tables.Positions.{slice_get-append, remove-append, CutAt-IsAt, IsAt-index_of}
+use Rattle.lhm_ring.proofs.tables.Positions as Positions
 use Rattle.lhm_ring.specs.Nodes.{same_ptr, IsApart}
 use Rattle.lhm_ring.specs.Ring.{Held, change_at, IsHeld, revalued}
 use Rattle.lhm_ring.specs.Table.{WritesOnly}
@@ -41,33 +42,11 @@ module _ {K V : Type 0} {hs : List (Held (K × V))} {p : Ptr} (held : IsHeld hs 
       ∙ set_value_at-append (pairs_of held.before) held.node.pair (pairs_of held.after) w))
 
 -- the first node at a pointer
-pub record CutAt {B : Type 0} (p : Ptr) (hs : List (Held B)) : Type 0 where
-  pub held : IsHeld hs p
-  pub long : length held.before ≡ index_of p hs
+abbrev pub CutAt : {B : Type 0} → Ptr → List (Held B) → Type 0
+CutAt p hs = Positions.CutAt hs p (index_of p hs)
 
 pub CutAt-before : {B : Type 0} (p : Ptr) (hs : List (Held B)) → index_of p hs < length hs → CutAt p hs
-CutAt-before p [] h = absurd (omega (arith, h))
-CutAt-before {B} p (t ∷ hs) h =
-    (elim (same_ptr t.at p) as (λ y. same_ptr t.at p ≡ y → cond y 0 (index_of p hs + 1) < suc (length hs) → CutAt p (t ∷ hs)) [
-      | true ↦ λ e k. record {
-        held =
-            record { before = []; node = t; after = hs; is = refl; at_is = same_ptr-equal t.at p e };
-        long = sym (ap (λ y. cond y 0 (index_of p hs + 1)) e);
-      }
-      | false ↦ λ e k.
-          let r = CutAt-before p hs (omega (arith, k)) in
-          let long : length (t ∷ r.held.before) ≡ index_of p hs + 1 = omega (arith, r.long) in
-          record {
-            held = record {
-              before = t ∷ r.held.before;
-              node = r.held.node;
-              after = r.held.after;
-              is = ap (λ l. t ∷ l) r.held.is;
-              at_is = r.held.at_is;
-            };
-            long = long ∙ sym (ap (λ y. cond y 0 (index_of p hs + 1)) e);
-          }
-    ]) refl h
+CutAt-before p hs h = CutAt-IsAt hs p (index_of p hs) (IsAt-index_of p hs h)
 
 -- nodes at different pointers: each is the first at its own
 module _ {K V : Type 0} where

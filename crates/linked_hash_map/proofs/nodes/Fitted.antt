@@ -12,8 +12,9 @@ use Rattle.lhm_ring.specs.Positions.{index_of}
 use Rattle.linked_hash_map.proofs.nodes.HeldPairs.{length-bare, keys-bare, pairs-triples}
 use Rattle.linked_hash_map.proofs.nodes.CutNodes.{CutAt, CutAt-before}
 use Rattle.linked_hash_map.proofs.nodes.BookmarkMoves.{bookmark-bare, bookmarked_cut}
-use Rattle.linked_hash_map.proofs.nodes.Outside.{before_held, to_visit_of}
+use Rattle.linked_hash_map.proofs.nodes.Outside.{to_visit_of}
 use Rattle.lhm_ring.specs.Pointer.{pointer_of, pointer_of_some}
+use Rattle.lhm_ring.proofs.tables.Positions.{index_of-held}
 use Rattle.lhm_ring.specs.Ring.{Held, IsHeld, AtHeld, triples}
 
 module _ {B : Type 0} {p : Ptr} {hs : List (Held B)} where
@@ -24,9 +25,6 @@ module _ {B : Type 0} {p : Ptr} {hs : List (Held B)} where
       let all = ap length at.is in let long = length-append at.before (at.node ∷ at.after) in
       omega (arith, cut.long, after, all, long)
 
-  held_lies : IsHeld hs p → index_of p hs < length hs
-  held_lies h = subst (λ (ks : List (Held B)). index_of p ks < length ks) (sym h.is) (before_held p h.before h.node h.after h.at_is)
-
 module _ {K V : Type 0} (hs : List (Held (K × V))) where
   -- a position with so many behind it
   pub HasBehind-nth_back : (n : ℕ) (o : Option (Position K V))
@@ -34,7 +32,7 @@ module _ {K V : Type 0} (hs : List (Held (K × V))) where
       → IfSome o (λ at. AtHeld hs (pointer_of at) (λ xs t ys. length ys ≡ n))
       → IfNone o (length hs ≤ n) → n < length hs → HasBehind (pointer_of_some o) hs (Some n)
   HasBehind-nth_back n None held behind none within = absurd (omega (arith, none, within))
-  HasBehind-nth_back n (Some at) held behind none within = HasBehind-cut n (CutAt-before (pointer_of at) hs (held_lies held)) behind
+  HasBehind-nth_back n (Some at) held behind none within = HasBehind-cut n (CutAt-before (pointer_of at) hs (index_of-held held)) behind
 
 module _ {K V : Type 0} where
   -- the pairs and the hashes are those of the triples
@@ -111,7 +109,7 @@ module _ {K V : Type 0} {eq : K → K → Bool} {hash : K → ℕ} (hs : List (H
     {capacity : ℕ} {visit : VisitState} (kept : IsKept eq hash (bare hs) capacity visit) where
   at_bookmark : (o : Option Ptr) → visit.bookmark ≡ o → Lies o hs
   at_bookmark None is = tt
-  at_bookmark (Some p) is = held_lies (bookmarked_cut hs kept is).held
+  at_bookmark (Some p) is = index_of-held (bookmarked_cut hs kept is).held
 
   pub bookmarked_lies : Lies visit.bookmark hs
   bookmarked_lies = at_bookmark visit.bookmark refl

@@ -6,7 +6,7 @@ use Rattle.linked_hash_map.specs.Nodes.{pairs_of, bare}
 use Rattle.lhm_ring.specs.Positions.{index_of}
 use Rattle.linked_hash_map.proofs.nodes.HeldPairs.{length-bare, before-bare}
 use Rattle.linked_hash_map.proofs.nodes.CutNodes.{CutAt-before, slice_get-held}
-use Rattle.linked_hash_map.proofs.nodes.Outside.{before_held}
+use Rattle.lhm_ring.proofs.tables.Positions.{index_of-held}
 use Rattle.lhm_ring.specs.Ring.{Held}
 use Rattle.lhm_ring.specs.Search.{HasKey}
 
@@ -22,9 +22,7 @@ IsIndex-HasKey h = let held = h.held in
 
 module _ {K V : Type 0} {is_key : K → Bool} {hash : ℕ} {hs : List (Held (K × V))} {p : Ptr} (h : HasKey is_key hash hs p) where
   pub before-HasKey : index_of p hs < length hs
-  before-HasKey = let at = h.held in
-      subst (λ (ks : List (Held (K × V))). index_of p ks < length ks) (sym at.is)
-      (before_held p at.before at.node at.after at.at_is)
+  before-HasKey = index_of-held h.held
 
   pub before-HasKey_bare : index_of p (bare hs) < length (bare hs)
   before-HasKey_bare =

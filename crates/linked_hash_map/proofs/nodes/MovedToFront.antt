@@ -19,6 +19,7 @@ use Rattle.linked_hash_map.proofs.nodes.Outside.{IsElsewhere, IsKept-cut, IsElse
 use Rattle.linked_hash_map.proofs.nodes.Outside.{to_visit_at, to_visit_of, to_visit-bare, to_visit-out}
 use Rattle.linked_hash_map.proofs.nodes.Kept.{IsKept-same}
 use Rattle.linked_hash_map.proofs.nodes.TakenNode.{IsKept-out}
+use Rattle.lhm_ring.proofs.tables.Positions.{remove-append}
 use Rattle.linked_hash_map.proofs.lists.Stretches.{take-none}
 use Rattle.lhm_ring.specs.Nodes.{same_ptr, IsApart}
 use Rattle.lhm_ring.specs.Ring.{Held, AtHeld}
@@ -39,7 +40,9 @@ module _ {K : Type 0} {eq : K → K → Bool} {hash : K → ℕ} (front : List (
     (elsewhere : IsElsewhere (length front) visit (front ++ u ∷ back))
     (fresh : IsFresh u.at (map (λ t. t.at) (front ++ back))) where
   out : IsKept eq hash (front ++ back) capacity (record visit { current = None })
-  out = IsKept-out front u back kept elsewhere
+  out = let long = length-append front (u ∷ back) in
+      subst (λ us. IsKept eq hash us capacity (record visit { current = None })) (remove-append front u back)
+      (IsKept-out kept (length front) (omega (arith, long)) elsewhere)
 
   -- nothing is to be visited, or the bookmark is at the next index
   abbrev Shifts : Option Ptr → Type 0
@@ -93,7 +96,8 @@ module _ {K : Type 0} {eq : K → K → Bool} {hash : K → ℕ} (front : List (
       (λ s.
       let next : bookmark_at visit.bookmark (u ∷ (front ++ back)) ≡ suc (bookmark_at visit.bookmark (front ++ back)) = omega (arith, s) in
       ap (λ b. take visit.unvisited (drop b (u.pair ∷ keys (front ++ back)))) next) shifts
-      ∙ to_visit-out front u back kept elsewhere
+      ∙ ap (to_visit_at visit) (sym (remove-append front u back))
+      ∙ to_visit-out kept (length front) (let long = length-append front (u ∷ back) in omega (arith, long)) elsewhere
 
 pointers-bare : {K V : Type 0} (hs : List (Held (K × V))) → map (λ t. t.at) (bare hs) ≡ map (λ t. t.at) hs
 pointers-bare [] = refl
