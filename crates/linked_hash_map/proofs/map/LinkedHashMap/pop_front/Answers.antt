@@ -27,7 +27,7 @@ pub returns-clause-pair : goal.returns-clause-pair
 returns-clause-pair g c = rw (← c.self.view_is) (sym (c.remove_at.ensures.pair 0 (is_first g c)))
 
 pub returns-clause-pairs : goal.returns-clause-pairs
-returns-clause-pairs g c = rw (← c.self.view_is) (pairs-removed _ _ (c.remove_at.ensures.others 0 (is_first g c))
+returns-clause-pairs g c = rw (← c.self.view_is) (pairs-removed c.self.inside.table.held 0 (c.remove_at.ensures.others 0 (is_first g c))
     ∙ remove-first (pairs_of c.self.inside.table.held))
 
 pub returns-clause-valid : goal.returns-clause-valid
