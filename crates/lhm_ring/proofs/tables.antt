@@ -1,4 +1,5 @@
 pub mod IndexedRing
+pub mod Positions
 pub mod Retained
 pub mod Rotated
 pub mod TableValues

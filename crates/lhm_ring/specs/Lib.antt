@@ -6,6 +6,7 @@ pub mod Iter
 pub mod Links
 pub mod Nodes
 pub mod Pointer
+pub mod Positions
 pub mod Ring
 pub mod RingAfterLoan
 pub mod Search

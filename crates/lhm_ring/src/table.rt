@@ -1,8 +1,9 @@
 //! Pairs in insertion order with a hash index of their keys.
-ghost use Rattle.std.specs.Prelude.{◌≡◌, ◌+◌, ◌-◌, ◌<◌, ◌≤◌, ◌^◌, ◌++◌, ◌∷◌, [], length, take, drop, map, None, IfOk, IsOk, IfSome, IfNone, OnSome, IsTrue, IsFalse};
+ghost use Rattle.std.specs.Prelude.{◌≡◌, ℕ, ◌+◌, ◌-◌, ◌<◌, ◌≤◌, ◌^◌, ◌++◌, ◌∷◌, [], length, take, drop, map, remove, slice_get, Some, None, IfOk, IsOk, IfSome, IfNone, OnSome, IsTrue, IsFalse};
 ghost use Rattle.lhm_ring.specs.Nodes.{IsApart};
 ghost use Rattle.lhm_ring.specs.Ring.{IsHeld, AtHeld, first_at, last_at, held, pair, rekeyed};
 ghost use Rattle.lhm_ring.specs.Pointer.{pointer_of, pointer_of_some};
+ghost use Rattle.lhm_ring.specs.Positions.{IsAt, index_of, to_back_at};
 ghost use Rattle.lhm_ring.specs.Index.{spots, entries};
 ghost use Rattle.lhm_ring.specs.Search.{HasKey, IsAbsent, CountsSome, CountsAll};
 ghost use Rattle.lhm_ring.specs.Buckets.{buckets};
@@ -193,10 +194,10 @@ impl<K, V> Table<K, V> {
     /// Moves the pair at a position to the back. Positions stay.
     pub fn move_to_back(&mut self, at: Position<K, V>)
         requires { IsHeld self.old.held (pointer_of at) }
-        ensures last { AtHeld self.old.held (pointer_of at) (λ xs t ys.
-            self.new.held ≡ (xs ++ ys) ++ t ∷ []) }
+        ensures held { (index : ℕ) → IsAt self.old.held (pointer_of at) index →
+            self.new.held ≡ to_back_at self.old.held index }
+        ensures last { index_of (pointer_of at) self.new.held + 1 ≡ length self.old.held }
         ensures keeps { KeepsCounts self.old self.new }
-        ensures apart { IsApart (map (λ t. t.at) self.old.held) }
     {
         self.ring.move_to_back(at);
     }
@@ -267,9 +268,10 @@ impl<K, V> Table<K, V> {
     /// Removes and returns the pair at a position. The others keep their order. Compares no key.
     pub fn remove_at(&mut self, at: Position<K, V>) -> (K, V)
         requires { IsHeld self.old.held (pointer_of at) }
-        ensures others { AtHeld self.old.held (pointer_of at) (λ xs t ys.
-            self.new.held ≡ xs ++ ys) }
-        ensures pair { AtHeld self.old.held (pointer_of at) (λ xs t ys. result ≡ t.pair) }
+        ensures others { (index : ℕ) → IsAt self.old.held (pointer_of at) index →
+            self.new.held ≡ remove self.old.held index }
+        ensures pair { (index : ℕ) → IsAt self.old.held (pointer_of at) index →
+            slice_get (map (λ t. t.pair) self.old.held) index ≡ Some result }
         ensures keeps { KeepsCounts self.old self.new }
     {
         self.index.take_out_at(&mut self.ring, at);

@@ -7,9 +7,9 @@ use Rattle.linked_hash_map.specs.declared.map.Mode.{Mode}
 use Rattle.linked_hash_map.specs.declared.map.TheConstants.{LIMIT}
 use Rattle.linked_hash_map.specs.declared.map.cursor.Visit.{Visit}
 use Rattle.linked_hash_map.specs.declared.map.LinkedHashMap.TheInside.{Inside}
-use Rattle.lhm_ring.specs.Nodes.{same_ptr}
 use Rattle.lhm_ring.specs.Pointer.{pointer_of_some}
 use Rattle.linked_hash_map.specs.Pairs.{find}
+use Rattle.lhm_ring.specs.Positions.{index_of}
 use Rattle.lhm_ring.specs.Ring.{Held, held}
 use Rattle.lhm_ring.specs.Search.{HasKey}
 use Rattle.lhm_ring.specs.Table.{TableState}
@@ -21,20 +21,15 @@ pub record VisitState : Type 0 where
   pub current : Option Ptr
 
 module _ {B : Type 0} where
-  -- how many nodes come before the one at p: all, if none lies there
-  abbrev pub before : Ptr → List (Held B) → ℕ
-  before p [] = 0
-  before p (t ∷ hs) = cond (same_ptr t.at p) 0 (before p hs + 1)
-
   -- the index of the next pair to visit, and 0 if there is none
   abbrev pub bookmark_at : Option Ptr → List (Held B) → ℕ
   bookmark_at None hs = 0
-  bookmark_at (Some p) hs = before p hs
+  bookmark_at (Some p) hs = index_of p hs
 
   -- the index of the pair that an entry stands for
   abbrev pub current_at : Option Ptr → List (Held B) → ℕ
   current_at None hs = nowhere
-  current_at (Some p) hs = before p hs
+  current_at (Some p) hs = index_of p hs
 
   -- where a cursor and an entry stand among these nodes
   abbrev pub cursor_at : VisitState → List (Held B) → CursorState
@@ -44,7 +39,7 @@ module _ {B : Type 0} where
   -- if there is a pointer, a node lies there
   abbrev pub Lies : Option Ptr → List (Held B) → Type 0
   Lies None hs = ⊤
-  Lies (Some p) hs = before p hs < length hs
+  Lies (Some p) hs = index_of p hs < length hs
 
 -- where a cursor or an entry stands: nowhere, and with nothing to visit, if there is neither
 module _ {K V : Type 0} where

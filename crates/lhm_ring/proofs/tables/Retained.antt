@@ -1,6 +1,6 @@
 -- A table as a closure goes over its pairs and keeps some.
 use Rattle.std.proofs.Common.{◌≡◌, ℕ, ◌<◌, Bool, true, false, cond, List, [], ◌∷◌, ◌++◌, map}
-use Rattle.std.proofs.Common.{length, Option, Some, None, refl, sym, ap, ◌∙◌, subst, append_assoc}
+use Rattle.std.proofs.Common.{length, remove, Option, Some, None, refl, sym, ap, ◌∙◌, subst, append_assoc}
 use Rattle.std.proofs.Common.{arith}
 use Rattle.std.specs.Map.Calls.{CallableOnEachPair, SomeCallAtPair}
 use denote.RawPtr.{Ptr}
@@ -8,6 +8,8 @@ use Rattle.lhm_ring.proofs.lists.Apart.{same_ptr-reflexive, IsFresh-head, IsApar
 use Rattle.lhm_ring.proofs.rings.Ends.{First, First-first_at}
 use Rattle.lhm_ring.proofs.rings.HeldPointers.{pointers_of, pointers_of-append, same_ptr-fresh, IsApart-without_node}
 use Rattle.lhm_ring.proofs.indexes.Entries.{EntriesCut-split}
+use Rattle.lhm_ring.proofs.tables.Positions.{IsAt-split, remove-append}
+use Rattle.lhm_ring.specs.Positions.{IsAt}
 use Rattle.lhm_ring.specs.Nodes.{Cell, cell, same_ptr, IsApart, change, with_body}
 use Rattle.lhm_ring.specs.Ring.{State, Held, IsHeld, AtHeld, first_at, change_at, revalued}
 use Rattle.lhm_ring.specs.Table.{TableState, table_of, WritesOnly, TakesAt, CallsAt, RetainsAt, RetainsHeld}
@@ -93,13 +95,14 @@ module _ {F K V : Type 0} (T : F → K → V → Bool → V → F → Type 0) {f
   }
 
   pub RetainsAt-removed : {new : List (Held (K × V))} → CallsAt T f old p b w f' → WritesOnly old p
-      → now ≡ change_at p (revalued w) old → b ≡ false → AtHeld now p (λ xs t ys. new ≡ xs ++ ys)
+      → now ≡ change_at p (revalued w) old → b ≡ false → ((i : ℕ) → IsAt now p i → new ≡ remove now i)
       → RetainsAt T f old p new f'
   RetainsAt-removed called alone written removed others = record {
     returned = b;
     value = w;
     called = called;
-    new_is = λ xs t ys e at. others xs (revalued w t) ys (written ∙ alone xs t ys e at w) at
+    new_is = λ xs t ys e at. let is = written ∙ alone xs t ys e at w in
+        others (length xs) (IsAt-split xs (revalued w t) ys is at) ∙ ap (λ hs. remove hs (length xs)) is ∙ remove-append xs (revalued w t) ys
         ∙ ap (λ c. xs ++ cond c (revalued w t ∷ ys) ys) (sym removed);
   }
 

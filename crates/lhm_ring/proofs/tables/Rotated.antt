@@ -8,6 +8,8 @@ use denote.RawPtr.{Ptr}
 use Rattle.lhm_ring.specs.declared.pointer.Position.{Position}
 use Rattle.lhm_ring.proofs.lists.Options.{none_some, Some-injective}
 use Rattle.lhm_ring.specs.Pointer.{pointer_of, pointer_of_some}
+use Rattle.lhm_ring.proofs.tables.Positions.{IsAt-split}
+use Rattle.lhm_ring.specs.Positions.{IsAt, to_back_at}
 use Rattle.lhm_ring.specs.Ring.{Held, AtHeld, IsHeld, first_at, last_at, last_of}
 
 -- the first n behind the others
@@ -74,9 +76,9 @@ module _ {K V : Type 0} {n : ℕ} (xs : List (Held (K × V))) (below : n < lengt
 
       -- it goes to the back
       pub rotated-more : {ks : List (Held (K × V))}
-          → AtHeld hs (pointer_of at) (λ xs t ys. ks ≡ (xs ++ ys) ++ t ∷ []) → ks ≡ rotated (n + 1) xs
-      rotated-more moved = let t = turn n xs below in
-          moved [] t.node t.others (is ∙ t.first_is) front_is ∙ sym t.last_is
+          → ((i : ℕ) → IsAt hs (pointer_of at) i → ks ≡ to_back_at hs i) → ks ≡ rotated (n + 1) xs
+      rotated-more moved = let t = turn n xs below in let front = is ∙ t.first_is in
+          moved 0 (IsAt-split [] t.node t.others front front_is) ∙ ap (λ ys. to_back_at ys 0) front ∙ sym t.last_is
 
   -- the node at the back, with one more of xs behind the others
   module _ (is : hs ≡ rotated (n + 1) xs) (o : Option (Position K V)) (back : pointer_of_some o ≡ last_at hs) where

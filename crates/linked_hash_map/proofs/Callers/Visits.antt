@@ -12,7 +12,7 @@ use Rattle.lhm_ring.proofs.lists.Options.{Some-injective}
 use Rattle.linked_hash_map.specs.Pairs.{value_at, without}
 use Rattle.linked_hash_map.specs.Visits.{VisitKeeps}
 use Rattle.linked_hash_map.proofs.pairs.Indexes.{find-own, without-own}
-use Rattle.linked_hash_map.proofs.lists.Elements.{slice_get-append, remove-append}
+use Rattle.lhm_ring.proofs.tables.Positions.{slice_get-append, remove-append}
 use Rattle.lhm_ring.proofs.lists.Splits.{SplitFirst}
 
 -- the first pair to come has the key that is next, and the others are to come behind it

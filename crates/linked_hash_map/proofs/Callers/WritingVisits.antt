@@ -13,7 +13,7 @@ use Rattle.linked_hash_map.specs.Indexes.{set_value_at}
 use Rattle.linked_hash_map.specs.Pairs.{value_at, without, set_value}
 use Rattle.linked_hash_map.specs.Visits.{VisitMaps}
 use Rattle.linked_hash_map.proofs.pairs.Indexes.{find-own, without-own, set_value-own_at, set_value_at-append}
-use Rattle.linked_hash_map.proofs.lists.Elements.{slice_get-append, remove-append}
+use Rattle.lhm_ring.proofs.tables.Positions.{slice_get-append, remove-append}
 use Rattle.linked_hash_map.proofs.Callers.Visits.{Next, next_of}
 use Rattle.lhm_ring.proofs.lists.Splits.{SplitFirst}
 

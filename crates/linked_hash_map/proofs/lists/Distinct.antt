@@ -9,7 +9,7 @@ pub none_from_all : {K : Type 0} (test : K → Bool) (ks : List K) → AllByRecu
 none_from_all test [] h = refl
 none_from_all test (k ∷ ks) h = ap (λ b. b || list_any test ks) h.0 ∙ none_from_all test ks h.1
 
-all_removed : {K : Type 0} (P : K → Type 0) (ks : List K) (i : ℕ) → AllByRecursion P ks → AllByRecursion P (remove ks i)
+pub all_removed : {K : Type 0} (P : K → Type 0) (ks : List K) (i : ℕ) → AllByRecursion P ks → AllByRecursion P (remove ks i)
 all_removed P [] zero h = tt
 all_removed P [] (suc i) h = tt
 all_removed P (k ∷ ks) zero h = h.1

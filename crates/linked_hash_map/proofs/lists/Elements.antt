@@ -28,15 +28,6 @@ pub none_later : (a b : Bool) → (a || b) ≡ false → b ≡ false
 none_later true b h = absurd (true≢false h)
 none_later false b h = h
 
--- the element right after the first ones, and the list without it
-pub slice_get-append : {X : Type 0} (xs : List X) (x : X) (ys : List X) → slice_get (xs ++ x ∷ ys) (length xs) ≡ Some x
-slice_get-append [] x ys = refl
-slice_get-append (y ∷ xs) x ys = slice_get-append xs x ys
-
-pub remove-append : {X : Type 0} (xs : List X) (x : X) (ys : List X) → remove (xs ++ x ∷ ys) (length xs) ≡ xs ++ ys
-remove-append [] x ys = refl
-remove-append (y ∷ xs) x ys = ap (λ l. y ∷ l) (remove-append xs x ys)
-
 -- the first of a list and the others
 pub length-first_none : {X : Type 0} (xs : List X) → first xs ≡ None → length xs ≡ 0
 length-first_none [] none = refl

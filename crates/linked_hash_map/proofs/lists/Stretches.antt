@@ -1,9 +1,9 @@
 -- A stretch of a list, by the index where it begins and its length: what a cursor has still to
 -- visit.
 use Rattle.std.proofs.Common.{◌≡◌, ℕ, zero, suc, ◌+◌, ◌-◌, ◌<◌, ◌≤◌, ◌⊎◌, inl, inr, List, [], ◌∷◌}
-use Rattle.std.proofs.Common.{◌++◌, length, take, drop, slice_get, Some, refl, sym, ap, ◌∙◌, arith}
+use Rattle.std.proofs.Common.{◌++◌, length, take, drop, remove, slice_get, Some, refl, sym, ap, ◌∙◌, arith}
 use Rattle.std.specs.Prelude.{slice_set}
-use Rattle.std.proofs.lemmas.List.{drop_more, length-drop, drop-append-le, take-append-le, drop-set-lt, drop-set-add, take-set-le}
+use Rattle.std.proofs.lemmas.List.{drop_more, length-drop, length-take, take-append-drop, drop-append-le, take-append-le, drop-set-lt, drop-set-add, take-set-le}
 use Rattle.std.proofs.lemmas.Option.{slice_get_within, get_or_from_slice_get}
 
 -- it begins with the element at its index
@@ -27,21 +27,28 @@ module _ {X : Type 0} where
       let rest = length-drop b xs in
       ap (take n) (drop-append-le b xs ys (omega (arith, within))) ∙ take-append-le n (drop b xs) ys (omega (arith, rest, within))
 
-  drop-behind : (xs : List X) (x : X) (ys : List X) (b : ℕ) → length xs ≤ b → drop b (xs ++ ys) ≡ drop (suc b) (xs ++ x ∷ ys)
-  drop-behind [] x ys zero h = refl
-  drop-behind [] x ys (suc b) h = refl
-  drop-behind (y ∷ xs) x ys zero h = absurd (omega (arith, h))
-  drop-behind (y ∷ xs) x ys (suc b) h = drop-behind xs x ys b (omega (arith, h))
+  drop-removed : (xs : List X) (i b : ℕ) → i ≤ b → drop b (remove xs i) ≡ drop (suc b) xs
+  drop-removed [] zero zero h = refl
+  drop-removed [] zero (suc b) h = refl
+  drop-removed [] (suc i) zero h = refl
+  drop-removed [] (suc i) (suc b) h = refl
+  drop-removed (x ∷ xs) zero b h = refl
+  drop-removed (x ∷ xs) (suc i) zero h = absurd (omega (arith, h))
+  drop-removed (x ∷ xs) (suc i) (suc b) h = drop-removed xs i b (omega (arith, h))
 
-  -- one that begins behind an element that is out, or ends before it
-  pub stretch-out : (xs : List X) (x : X) (ys : List X) {b a : ℕ} (n : ℕ)
-      → ((length xs < b) × (a + 1 ≡ b)) ⊎ ((b + n ≤ length xs) × (a ≡ b))
-      → take n (drop a (xs ++ ys)) ≡ take n (drop b (xs ++ x ∷ ys))
-  stretch-out xs x ys {b} {a} n (inl behind) =
+  -- one that begins behind an element that is removed, or ends before it
+  pub stretch-removed : (xs : List X) (i : ℕ) {b a : ℕ} (n : ℕ) → i < length xs
+      → ((i < b) × (a + 1 ≡ b)) ⊎ ((b + n ≤ i) × (a ≡ b))
+      → take n (drop a (remove xs i)) ≡ take n (drop b xs)
+  stretch-removed xs i {b} {a} n within (inl behind) =
       let next : suc a ≡ b = omega (arith, behind.1) in
-      ap (take n) (drop-behind xs x ys a (omega (arith, behind.0, behind.1))) ∙ ap (λ m. take n (drop m (xs ++ x ∷ ys))) next
-  stretch-out xs x ys {b} {a} n (inr before) =
-      ap (λ m. take n (drop m (xs ++ ys))) before.1 ∙ stretch-front xs ys b n before.0 ∙ sym (stretch-front xs (x ∷ ys) b n before.0)
+      ap (take n) (drop-removed xs i a (omega (arith, behind.0, behind.1))) ∙ ap (λ m. take n (drop m xs)) next
+  stretch-removed xs i {b} {a} n within (inr before) =
+      let first = length-take i xs in
+      ap (λ m. take n (drop m (remove xs i))) before.1
+      ∙ stretch-front (take i xs) (drop (suc i) xs) b n (omega (arith, first, within, before.0))
+      ∙ sym (stretch-front (take i xs) (drop i xs) b n (omega (arith, first, within, before.0)))
+      ∙ ap (λ ys. take n (drop b ys)) (take-append-drop i xs)
 
   -- one that ends before an element that is set, or begins behind it
   pub stretch-set : (xs : List X) (index start n : ℕ) (x : X) → (index < start) ⊎ (start + n ≤ index)

@@ -6,7 +6,8 @@ use Rattle.std.proofs.lemmas.Bool.{cases_lt}
 use Rattle.std.proofs.lemmas.List.{append_assoc}
 use Rattle.std.specs.Map.{keys_of}
 use denote.RawPtr.{Ptr}
-use Rattle.linked_hash_map.specs.Nodes.{VisitState, IsKept, Lies, before, bookmark_at, bare, pairs_of}
+use Rattle.linked_hash_map.specs.Nodes.{VisitState, IsKept, Lies, bookmark_at, bare, pairs_of}
+use Rattle.lhm_ring.specs.Positions.{index_of}
 use Rattle.linked_hash_map.proofs.nodes.HeldPairs.{before-bare, length-bare}
 use Rattle.linked_hash_map.proofs.nodes.CutNodes.{CutAt, CutAt-before, before-append}
 use Rattle.linked_hash_map.proofs.nodes.Outside.{IsElsewhere, to_visit_of, unvisited_some, bookmark_lies}
@@ -26,7 +27,7 @@ module _ {K V : Type 0} where
   bookmark_at-next front t [] apart some = absurd (omega (arith, some))
   bookmark_at-next front t (u ∷ back) apart some =
       let on : front ++ t ∷ u ∷ back ≡ (front ++ t ∷ []) ++ u ∷ back = sym (append_assoc front (t ∷ []) (u ∷ back)) in
-      ap (before u.at) on
+      ap (index_of u.at) on
       ∙ before-append (front ++ t ∷ []) u back (subst (λ l. IsApart (map (λ v. v.at) l)) on apart)
       ∙ length-append front (t ∷ [])
 
@@ -54,10 +55,10 @@ module _ {K V : Type 0} {eq : K → K → Bool} {hash : K → ℕ} (hs : List (H
   abbrev nodes : List (Held K)
   nodes = bare hs
 
-  reach : before p nodes + old.unvisited ≤ length nodes
+  reach : index_of p nodes + old.unvisited ≤ length nodes
   reach = subst (λ o. bookmark_at o nodes + old.unvisited ≤ length nodes) goes.bookmarked kept.in_reach
 
-  next_index : 0 < new.unvisited → bookmark_at new.bookmark nodes ≡ before p nodes + 1
+  next_index : 0 < new.unvisited → bookmark_at new.bookmark nodes ≡ index_of p nodes + 1
   next_index some =
       let cut = bookmarked_cut hs kept goes.bookmarked in let h = cut.held in
       let at = before-bare p hs in let long = length-bare hs in
@@ -71,13 +72,13 @@ module _ {K V : Type 0} {eq : K → K → Bool} {hash : K → ℕ} (hs : List (H
       omega (arith, is, next, at, cut.long)
 
   -- nothing is left to visit, or the bookmark is at the next index
-  moved : ((new.unvisited ≡ 0) × (bookmark_at new.bookmark nodes ≡ 0)) ⊎ (bookmark_at new.bookmark nodes ≡ before p nodes + 1)
+  moved : ((new.unvisited ≡ 0) × (bookmark_at new.bookmark nodes ≡ 0)) ⊎ (bookmark_at new.bookmark nodes ≡ index_of p nodes + 1)
   moved =
       ⊎_elim (λ some. inr (next_index some))
       (λ few. let none : new.unvisited ≡ 0 = omega (arith, few) in inl (none, ap (λ o. bookmark_at o nodes) (goes.none none)))
       (cases_lt 0 new.unvisited)
 
-  pub outside_on : IsElsewhere (before p nodes) new nodes
+  pub outside_on : IsElsewhere (index_of p nodes) new nodes
   outside_on = ⊎_elim (λ m. inr (omega (arith, m.0, m.1))) (λ m. inl (omega (arith, m))) moved
 
   pub kept_on : IsKept eq hash nodes capacity new
@@ -94,12 +95,12 @@ module _ {K V : Type 0} {eq : K → K → Bool} {hash : K → ℕ} (hs : List (H
         current_lies = subst (λ o. Lies o nodes) (sym goes.current) (bookmark_lies kept goes.bookmarked);
       }
 
-  pub to_visit_on : (k : K) → slice_get (keys_of (pairs_of hs)) (before p nodes) ≡ Some k
+  pub to_visit_on : (k : K) → slice_get (keys_of (pairs_of hs)) (index_of p nodes) ≡ Some k
       → to_visit_of old hs ≡ k ∷ to_visit_of new hs
   to_visit_on k there =
-      let keys = keys_of (pairs_of hs) in let behind = drop (before p nodes + 1) keys in
+      let keys = keys_of (pairs_of hs) in let behind = drop (index_of p nodes + 1) keys in
       ap (λ o. take old.unvisited (drop (bookmark_at o nodes) keys)) goes.bookmarked
-      ∙ stretch-step keys (before p nodes) old.unvisited k there (unvisited_some kept goes.bookmarked)
+      ∙ stretch-step keys (index_of p nodes) old.unvisited k there (unvisited_some kept goes.bookmarked)
       ∙ ap (λ n. k ∷ take n behind) (sym goes.fewer)
       ∙ ap (λ ks. k ∷ ks)
       (⊎_elim (λ m. subst (λ n. take n behind ≡ take n (drop (bookmark_at new.bookmark nodes) keys))

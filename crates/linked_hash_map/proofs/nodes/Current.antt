@@ -5,8 +5,8 @@ use denote.RawPtr.{Ptr}
 use Rattle.lhm_ring.specs.declared.pointer.Position.{Position}
 use Rattle.linked_hash_map.specs.LinkedMap.{LinkedMap, CursorState}
 use Rattle.linked_hash_map.specs.Cursor.{IsOutside}
-use Rattle.linked_hash_map.specs.Nodes.{VisitState, bare, before, current_at, cursor_at, Lies, IsKept}
-use Rattle.linked_hash_map.proofs.nodes.Kept.{no_visit}
+use Rattle.linked_hash_map.specs.Nodes.{VisitState, no_visit, bare, current_at, cursor_at, Lies, IsKept}
+use Rattle.lhm_ring.specs.Positions.{index_of}
 use Rattle.linked_hash_map.proofs.nodes.HeldPairs.{length-bare, before-bare}
 use Rattle.linked_hash_map.proofs.nodes.CutNodes.{CutAt, CutAt-before}
 use Rattle.linked_hash_map.proofs.nodes.Outside.{IsElsewhere}
@@ -15,7 +15,7 @@ use Rattle.lhm_ring.specs.Ring.{Held}
 
 -- the index is the number of nodes before the pointer
 pub current_at-Some : {K V : Type 0} {o : Option Ptr} {p : Ptr} → o ≡ Some p
-    → (hs : List (Held (K × V))) → current_at o (bare hs) ≡ before p hs
+    → (hs : List (Held (K × V))) → current_at o (bare hs) ≡ index_of p hs
 current_at-Some {p = p} is hs = ap (λ z. current_at z (bare hs)) is ∙ before-bare p hs
 
 -- where an entry stands
@@ -26,9 +26,9 @@ current_of-Some of is = sym of ∙ ap pointer_of_some is
 module _ {K V : Type 0} {eq : K → K → Bool} {hash : K → ℕ} (hs : List (Held (K × V)))
     {capacity : ℕ} {visit : VisitState} (kept : IsKept eq hash (bare hs) capacity visit) where
   -- a node lies there
-  pub before-current : {p : Ptr} → visit.current ≡ Some p → before p hs < length hs
+  pub before-current : {p : Ptr} → visit.current ≡ Some p → index_of p hs < length hs
   before-current {p} is =
-      let lies : before p (bare hs) < length (bare hs) = subst (λ z. Lies z (bare hs)) is kept.current_lies in
+      let lies : index_of p (bare hs) < length (bare hs) = subst (λ z. Lies z (bare hs)) is kept.current_lies in
       let of_before = before-bare p hs in let of_bare = length-bare hs in
       omega (arith, lies, of_before, of_bare)
 
@@ -39,7 +39,7 @@ module _ {K V : Type 0} {eq : K → K → Bool} {hash : K → ℕ} (hs : List (H
   -- if the index is outside the pairs to visit, the node is
   pub IsElsewhere-current : {p : Ptr} → visit.current ≡ Some p → {S : Type 0} (m : LinkedMap K V S)
       → cursor_at visit (bare hs) ≡ m.cursor → IsOutside m.cursor.current m
-      → IsElsewhere (before p hs) visit (bare hs)
+      → IsElsewhere (index_of p hs) visit (bare hs)
   IsElsewhere-current is m view outside =
       subst (λ k. IsElsewhere k visit (bare hs)) (current_at-Some is hs)
       (subst (λ (c : CursorState). (c.current < c.bookmark) ⊎ (c.bookmark + c.unvisited ≤ c.current)) (sym view) outside)

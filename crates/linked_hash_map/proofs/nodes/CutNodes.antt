@@ -4,11 +4,13 @@ use Rattle.std.proofs.Common.{length, slice_get, remove, Some, refl, sym, ap, �
 use denote.RawPtr.{Ptr}
 use Rattle.lhm_ring.proofs.lists.Apart.{same_ptr-equal, same_ptr-reflexive, IsFresh-head, IsApart-tail}
 use Rattle.lhm_ring.proofs.rings.HeldPointers.{same_ptr-fresh}
-use Rattle.linked_hash_map.specs.Nodes.{pairs_of, before}
+use Rattle.linked_hash_map.specs.Nodes.{pairs_of}
+use Rattle.lhm_ring.specs.Positions.{index_of}
 use Rattle.linked_hash_map.specs.Indexes.{set_value_at}
 use Rattle.linked_hash_map.proofs.nodes.HeldPairs.{length-pairs_of, pairs_of-append}
 use Rattle.linked_hash_map.proofs.pairs.Indexes.{set_value_at-append}
-use Rattle.linked_hash_map.proofs.lists.Elements.{slice_get-append, remove-append}
+use Rattle.lhm_ring.proofs.tables.Positions.{slice_get-append, remove-append, CutAt-IsAt, IsAt-index_of}
+use Rattle.lhm_ring.proofs.tables.Positions as Positions
 use Rattle.lhm_ring.specs.Nodes.{same_ptr, IsApart}
 use Rattle.lhm_ring.specs.Ring.{Held, change_at, IsHeld, revalued}
 use Rattle.lhm_ring.specs.Table.{WritesOnly}
@@ -40,41 +42,19 @@ module _ {K V : Type 0} {hs : List (Held (K × V))} {p : Ptr} (held : IsHeld hs 
       ∙ set_value_at-append (pairs_of held.before) held.node.pair (pairs_of held.after) w))
 
 -- the first node at a pointer
-pub record CutAt {B : Type 0} (p : Ptr) (hs : List (Held B)) : Type 0 where
-  pub held : IsHeld hs p
-  pub long : length held.before ≡ before p hs
+abbrev pub CutAt : {B : Type 0} → Ptr → List (Held B) → Type 0
+CutAt p hs = Positions.CutAt hs p (index_of p hs)
 
-pub CutAt-before : {B : Type 0} (p : Ptr) (hs : List (Held B)) → before p hs < length hs → CutAt p hs
-CutAt-before p [] h = absurd (omega (arith, h))
-CutAt-before {B} p (t ∷ hs) h =
-    (elim (same_ptr t.at p) as (λ y. same_ptr t.at p ≡ y → cond y 0 (before p hs + 1) < suc (length hs) → CutAt p (t ∷ hs)) [
-      | true ↦ λ e k. record {
-        held =
-            record { before = []; node = t; after = hs; is = refl; at_is = same_ptr-equal t.at p e };
-        long = sym (ap (λ y. cond y 0 (before p hs + 1)) e);
-      }
-      | false ↦ λ e k.
-          let r = CutAt-before p hs (omega (arith, k)) in
-          let long : length (t ∷ r.held.before) ≡ before p hs + 1 = omega (arith, r.long) in
-          record {
-            held = record {
-              before = t ∷ r.held.before;
-              node = r.held.node;
-              after = r.held.after;
-              is = ap (λ l. t ∷ l) r.held.is;
-              at_is = r.held.at_is;
-            };
-            long = long ∙ sym (ap (λ y. cond y 0 (before p hs + 1)) e);
-          }
-    ]) refl h
+pub CutAt-before : {B : Type 0} (p : Ptr) (hs : List (Held B)) → index_of p hs < length hs → CutAt p hs
+CutAt-before p hs h = CutAt-IsAt hs p (index_of p hs) (IsAt-index_of p hs h)
 
 -- nodes at different pointers: each is the first at its own
 module _ {K V : Type 0} where
   pub before-append : (xs : List (Held (K × V))) (t : Held (K × V)) (ys : List (Held (K × V)))
-      → IsApart (map (λ u. u.at) (xs ++ t ∷ ys)) → before t.at (xs ++ t ∷ ys) ≡ length xs
-  before-append [] t ys d = ap (λ y. cond y 0 (before t.at ys + 1)) (same_ptr-reflexive t.at)
+      → IsApart (map (λ u. u.at) (xs ++ t ∷ ys)) → index_of t.at (xs ++ t ∷ ys) ≡ length xs
+  before-append [] t ys d = ap (λ y. cond y 0 (index_of t.at ys + 1)) (same_ptr-reflexive t.at)
   before-append (x ∷ xs) t ys d =
       let on = before-append xs t ys (IsApart-tail x.at (map (λ u. u.at) (xs ++ t ∷ ys)) d) in
-      let one : before t.at (xs ++ t ∷ ys) + 1 ≡ suc (length xs) = omega (arith, on) in
-      ap (λ y. cond y 0 (before t.at (xs ++ t ∷ ys) + 1))
+      let one : index_of t.at (xs ++ t ∷ ys) + 1 ≡ suc (length xs) = omega (arith, on) in
+      ap (λ y. cond y 0 (index_of t.at (xs ++ t ∷ ys) + 1))
       (same_ptr-fresh x.at xs t ys (IsFresh-head x.at (map (λ u. u.at) (xs ++ t ∷ ys)) d)) ∙ one

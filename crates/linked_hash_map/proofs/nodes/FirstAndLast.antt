@@ -5,7 +5,8 @@ use denote.RawPtr.{Ptr}
 use Rattle.lhm_ring.proofs.rings.Ends.{First, Last, last_held}
 use Rattle.lhm_ring.proofs.lists.Apart.{IsFresh, same_ptr-reflexive}
 use Rattle.lhm_ring.proofs.lists.Apart.{IsFresh-head, IsApart-tail}
-use Rattle.linked_hash_map.specs.Nodes.{pairs_of, before}
+use Rattle.linked_hash_map.specs.Nodes.{pairs_of}
+use Rattle.lhm_ring.specs.Positions.{index_of}
 use Rattle.linked_hash_map.specs.Pairs.{first, last}
 use Rattle.linked_hash_map.proofs.nodes.HeldPairs.{length-pairs_of}
 use Rattle.linked_hash_map.proofs.nodes.CutNodes.{slice_get-held}
@@ -38,42 +39,3 @@ none-first (t ∷ hs) none is = absurd (let no : None ≡ Some t.at = sym none �
 pub none-last : {K V : Type 0} (hs : List (Held (K × V))) {o : Option Ptr} → o ≡ None → o ≡ last_at hs → last (pairs_of hs) ≡ None
 none-last [] none is = refl
 none-last (t ∷ hs) none is = absurd (let no : None ≡ Some (last_of t hs) = sym none ∙ is in cc)
-
--- the first node has the first index
-pub before-first_at : {B : Type 0} {p : Ptr} (hs : List (Held B)) → Some p ≡ first_at hs → before p hs ≡ 0
-before-first_at {B} {p} [] is = absurd (let no : None ≡ Some p = sym is in cc)
-before-first_at {B} {p} (t ∷ hs) is =
-    let at : t.at ≡ p = cc in
-    ap (λ y. cond y 0 (before p hs + 1)) (subst (λ q. same_ptr t.at q ≡ true) at (same_ptr-reflexive t.at))
-
-pub before-first_at_within : {B : Type 0} {p : Ptr} (hs : List (Held B)) → Some p ≡ first_at hs → before p hs < length hs
-before-first_at_within {B} {p} [] is = absurd (let no : None ≡ Some p = sym is in cc)
-before-first_at_within {B} {p} (t ∷ hs) is = let index = before-first_at (t ∷ hs) is in omega (arith, index)
-
--- the last node has the last index
-same_ptr-last_of : {B : Type 0} (q : Ptr) (t : Held B) (hs : List (Held B))
-    → IsFresh q (map (λ u. u.at) (t ∷ hs)) → same_ptr q (last_of t hs) ≡ false
-same_ptr-last_of q t [] f = f.0
-same_ptr-last_of q t (u ∷ hs) f = same_ptr-last_of q u hs f.1
-
-before-last_of : {B : Type 0} (t : Held B) (hs : List (Held B)) → IsApart (map (λ u. u.at) (t ∷ hs))
-    → before (last_of t hs) (t ∷ hs) ≡ length hs
-before-last_of t [] d = ap (λ y. cond y 0 1) (same_ptr-reflexive t.at)
-before-last_of t (u ∷ hs) d =
-    let on = before-last_of u hs (IsApart-tail t.at (map (λ u. u.at) (u ∷ hs)) d) in
-    let one : before (last_of u hs) (u ∷ hs) + 1 ≡ suc (length hs) = omega (arith, on) in
-    ap (λ y. cond y 0 (before (last_of u hs) (u ∷ hs) + 1))
-    (same_ptr-last_of t.at u hs (IsFresh-head t.at (map (λ u. u.at) (u ∷ hs)) d)) ∙ one
-
-module _ {K V : Type 0} where
-  pub before-last_at : {p : Ptr} (hs : List (Held (K × V))) → IsApart (map (λ t. t.at) hs)
-      → Some p ≡ last_at hs → before p hs ≡ length hs - 1
-  before-last_at {p} [] d is = absurd (let no : None ≡ Some p = sym is in cc)
-  before-last_at {p} (t ∷ hs) d is =
-      let at : last_of t hs ≡ p = cc in let one : length hs ≡ length (t ∷ hs) - 1 = omega arith in
-      subst (λ q. before q (t ∷ hs) ≡ length (t ∷ hs) - 1) at (before-last_of t hs d ∙ one)
-
-  pub before-last_at_within : {p : Ptr} (hs : List (Held (K × V))) → IsApart (map (λ t. t.at) hs)
-      → Some p ≡ last_at hs → before p hs < length hs
-  before-last_at_within {p} [] d is = absurd (let no : None ≡ Some p = sym is in cc)
-  before-last_at_within {p} (t ∷ hs) d is = let index = before-last_at (t ∷ hs) d is in omega (arith, index)

@@ -3,7 +3,8 @@ use Rattle.std.proofs.Common.{◌≡◌, suc, ◌+◌, true, false, cond, List, 
 use Rattle.std.specs.Map.{keys_of}
 use Rattle.std.proofs.lemmas.List.{map-append}
 use denote.RawPtr.{Ptr}
-use Rattle.linked_hash_map.specs.Nodes.{pairs_of, bare, bare_node, before}
+use Rattle.linked_hash_map.specs.Nodes.{pairs_of, bare, bare_node}
+use Rattle.lhm_ring.specs.Positions.{index_of}
 use Rattle.lhm_ring.specs.Nodes.{same_ptr}
 use Rattle.lhm_ring.specs.Ring.{Held, change_at, triples, revalued, set_held_values}
 use Rattle.lhm_ring.specs.Index.{entries}
@@ -42,7 +43,7 @@ module _ {K V : Type 0} where
   keys-bare [] = refl
   keys-bare (t ∷ hs) = ap (λ ks. t.pair.0 ∷ ks) (keys-bare hs)
 
-  pub before-bare : (p : Ptr) (hs : List (Held (K × V))) → before p (bare hs) ≡ before p hs
+  pub before-bare : (p : Ptr) (hs : List (Held (K × V))) → index_of p (bare hs) ≡ index_of p hs
   before-bare p [] = refl
   before-bare p (t ∷ hs) = ap (λ n. cond (same_ptr t.at p) 0 (n + 1)) (before-bare p hs)
 

@@ -10,14 +10,15 @@ use denote.RawPtr.{Ptr}
 use Rattle.lhm_ring.proofs.lists.Apart.{IsFresh, same_ptr-reflexive, IsFresh-middle}
 use Rattle.lhm_ring.proofs.lists.ForAll.{AllByRecursion-right}
 use Rattle.lhm_ring.proofs.rings.HeldPointers.{same_ptr-fresh}
-use Rattle.linked_hash_map.specs.Nodes.{VisitState, Lies, pairs_of, bare, bare_node, before, bookmark_at, IsKept}
-use Rattle.linked_hash_map.proofs.nodes.Kept.{no_visit, IsKept-same}
+use Rattle.linked_hash_map.specs.Nodes.{VisitState, no_visit, Lies, pairs_of, bare, bare_node, bookmark_at, IsKept}
+use Rattle.lhm_ring.specs.Positions.{index_of}
 use Rattle.linked_hash_map.proofs.nodes.Current.{IsKept-visited}
 use Rattle.linked_hash_map.proofs.nodes.HeldPairs.{before-bare, length-bare}
 use Rattle.linked_hash_map.proofs.nodes.CutNodes.{CutAt, CutAt-before, slice_get-held, pairs_of-removed}
 use Rattle.linked_hash_map.proofs.nodes.Outside.{IsElsewhere, IsKept-cut, IsElsewhere-cut, bare-cut, bookmark_lies}
 use Rattle.linked_hash_map.proofs.nodes.Outside.{to_visit_at, to_visit_of, to_visit-bare, to_visit-out}
 use Rattle.linked_hash_map.proofs.nodes.TakenNode.{IsKept-out}
+use Rattle.lhm_ring.proofs.tables.Positions.{remove-append}
 use Rattle.linked_hash_map.proofs.lists.Stretches.{take-none}
 use Rattle.lhm_ring.specs.Nodes.{same_ptr, IsApart}
 use Rattle.lhm_ring.specs.Ring.{Held, AtHeld}
@@ -38,7 +39,9 @@ module _ {K : Type 0} {eq : K → K → Bool} {hash : K → ℕ} (front : List (
     (elsewhere : IsElsewhere (length front) visit (front ++ u ∷ back))
     (fresh : IsFresh u.at (map (λ t. t.at) (front ++ back))) where
   out : IsKept eq hash (front ++ back) capacity (record visit { current = None })
-  out = IsKept-out front u back kept elsewhere
+  out = let long = length-append front (u ∷ back) in
+      subst (λ us. IsKept eq hash us capacity (record visit { current = None })) (remove-append front u back)
+      (IsKept-out kept (length front) (omega (arith, long)) elsewhere)
 
   -- nothing is to be visited, or the bookmark is at the next index
   abbrev Shifts : Option Ptr → Type 0
@@ -54,7 +57,7 @@ module _ {K : Type 0} {eq : K → K → Bool} {hash : K → ℕ} (front : List (
           let cut = CutAt-before p (front ++ back) (bookmark_lies out is) in let h = cut.held in
           let apart = subst (λ q. same_ptr u.at q ≡ false) h.at_is (same_ptr-fresh u.at h.before h.node h.after
           (subst (λ (ts : List (Held K)). IsFresh u.at (map (λ t. t.at) ts)) h.is fresh)) in
-          inr (ap (λ y. cond y 0 (before p (front ++ back) + 1)) apart)
+          inr (ap (λ y. cond y 0 (index_of p (front ++ back) + 1)) apart)
 
   IsKept-to_front : IsEquivalence eq → {p : Ptr} → visit.current ≡ Some p → u.at ≡ p
       → IsKept eq hash (u ∷ (front ++ back)) capacity visit
@@ -63,7 +66,7 @@ module _ {K : Type 0} {eq : K → K → Bool} {hash : K → ℕ} (front : List (
       let keys : List (Held K) → List K = map (λ t. t.pair) in
       let of_all = length-append front (u ∷ back) in let of_rest = length-append front back in
       let cut = subst (IsDistinct eq) (map-append (λ (t : Held K). t.pair) front (u ∷ back)) kept.distinct in
-      let here : before p (u ∷ (front ++ back)) ≡ 0 = ap (λ y. cond y 0 (before p (front ++ back) + 1))
+      let here : index_of p (u ∷ (front ++ back)) ≡ 0 = ap (λ y. cond y 0 (index_of p (front ++ back) + 1))
       (subst (λ q. same_ptr u.at q ≡ true) at (same_ptr-reflexive u.at)) in
       record {
         distinct = IsDistinct-cons eq u.pair (keys (front ++ back))
@@ -92,7 +95,8 @@ module _ {K : Type 0} {eq : K → K → Bool} {hash : K → ℕ} (front : List (
       (λ s.
       let next : bookmark_at visit.bookmark (u ∷ (front ++ back)) ≡ suc (bookmark_at visit.bookmark (front ++ back)) = omega (arith, s) in
       ap (λ b. take visit.unvisited (drop b (u.pair ∷ keys (front ++ back)))) next) shifts
-      ∙ to_visit-out front u back kept elsewhere
+      ∙ ap (to_visit_at visit) (sym (remove-append front u back))
+      ∙ to_visit-out kept (length front) (let long = length-append front (u ∷ back) in omega (arith, long)) elsewhere
 
 pointers-bare : {K V : Type 0} (hs : List (Held (K × V))) → map (λ t. t.at) (bare hs) ≡ map (λ t. t.at) hs
 pointers-bare [] = refl
@@ -101,7 +105,7 @@ pointers-bare (t ∷ hs) = ap (λ ps. t.at ∷ ps) (pointers-bare hs)
 -- hs are the nodes before, and ks those where the one at p is before the others
 pub record IsMovedToFront {K V : Type 0} (p : Ptr) (hs ks : List (Held (K × V))) : Type 0 where
   pub first : AtHeld hs p (λ xs x ys. ks ≡ x ∷ (xs ++ ys))
-  pub lies : before p hs < length hs
+  pub lies : index_of p hs < length hs
 
 module _ {K V : Type 0} {hs ks : List (Held (K × V))} {p : Ptr} (is_moved : IsMovedToFront p hs ks) where
   cut_moved : CutAt p hs
@@ -110,8 +114,8 @@ module _ {K V : Type 0} {hs ks : List (Held (K × V))} {p : Ptr} (is_moved : IsM
   moved : ks ≡ cut_moved.held.node ∷ (cut_moved.held.before ++ cut_moved.held.after)
   moved = let h = cut_moved.held in is_moved.first h.before h.node h.after h.is h.at_is
 
-  pub pairs-moved : (pair : K × V) → slice_get (pairs_of hs) (before p hs) ≡ Some pair
-      → pairs_of ks ≡ pair ∷ remove (pairs_of hs) (before p hs)
+  pub pairs-moved : (pair : K × V) → slice_get (pairs_of hs) (index_of p hs) ≡ Some pair
+      → pairs_of ks ≡ pair ∷ remove (pairs_of hs) (index_of p hs)
   pairs-moved pair there =
       let h = cut_moved.held in
       let same : h.node.pair ≡ pair = let a = sym (slice_get-held h) ∙ ap (slice_get (pairs_of hs)) cut_moved.long ∙ there in cc in
@@ -125,10 +129,10 @@ module _ {K V : Type 0} {hs ks : List (Held (K × V))} {p : Ptr} (is_moved : IsM
       let of_cut = length-append h.before (h.node ∷ h.after) in
       omega (arith, of_ks, of_rest, of_hs, of_cut)
 
-  pub before-at_front : before p ks ≡ 0
+  pub before-at_front : index_of p ks ≡ 0
   before-at_front =
       let h = cut_moved.held in
-      ap (before p) moved ∙ ap (λ y. cond y 0 (before p (h.before ++ h.after) + 1))
+      ap (index_of p) moved ∙ ap (λ y. cond y 0 (index_of p (h.before ++ h.after) + 1))
       (subst (λ q. same_ptr h.node.at q ≡ true) h.at_is (same_ptr-reflexive h.node.at))
 
   bare_moved : bare ks ≡ bare_node cut_moved.held.node ∷ (bare cut_moved.held.before ++ bare cut_moved.held.after)
@@ -148,7 +152,7 @@ module _ {K V : Type 0} {hs ks : List (Held (K × V))} {p : Ptr} (is_moved : IsM
   -- the node is none of those that are still to be visited
   module _ {eq : K → K → Bool} {hash : K → ℕ} {capacity : ℕ} {visit : VisitState}
       (kept : IsKept eq hash (bare hs) capacity visit)
-      (elsewhere : IsElsewhere (before p hs) visit (bare hs))
+      (elsewhere : IsElsewhere (index_of p hs) visit (bare hs))
       (apart : IsApart (map (λ t. t.at) hs)) where
     pub IsKept-moved : IsEquivalence eq → visit.current ≡ Some p → {n : ℕ} → n ≡ capacity
         → IsKept eq hash (bare ks) n visit
@@ -165,7 +169,7 @@ module _ {K V : Type 0} {hs ks : List (Held (K × V))} {p : Ptr} (is_moved : IsM
         (IsKept-cut cut_moved kept) (IsElsewhere-cut cut_moved visit elsewhere) (fresh_moved apart)
         ∙ ap (to_visit_at visit) (sym (bare-cut cut_moved)) ∙ to_visit-bare visit hs
 
-    pub elsewhere-moved : IsElsewhere (before p ks) visit (bare ks)
+    pub elsewhere-moved : IsElsewhere (index_of p ks) visit (bare ks)
     elsewhere-moved =
         let h = cut_moved.held in
         subst (λ (x : ℕ × List (Held K)). IsElsewhere x.0 visit x.1) (λ i. (sym before-at_front i, sym bare_moved i))

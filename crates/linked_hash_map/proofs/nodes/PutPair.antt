@@ -1,62 +1,64 @@
 -- The pair at a position, once it is moved by a mode and its value is written.
-use Rattle.std.proofs.Common.{◌≡◌, ℕ, ◌-◌, ◌<◌, inr, Bool, List, [], ◌∷◌, ◌++◌, map, length, slice_get, remove, Some, None, option_map}
+use Rattle.std.proofs.Common.{◌≡◌, ℕ, ◌+◌, ◌<◌, inr, Bool, List, [], ◌∷◌, ◌++◌, length, slice_get, remove, Some, None, option_map}
 use Rattle.std.proofs.Common.{refl, sym, ap, ◌∙◌, subst, arith}
 use Rattle.std.specs.List.{IsDistinct}
 use Rattle.std.specs.Map.{keys_of}
+use Rattle.std.specs.Option.{option_to_list}
+use Rattle.std.proofs.lemmas.List.Edits.{length-remove}
 use Rattle.std.specs.Cmp.{IsEquivalence}
 use denote.RawPtr.{Ptr}
 use Rattle.linked_hash_map.specs.declared.map.Mode.{Mode}
 use Rattle.linked_hash_map.specs.declared.map.Mode.TheVariants.{Touch, Keep}
-use Rattle.linked_hash_map.specs.Nodes.{VisitState, pairs_of, bare, before, current_at, IsKept}
-use Rattle.linked_hash_map.proofs.nodes.Kept.{no_visit, IsKept-same}
+use Rattle.linked_hash_map.specs.Nodes.{VisitState, no_visit, pairs_of, bare, current_at, IsKept}
+use Rattle.lhm_ring.specs.Positions.{index_of, to_back_at}
 use Rattle.linked_hash_map.specs.Pairs.{value_at, put}
 use Rattle.linked_hash_map.specs.Indexes.{IsIndex, set_value_at}
 use Rattle.linked_hash_map.specs.Touches.{IsTouched}
-use Rattle.linked_hash_map.proofs.pairs.Indexes.{slice_get-set_value_at, length-others, set_value_at-pushed, slice_get-pushed}
+use Rattle.linked_hash_map.proofs.pairs.Indexes.{slice_get-set_value_at, set_value_at-pushed, slice_get-pushed}
 use Rattle.linked_hash_map.proofs.pairs.Indexes.{set_value-index, is_some-index, to_back-index, value_at-slice_get}
 use Rattle.linked_hash_map.proofs.pairs.Calls.{set_or_push-present}
 use Rattle.linked_hash_map.proofs.nodes.HeldPairs.{bare-change, before-bare, length-bare, length-pairs_of, length-same}
 use Rattle.linked_hash_map.proofs.nodes.CutNodes.{CutAt, CutAt-before, slice_get-held, pairs_of-change_at}
 use Rattle.linked_hash_map.proofs.nodes.Current.{current_at-Some, IsKept-visited}
-use Rattle.linked_hash_map.proofs.nodes.MovedNode.{pairs-moved, length-to_back, before-at_back, IsKept-moved, to_visit-moved, behind-moved}
+use Rattle.linked_hash_map.proofs.nodes.Kept.{IsKept-same}
+use Rattle.linked_hash_map.proofs.nodes.MovedNode.{pairs-moved, length-moved, IsKept-moved, to_visit-moved, behind-moved}
 use Rattle.linked_hash_map.proofs.nodes.Outside.{IsElsewhere, to_visit_at, to_visit_of, to_visit-bare}
-use Rattle.lhm_ring.specs.Nodes.{IsApart}
 use Rattle.lhm_ring.specs.Ring.{Held, AtHeld, change_at, revalued}
 use Rattle.lhm_ring.specs.Table.{WritesOnly}
 
 -- hs are the nodes before, and ks those after
-module _ {K V : Type 0} (hs ks : List (Held (K × V))) (p : Ptr) (lies : before p hs < length hs) where
-  at_end : AtHeld hs p (λ xs x ys. ks ≡ (xs ++ ys) ++ x ∷ []) → IsApart (map (λ t. t.at) hs)
-      → (pair : K × V) → slice_get (pairs_of hs) (before p hs) ≡ Some pair
-      → before p ks ≡ length (remove (pairs_of hs) (before p hs))
-  at_end last apart pair there =
-      before-at_back hs ks last lies apart ∙ ap (λ n. n - 1) (sym (length-pairs_of hs))
-      ∙ length-others (pairs_of hs) (before p hs) pair there
+module _ {K V : Type 0} (hs ks : List (Held (K × V))) (p : Ptr) (lies : index_of p hs < length hs) where
+  pushed : ks ≡ to_back_at hs (index_of p hs) → (pair : K × V) → slice_get (pairs_of hs) (index_of p hs) ≡ Some pair
+      → pairs_of ks ≡ remove (pairs_of hs) (index_of p hs) ++ pair ∷ []
+  pushed moved pair there = pairs-moved hs _ moved ∙ ap (λ o. remove (pairs_of hs) (index_of p hs) ++ option_to_list o) there
+
+  at_end : index_of p ks + 1 ≡ length hs → index_of p ks ≡ length (remove (pairs_of hs) (index_of p hs))
+  at_end last =
+      let long = length-pairs_of hs in
+      let fewer = length-remove (pairs_of hs) (index_of p hs) (omega (arith, long, lies)) in
+      omega (arith, long, fewer, last)
 
   cut_by : (mode : Mode) → IsTouched mode p hs ks → CutAt p ks
-  cut_by Touch moved =
-      let at_back = before-at_back hs ks moved.0 lies moved.1 in
-      let long = length-to_back hs ks moved.0 lies in
-      CutAt-before p ks (omega (arith, at_back, long, lies))
+  cut_by Touch moved = let long = length-moved hs _ moved.0 in CutAt-before p ks (omega (arith, long, moved.1))
   cut_by Keep same = subst (CutAt p) (sym same) (CutAt-before p hs lies)
 
   length_by : (mode : Mode) → IsTouched mode p hs ks → length ks ≡ length hs
-  length_by Touch moved = length-to_back hs ks moved.0 lies
+  length_by Touch moved = length-moved hs _ moved.0
   length_by Keep same = ap length same
 
   slice_get_by : (mode : Mode) → IsTouched mode p hs ks → (pair : K × V)
-      → slice_get (pairs_of hs) (before p hs) ≡ Some pair
-      → slice_get (pairs_of ks) (before p ks) ≡ Some pair
+      → slice_get (pairs_of hs) (index_of p hs) ≡ Some pair
+      → slice_get (pairs_of ks) (index_of p ks) ≡ Some pair
   slice_get_by Touch moved pair there =
-      slice_get-pushed (remove (pairs_of hs) (before p hs)) (pairs_of ks) pair (before p ks)
-      (pairs-moved hs ks moved.0 lies pair there) (at_end moved.0 moved.1 pair there)
+      slice_get-pushed (remove (pairs_of hs) (index_of p hs)) (pairs_of ks) pair (index_of p ks)
+      (pushed moved.0 pair there) (at_end moved.1)
   slice_get_by Keep same pair there =
-      subst (λ (ns : List (Held (K × V))). slice_get (pairs_of ns) (before p ns) ≡ Some pair)
+      subst (λ (ns : List (Held (K × V))). slice_get (pairs_of ns) (index_of p ns) ≡ Some pair)
       (sym same) there
 
 -- ks are the nodes hs once the one at p, which is among them, is moved by a mode
 pub record IsTouchedAt {K V : Type 0} (p : Ptr) (mode : Mode) (hs ks : List (Held (K × V))) : Type 0 where
-  pub lies : before p hs < length hs
+  pub lies : index_of p hs < length hs
   pub touched : IsTouched mode p hs ks
 
 module _ {K V : Type 0} {p : Ptr} {mode : Mode} {hs ks : List (Held (K × V))}
@@ -64,13 +66,13 @@ module _ {K V : Type 0} {p : Ptr} {mode : Mode} {hs ks : List (Held (K × V))}
   pub touched_cut : CutAt p ks
   touched_cut = cut_by hs ks p moved.lies mode moved.touched
 
-  pub slice_get-touched : (pair : K × V) → slice_get (pairs_of hs) (before p hs) ≡ Some pair
-      → slice_get (pairs_of ks) (before p ks) ≡ Some pair
+  pub slice_get-touched : (pair : K × V) → slice_get (pairs_of hs) (index_of p hs) ≡ Some pair
+      → slice_get (pairs_of ks) (index_of p ks) ≡ Some pair
   slice_get-touched = slice_get_by hs ks p moved.lies mode moved.touched
 
   -- the value that is read is that of the pair
   pub value-touched : {v : V} → AtHeld ks p (λ xs t ys. v ≡ t.pair.1)
-      → option_map (λ pair. pair.1) (slice_get (pairs_of hs) (before p hs)) ≡ Some v
+      → option_map (λ pair. pair.1) (slice_get (pairs_of hs) (index_of p hs)) ≡ Some v
   value-touched at =
       let old = CutAt-before p hs moved.lies in let g = old.held in let h = touched_cut.held in
       let here = ap (slice_get (pairs_of hs)) (sym old.long) ∙ slice_get-held g in
@@ -83,23 +85,23 @@ module _ {K V : Type 0} {p : Ptr} {mode : Mode} {hs ks : List (Held (K × V))}
       ∙ length_by hs ks p moved.lies mode moved.touched ∙ sym (length-pairs_of hs)
 
   module _ (alone : WritesOnly ks p) (w : V) where
-    set-touched : pairs_of (change_at p (revalued w) ks) ≡ set_value_at (pairs_of ks) (before p ks) w
+    set-touched : pairs_of (change_at p (revalued w) ks) ≡ set_value_at (pairs_of ks) (index_of p ks) w
     set-touched = pairs_of-change_at touched_cut.held alone w
         ∙ ap (λ i. set_value_at (pairs_of ks) i w) touched_cut.long
 
     -- the pair has the value that is written
-    pub pair-touched : (pair : K × V) → slice_get (pairs_of hs) (before p hs) ≡ Some pair
+    pub pair-touched : (pair : K × V) → slice_get (pairs_of hs) (index_of p hs) ≡ Some pair
         → slice_get (pairs_of (change_at p (revalued w) ks))
-        (before p (change_at p (revalued w) ks)) ≡ Some (pair.0, w)
+        (index_of p (change_at p (revalued w) ks)) ≡ Some (pair.0, w)
     pair-touched pair there =
         let ls = change_at p (revalued w) ks in
-        ap (slice_get (pairs_of ls)) (sym (before-bare p ls) ∙ ap (before p) (bare-change p w ks) ∙ before-bare p ks)
-        ∙ ap (λ ps. slice_get ps (before p ks)) set-touched
-        ∙ slice_get-set_value_at (pairs_of ks) (before p ks) w pair (slice_get-touched pair there)
+        ap (slice_get (pairs_of ls)) (sym (before-bare p ls) ∙ ap (index_of p) (bare-change p w ks) ∙ before-bare p ks)
+        ∙ ap (λ ps. slice_get ps (index_of p ks)) set-touched
+        ∙ slice_get-set_value_at (pairs_of ks) (index_of p ks) w pair (slice_get-touched pair there)
 
 -- the pair of a key
 module _ {K V : Type 0} {eq : K → K → Bool} (laws : IsEquivalence eq) {p : Ptr}
-    {hs ks : List (Held (K × V))} {k : K} (index : IsIndex eq (pairs_of hs) k (before p hs))
+    {hs ks : List (Held (K × V))} {k : K} (index : IsIndex eq (pairs_of hs) k (index_of p hs))
     (distinct : IsDistinct eq (keys_of (pairs_of hs))) where
   pub pairs-put : {mode : Mode} → IsTouchedAt p mode hs ks → WritesOnly ks p → (w : V)
       → pairs_of (change_at p (revalued w) ks) ≡ put eq mode (pairs_of hs) k w
@@ -108,15 +110,13 @@ module _ {K V : Type 0} {eq : K → K → Bool} (laws : IsEquivalence eq) {p : P
       by_mode : (m : Mode) → IsTouchedAt p m hs ks
           → pairs_of (change_at p (revalued w) ks) ≡ put eq m (pairs_of hs) k w
       by_mode Touch at =
-          let last = at.touched.0 in let apart = at.touched.1 in
           set-touched at alone w
-          ∙ set_value_at-pushed (remove (pairs_of hs) (before p hs)) (pairs_of ks) index.pair
-          (before p ks) (pairs-moved hs ks last at.lies index.pair index.there)
-          (at_end hs ks p at.lies last apart index.pair index.there) w
+          ∙ set_value_at-pushed (remove (pairs_of hs) (index_of p hs)) (pairs_of ks) index.pair (index_of p ks)
+          (pushed hs ks p at.lies at.touched.0 index.pair index.there) (at_end hs ks p at.lies at.touched.1) w
           ∙ sym (to_back-index laws distinct index index.there w)
       by_mode Keep at =
           set-touched at alone w
-          ∙ ap (λ (ns : List (Held (K × V))). set_value_at (pairs_of ns) (before p ns) w) at.touched
+          ∙ ap (λ (ns : List (Held (K × V))). set_value_at (pairs_of ns) (index_of p ns) w) at.touched
           ∙ sym (set_value-index laws distinct index w)
           ∙ sym (set_or_push-present eq (pairs_of hs) k w (is_some-index laws distinct index))
 
@@ -128,25 +128,26 @@ module _ {K V : Type 0} {eq : K → K → Bool} (laws : IsEquivalence eq) {p : P
 module _ {K V : Type 0} {eq : K → K → Bool} (laws : IsEquivalence eq) {hash : K → ℕ}
     {hs ks : List (Held (K × V))} {capacity : ℕ} {visit : VisitState} {p : Ptr}
     (kept : IsKept eq hash (bare hs) capacity visit) (is : visit.current ≡ Some p)
-    (elsewhere : IsElsewhere (before p hs) visit (bare hs)) where
+    (elsewhere : IsElsewhere (index_of p hs) visit (bare hs)) where
   pub IsKept-touched : {mode : Mode} → IsTouchedAt p mode hs ks → {n : ℕ} → n ≡ capacity → IsKept eq hash (bare ks) n visit
-  IsKept-touched {mode = Touch} moved = IsKept-moved hs ks moved.touched.0 moved.lies kept elsewhere laws is
+  IsKept-touched {mode = Touch} moved = IsKept-moved hs _ moved.touched.0 moved.lies kept elsewhere laws is moved.touched.1
   IsKept-touched {mode = Keep} moved = λ capacity. IsKept-same (ap bare moved.touched) capacity kept
 
   pub to_visit-touched : {mode : Mode} → IsTouchedAt p mode hs ks → to_visit_of visit ks ≡ to_visit_of visit hs
-  to_visit-touched {mode = Touch} moved = to_visit-moved hs ks moved.touched.0 moved.lies kept elsewhere
+  to_visit-touched {mode = Touch} moved = to_visit-moved hs _ moved.touched.0 moved.lies kept elsewhere
   to_visit-touched {mode = Keep} moved = ap (to_visit_of visit) moved.touched
 
-  pub elsewhere-touched : {mode : Mode} → IsTouchedAt p mode hs ks → IsElsewhere (before p ks) visit (bare ks)
-  elsewhere-touched {mode = Touch} moved = inr (behind-moved hs ks moved.touched.0 moved.lies kept elsewhere moved.touched.1)
+  pub elsewhere-touched : {mode : Mode} → IsTouchedAt p mode hs ks → IsElsewhere (index_of p ks) visit (bare ks)
+  elsewhere-touched {mode = Touch} moved =
+      let behind = behind-moved hs _ moved.touched.0 moved.lies kept elsewhere in inr (omega (arith, behind, moved.touched.1))
   elsewhere-touched {mode = Keep} moved =
-      subst (λ (ns : List (Held (K × V))). IsElsewhere (before p ns) visit (bare ns)) (sym moved.touched) elsewhere
+      subst (λ (ns : List (Held (K × V))). IsElsewhere (index_of p ns) visit (bare ns)) (sym moved.touched) elsewhere
 
 -- once it is moved by a mode, and its value is written
 module _ {K V : Type 0} {eq : K → K → Bool} (laws : IsEquivalence eq) {hash : K → ℕ} {p : Ptr}
     {mode : Mode} {hs ks : List (Held (K × V))} (moved : IsTouchedAt p mode hs ks) {capacity : ℕ}
     {visit : VisitState} (kept : IsKept eq hash (bare hs) capacity visit)
-    (is : visit.current ≡ Some p) (elsewhere : IsElsewhere (before p hs) visit (bare hs)) where
+    (is : visit.current ≡ Some p) (elsewhere : IsElsewhere (index_of p hs) visit (bare hs)) where
   pub IsKept-put_current : {n : ℕ} → n ≡ capacity → (w : V)
       → IsKept eq hash (bare (change_at p (revalued w) ks)) n visit
   IsKept-put_current same w = IsKept-same (bare-change p w ks) refl

@@ -8,7 +8,8 @@ use Rattle.std.specs.Map.{keys_of}
 use Rattle.std.proofs.Math.Seq.{set-append_seam}
 use Rattle.std.proofs.lemmas.List.{map-append, map-set}
 use denote.RawPtr.{Ptr}
-use Rattle.linked_hash_map.specs.Nodes.{VisitState, Lies, pairs_of, bare, bare_node, before, bookmark_at, current_at, cursor_at, IsKept}
+use Rattle.linked_hash_map.specs.Nodes.{VisitState, Lies, pairs_of, bare, bare_node, bookmark_at, current_at, cursor_at, IsKept}
+use Rattle.lhm_ring.specs.Positions.{index_of}
 use Rattle.linked_hash_map.specs.Pairs.{set_key}
 use Rattle.linked_hash_map.proofs.lists.Distinct.{AllByRecursion-replaced, IsDistinct-replaced}
 use Rattle.linked_hash_map.proofs.lists.Stretches.{stretch-set}
@@ -24,10 +25,10 @@ module _ {K : Type 0} (front : List (Held K)) (u : Held K) (back : List (Held K)
   abbrev renewed : List (Held K)
   renewed = front ++ record u { pair = k } ∷ back
 
-  before-renewed : (p : Ptr) → before p renewed ≡ before p (front ++ u ∷ back)
+  before-renewed : (p : Ptr) → index_of p renewed ≡ index_of p (front ++ u ∷ back)
   before-renewed p = by_front front
     where
-      by_front : (ts : List (Held K)) → before p (ts ++ record u { pair = k } ∷ back) ≡ before p (ts ++ u ∷ back)
+      by_front : (ts : List (Held K)) → index_of p (ts ++ record u { pair = k } ∷ back) ≡ index_of p (ts ++ u ∷ back)
       by_front [] = refl
       by_front (t ∷ ts) = ap (λ n. cond (same_ptr t.at p) 0 (n + 1)) (by_front ts)
 

@@ -20,6 +20,7 @@ use Rattle.linked_hash_map.proofs.nodes.FoundKeys.{before-HasKey, IsIndex-before
 use Rattle.linked_hash_map.proofs.nodes.TakenNode.{pairs-removed}
 use Rattle.linked_hash_map.proofs.pairs.Indexes.{find-index, without-index, set_value-index, is_some-index, slice_get-last}
 use Rattle.linked_hash_map.proofs.pairs.Inserts.{distinct-to_back}
+use Rattle.lhm_ring.proofs.tables.Positions.{IsAt-index_of, remove-at}
 use Rattle.lhm_ring.specs.Ring.{Held, AtHeld}
 use Rattle.lhm_ring.specs.Search.{HasKey}
 
@@ -64,7 +65,7 @@ module _ {K V : Type 0} {eq : K → K → Bool} (laws : IsEquivalence eq) {is_ke
     -- without its pair
     module _ {ws : List (Held (K × V))} (others : AtHeld hs p (λ xs x ys. ws ≡ xs ++ ys)) where
       is_without : pairs_of ws ≡ without eq (pairs_of hs) stored
-      is_without = pairs-removed hs ws others (before-HasKey h)
+      is_without = pairs-removed hs _ (remove-at hs _ (IsAt-index_of p hs (before-HasKey h)) others)
           ∙ sym (without-index laws distinct (IsIndex-before HasKey-stored))
 
       pub without-stored : pairs_of ws ≡ filter (λ pair. not (is_key pair.0)) (pairs_of hs)

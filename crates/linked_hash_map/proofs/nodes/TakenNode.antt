@@ -1,87 +1,56 @@
 -- A pair that is removed.
-use Rattle.std.proofs.Common.{◌≡◌, ℕ, ◌<◌, inr, Bool, List, ◌∷◌, ◌++◌, map, length, slice_get}
-use Rattle.std.proofs.Common.{remove, Some, None, sym, ap, ◌∙◌, subst, arith, length-append}
+use Rattle.std.proofs.Common.{◌≡◌, ℕ, ◌<◌, inr, Bool, List, map, length, remove, None, sym, ap, ◌∙◌, subst, arith}
 use Rattle.std.specs.List.{IsDistinct}
-use Rattle.std.proofs.lemmas.List.{map-append}
-use denote.RawPtr.{Ptr}
-use Rattle.lhm_ring.proofs.lists.ForAll.{AllByRecursion-removed}
-use Rattle.linked_hash_map.specs.Nodes.{VisitState, pairs_of, bare, bare_node, before, IsKept}
-use Rattle.linked_hash_map.proofs.nodes.Kept.{no_visit, IsKept-same}
-use Rattle.linked_hash_map.proofs.lists.Distinct.{distinct_removed}
-use Rattle.linked_hash_map.proofs.nodes.CutNodes.{CutAt, CutAt-before, slice_get-held, pairs_of-removed}
-use Rattle.linked_hash_map.proofs.lists.Elements.{remove-append}
+use Rattle.std.proofs.lemmas.List.Edits.{length-remove}
+use Rattle.lhm_ring.proofs.tables.Positions.{map-remove}
+use Rattle.linked_hash_map.specs.Nodes.{VisitState, no_visit, pairs_of, bare, bare_node, IsKept}
+use Rattle.linked_hash_map.proofs.lists.Distinct.{all_removed, distinct_removed}
 use Rattle.linked_hash_map.proofs.nodes.Current.{IsKept-visited}
-use Rattle.linked_hash_map.proofs.nodes.Outside.{IsElsewhere, to_visit_at, to_visit_of, to_visit-bare, in_reach-out, to_visit-out, bare-cut}
-use Rattle.linked_hash_map.proofs.nodes.Outside.{IsKept-cut, IsElsewhere-cut}
-use Rattle.lhm_ring.specs.Ring.{Held, AtHeld}
-
--- keys that differ still do when one in the midst goes
-distinct-out : {K : Type 0} (eq : K → K → Bool) (xs : List K) (x : K) (ys : List K)
-    → IsDistinct eq (xs ++ x ∷ ys) → IsDistinct eq (xs ++ ys)
-distinct-out eq xs x ys h = subst (IsDistinct eq) (remove-append xs x ys) (distinct_removed eq (xs ++ x ∷ ys) (length xs) h)
+use Rattle.linked_hash_map.proofs.nodes.HeldPairs.{length-bare}
+use Rattle.linked_hash_map.proofs.nodes.Kept.{IsKept-same}
+use Rattle.linked_hash_map.proofs.nodes.Outside.{IsElsewhere, to_visit_at, to_visit_of, to_visit-bare, in_reach-out, to_visit-out}
+use Rattle.lhm_ring.specs.Ring.{Held}
 
 -- the nodes without one that is not to be visited, which is spare
-pub IsKept-out : {K : Type 0} {eq : K → K → Bool} {hash : K → ℕ} (front : List (Held K))
-    (u : Held K) (back : List (Held K)) {capacity : ℕ} {visit : VisitState}
-    → IsKept eq hash (front ++ u ∷ back) capacity visit
-    → IsElsewhere (length front) visit (front ++ u ∷ back)
-    → IsKept eq hash (front ++ back) capacity (record visit { current = None })
-IsKept-out {K} {eq} {hash} front u back kept elsewhere =
-    let keys : List (Held K) → List K = map (λ t. t.pair) in
-    let of_all = length-append front (u ∷ back) in let of_rest = length-append front back in
-    let distinct = subst (IsDistinct eq) (map-append (λ (t : Held K). t.pair) front (u ∷ back)) kept.distinct in
+pub IsKept-out : {K : Type 0} {eq : K → K → Bool} {hash : K → ℕ} {us : List (Held K)} {capacity : ℕ} {visit : VisitState}
+    → IsKept eq hash us capacity visit → (i : ℕ) → i < length us → IsElsewhere i visit us
+    → IsKept eq hash (remove us i) capacity (record visit { current = None })
+IsKept-out {K} {eq} {hash} {us} kept i lies elsewhere =
+    let long = length-remove us i lies in
     record {
-      distinct = subst (IsDistinct eq) (sym (map-append (λ (t : Held K). t.pair) front back))
-          (distinct-out eq (keys front) u.pair (keys back) distinct);
-      hashed = AllByRecursion-removed (λ t. t.hash ≡ hash t.pair) front u back kept.hashed;
-      within = omega (arith, of_all, of_rest, kept.within);
+      distinct = subst (IsDistinct eq) (sym (map-remove (λ (u : Held K). u.pair) us i))
+          (distinct_removed eq (map (λ u. u.pair) us) i kept.distinct);
+      hashed = all_removed (λ u. u.hash ≡ hash u.pair) us i kept.hashed;
+      within = omega (arith, long, kept.within);
       limit = kept.limit;
       bookmarked = kept.bookmarked;
       ended = kept.ended;
-      in_reach = in_reach-out front u back kept elsewhere;
+      in_reach = in_reach-out kept i lies elsewhere;
       current_lies = tt;
     }
 
--- hs are the nodes before, and ws those without the one at p
-module _ {K V : Type 0} (hs ws : List (Held (K × V))) {p : Ptr}
-    (others : AtHeld hs p (λ xs x ys. ws ≡ xs ++ ys)) (lies : before p hs < length hs) where
-  cut_removed : CutAt p hs
-  cut_removed = CutAt-before p hs lies
+-- hs are the nodes before, and ws those without the one at an index
+module _ {K V : Type 0} (hs : List (Held (K × V))) {ws : List (Held (K × V))} (i : ℕ) (others : ws ≡ remove hs i) where
+  pub pairs-removed : pairs_of ws ≡ remove (pairs_of hs) i
+  pairs-removed = ap pairs_of others ∙ map-remove (λ t. t.pair) hs i
 
-  -- what was removed is the pair that was there
-  pub pair-removed : {pair : K × V} → AtHeld hs p (λ xs x ys. pair ≡ x.pair) → slice_get (pairs_of hs) (before p hs) ≡ Some pair
-  pair-removed is =
-      let h = cut_removed.held in
-      ap (slice_get (pairs_of hs)) (sym cut_removed.long) ∙ slice_get-held h ∙ ap Some (sym (is h.before h.node h.after h.is h.at_is))
-
-  rest : ws ≡ cut_removed.held.before ++ cut_removed.held.after
-  rest = let h = cut_removed.held in others h.before h.node h.after h.is h.at_is
-
-  pub pairs-removed : pairs_of ws ≡ remove (pairs_of hs) (before p hs)
-  pairs-removed = ap pairs_of rest ∙ pairs_of-removed cut_removed.held ∙ ap (remove (pairs_of hs)) cut_removed.long
-
-  bare_rest : bare ws ≡ bare cut_removed.held.before ++ bare cut_removed.held.after
-  bare_rest = ap bare rest ∙ map-append bare_node cut_removed.held.before cut_removed.held.after
+  bare-removed : bare ws ≡ remove (bare hs) i
+  bare-removed = ap bare others ∙ map-remove bare_node hs i
 
   -- the node is none of those that are still to be visited
-  module _ {eq : K → K → Bool} {hash : K → ℕ} {capacity : ℕ} {visit : VisitState}
-      (kept : IsKept eq hash (bare hs) capacity visit)
-      (elsewhere : IsElsewhere (before p hs) visit (bare hs)) where
+  module _ {eq : K → K → Bool} {hash : K → ℕ} {capacity : ℕ} {visit : VisitState} (lies : i < length hs)
+      (kept : IsKept eq hash (bare hs) capacity visit) (elsewhere : IsElsewhere i visit (bare hs)) where
+    lies_bare : i < length (bare hs)
+    lies_bare = let long = length-bare hs in omega (arith, long, lies)
+
     pub to_visit-removed : to_visit_of visit ws ≡ to_visit_of visit hs
-    to_visit-removed =
-        let h = cut_removed.held in
-        sym (to_visit-bare visit ws) ∙ ap (to_visit_at visit) bare_rest
-        ∙ to_visit-out (bare h.before) (bare_node h.node) (bare h.after)
-        (IsKept-cut cut_removed kept) (IsElsewhere-cut cut_removed visit elsewhere)
-        ∙ ap (to_visit_at visit) (sym (bare-cut cut_removed)) ∙ to_visit-bare visit hs
+    to_visit-removed = sym (to_visit-bare visit ws) ∙ ap (to_visit_at visit) bare-removed
+        ∙ to_visit-out kept i lies_bare elsewhere ∙ to_visit-bare visit hs
 
     pub IsKept-taken : {n : ℕ} → n ≡ capacity → IsKept eq hash (bare ws) n (record visit { current = None })
-    IsKept-taken same =
-        let h = cut_removed.held in
-        IsKept-same bare_rest same (IsKept-out (bare h.before) (bare_node h.node) (bare h.after)
-        (IsKept-cut cut_removed kept) (IsElsewhere-cut cut_removed visit elsewhere))
+    IsKept-taken same = IsKept-same bare-removed same (IsKept-out kept i lies_bare elsewhere)
 
   -- and no pair is to be visited, nor is there a current one
-  pub IsKept-removed : {eq : K → K → Bool} {hash : K → ℕ} {capacity n : ℕ} {visit : VisitState}
+  pub IsKept-removed : {eq : K → K → Bool} {hash : K → ℕ} {capacity n : ℕ} {visit : VisitState} → i < length hs
       → IsKept eq hash (bare hs) capacity visit → n ≡ capacity → IsKept eq hash (bare ws) n no_visit
-  IsKept-removed kept same = IsKept-taken (IsKept-visited kept None tt) (inr (omega arith)) same
+  IsKept-removed lies kept same = IsKept-taken lies (IsKept-visited kept None tt) (inr (omega arith)) same

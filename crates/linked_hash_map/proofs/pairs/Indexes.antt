@@ -9,6 +9,7 @@ use Rattle.std.specs.Cmp.{IsEquivalence}
 use Rattle.std.proofs.lemmas.Map.Keys.{IsDistinct-head, IsDistinct-tail}
 use Rattle.std.proofs.Math.Nat.{le_of_suc-le-suc}
 use Rattle.lhm_ring.proofs.lists.Options.{Some-injective}
+use Rattle.lhm_ring.specs.Positions.{to_back_at}
 use Rattle.linked_hash_map.specs.Pairs.{key_or, find, value_at, without, to_back, to_back_as_is, to_front, set_key, set_value}
 use Rattle.linked_hash_map.specs.Indexes.{IsIndex, pair_at, set_value_at}
 use Rattle.linked_hash_map.proofs.log.LiveKeys.{same_test}
@@ -20,11 +21,6 @@ pub slice_get-within : {X : Type 0} (xs : List X) (i : ℕ) (x : X) → slice_ge
 slice_get-within [] i x h = absurd (true≢false (sym (ap is_some h)))
 slice_get-within (y ∷ xs) zero x h = omega arith
 slice_get-within (y ∷ xs) (suc i) x h = let rest = slice_get-within xs i x h in omega arith
-
-pub length-remove_at : {X : Type 0} (xs : List X) (i : ℕ) (x : X) → slice_get xs i ≡ Some x → length (remove xs i) + 1 ≡ length xs
-length-remove_at [] i x h = absurd (true≢false (sym (ap is_some h)))
-length-remove_at (y ∷ xs) zero x h = omega arith
-length-remove_at (y ∷ xs) (suc i) x h = let rest = length-remove_at xs i x h in omega arith
 
 -- the pair at an index
 module _ {K V : Type 0} where
@@ -162,10 +158,7 @@ module _ {K V : Type 0} {eq : K → K → Bool} (laws : IsEquivalence eq) (pairs
   pub set_value-own_at : (v : V) → set_value eq pairs pair.0 v ≡ set_value_at pairs i v
   set_value-own_at v = set_value_by_index laws pair.0 pairs i pair v distinct there (laws.refl pair.0)
 
--- the pairs with one moved to the back
-pub length-others : {X : Type 0} (xs : List X) (i : ℕ) (x : X) → slice_get xs i ≡ Some x → length xs - 1 ≡ length (remove xs i)
-length-others xs i x there = let removed = length-remove_at xs i x there in omega (arith, removed)
-
+-- the pair at the index of a key
 module _ {K V : Type 0} {eq : K → K → Bool} (laws : IsEquivalence eq) {pairs : List (K × V)}
     (distinct : IsDistinct eq (keys_of pairs)) {k : K} {i : ℕ} (index : IsIndex eq pairs k i) where
   pub without-index : without eq pairs k ≡ remove pairs i
@@ -185,11 +178,11 @@ module _ {K V : Type 0} {eq : K → K → Bool} (laws : IsEquivalence eq) {pairs
     pub to_back-index : (v : V) → to_back eq pairs k v ≡ remove pairs i ++ (pair.0, v) ∷ []
     to_back-index v = ap₂ (λ ps o. ps ++ (key_or k o, v) ∷ []) without-index find-index
 
-    pub to_back_as_is-index : to_back_as_is eq pairs k ≡ remove pairs i ++ pair ∷ []
-    to_back_as_is-index = ap₂ (λ ps o. ps ++ option_to_list o) without-index find-index
-
     pub to_front-index : to_front eq pairs k ≡ pair ∷ remove pairs i
     to_front-index = ap₂ (λ ps o. option_to_list o ++ ps) without-index find-index
+
+  pub to_back_as_is-index : to_back_as_is eq pairs k ≡ to_back_at pairs i
+  to_back_as_is-index = ap₂ (λ ps o. ps ++ option_to_list o) without-index (find-index index.there ∙ sym index.there)
 
   pub value_at-slice_get : value_at eq pairs k ≡ option_map (λ p. p.1) (slice_get pairs i)
   value_at-slice_get = ap (option_map (λ p. p.1)) (find-index index.there ∙ sym index.there)

@@ -13,7 +13,7 @@ use Rattle.linked_hash_map.specs.declared.map.Mode.{Mode}
 use Rattle.linked_hash_map.specs.Pairs.{find, put}
 use Rattle.linked_hash_map.specs.Inserts.{insert_each}
 use Rattle.linked_hash_map.specs.AllowedAnswers.{HasNoRoom}
-use Rattle.linked_hash_map.proofs.lists.Elements.{slice_get-append}
+use Rattle.lhm_ring.proofs.tables.Positions.{slice_get-append}
 use Rattle.linked_hash_map.proofs.log.LiveKeys.{none_is}
 use Rattle.linked_hash_map.proofs.runs.Effects.{IsFull-contents, IsAbsent-found, Defines-put}
 use Rattle.linked_hash_map.proofs.Callers.Collected.{is_some-insert_each}

@@ -25,7 +25,7 @@ loop-moved-preserved g c =
     let hs = c.args.self.now.held in let inv = c.loop-moved.invariant in let moved = c.move_to_back.ensures in
     let below : c.loop-moved._moved < length hs = omega (arith, c.loop-moved-test.true, c.requires) in
     record {
-      rotated = rotated-more hs below inv.rotated c.first.result c.first.ensures c.unwrap-front.ensures moved.last;
+      rotated = rotated-more hs below inv.rotated c.first.result c.first.ensures c.unwrap-front.ensures moved.held;
       keeps = record {
         capacity = moved.keeps.capacity ∙ inv.keeps.capacity;
         rechained = moved.keeps.rechained ∙ inv.keeps.rechained;

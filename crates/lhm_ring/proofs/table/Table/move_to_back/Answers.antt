@@ -1,6 +1,7 @@
-use Rattle.std.proofs.Common.{◌≡◌, ◌++◌, ◌∷◌, [], None, ap, ◌∙◌, arith}
-use Rattle.lhm_ring.proofs.tables.Tables.{IsHeld-table, AtHeld-table, IsApart-table, length-capacity, IsTable-to_back, length-moved}
-use Rattle.lhm_ring.proofs.indexes.Entries.{entries-append}
+use Rattle.std.proofs.Common.{None, refl, ap, ◌∙◌, arith}
+use Rattle.lhm_ring.proofs.tables.Positions.{to_back_at-at, map-to_back_at, index_of-to_back, IsAt-entries, index_of-entries}
+use Rattle.lhm_ring.proofs.tables.Tables.{IsHeld-table, length-capacity, IsTable-to_back, length-moved}
+use Rattle.lhm_ring.proofs.indexes.Entries.{length-entries}
 use Rattle.lhm_ring.proofs.table.Table.move_to_back.Goals as goal
 use Rattle.lhm_ring.specs.Pointer.{pointer_of}
 use Rattle.lhm_ring.specs.Ring.{linked_to}
@@ -16,13 +17,18 @@ invariant_of-self g c =
     (IsHeld-table c.self.inside.ring c.self.inside.rechained c.self.view_is (pointer_of c.args.at)
     c.requires) moved.last moved.spares moved.nodes
 
+pub returns-clause-held : goal.returns-clause-held
+returns-clause-held g c =
+    let hs = c.self.inside.ring.held in
+    rw (← c.self.view_is) (λ i at. ap entries (to_back_at-at hs i (IsAt-entries hs i refl at) c.move_to_back.ensures.last)
+    ∙ map-to_back_at (linked_to None) hs i)
+
 pub returns-clause-last : goal.returns-clause-last
 returns-clause-last g c =
-    AtHeld-table c.self.inside.ring c.self.inside.rechained c.self.view_is (pointer_of c.args.at)
-    (λ xs t ys. entries c.move_to_back.new.self.held ≡ (xs ++ ys) ++ t ∷ [])
-    (λ xs t ys e at. ap entries (c.move_to_back.ensures.last xs t ys e at)
-    ∙ entries-append (xs ++ ys) (t ∷ []) ∙ ap (λ zs. zs ++ linked_to None t ∷ [])
-    (entries-append xs ys))
+    let hs = c.self.inside.ring.held in let ks = c.move_to_back.new.self.held in let moved = c.move_to_back.ensures in
+    let index = index_of-to_back moved.apart
+    (IsHeld-table c.self.inside.ring c.self.inside.rechained c.self.view_is (pointer_of c.args.at) c.requires) moved.last in
+    rw (← c.self.view_is) (omega (arith, index, index_of-entries (pointer_of c.args.at) ks, length-entries hs))
 
 pub returns-clause-keeps : goal.returns-clause-keeps
 returns-clause-keeps g c =
@@ -36,6 +42,3 @@ returns-clause-keeps g c =
       rechained = ap (λ s. s.rechained) c.self.view_is;
       made = moved.nodes ∙ ap (λ s. s.made) c.self.view_is;
     }
-
-pub returns-clause-apart : goal.returns-clause-apart
-returns-clause-apart g c = IsApart-table c.self.inside.ring c.self.inside.rechained c.self.view_is c.move_to_back.ensures.apart

@@ -1,6 +1,8 @@
-use Rattle.std.proofs.Common.{◌≡◌, ◌++◌, ap, ◌∙◌}
-use Rattle.lhm_ring.proofs.tables.Tables.{IsHeld-table, AtHeld-same_entries, IsTable-removed}
-use Rattle.lhm_ring.proofs.indexes.Entries.{entries-append}
+use Rattle.std.proofs.Common.{None, map, remove, slice_get, sym, ap, ◌∙◌}
+use Rattle.lhm_ring.proofs.tables.Positions.{remove-at, map-remove, slice_get-pair, IsAt-entries}
+use Rattle.lhm_ring.proofs.tables.Tables.{IsHeld-table, IsTable-removed}
+use Rattle.lhm_ring.proofs.tables.TableValues.{pairs-entries}
+use Rattle.lhm_ring.specs.Ring.{linked_to}
 use Rattle.lhm_ring.proofs.table.Table.remove_at.Goals as goal
 use Rattle.lhm_ring.specs.Pointer.{pointer_of}
 use Rattle.lhm_ring.specs.Index.{entries}
@@ -18,14 +20,13 @@ invariant_of-self g c =
 
 pub returns-clause-others : goal.returns-clause-others
 returns-clause-others g c =
-    AtHeld-same_entries c.self.inside.ring c.self.inside.rechained c.self.view_is
-    c.take_out_at.new.ring.held c.take_out_at.ensures.held (pointer_of c.args.at)
-    (λ xs t ys. entries c.unlink-key.new.self.held ≡ xs ++ ys)
-    (λ xs t ys e at. ap entries (c.unlink-key.ensures.others xs t ys e at) ∙ entries-append xs ys)
+    let ks = c.take_out_at.new.ring.held in let taken = c.take_out_at.ensures in
+    rw (← c.self.view_is) (λ i at. ap entries (remove-at ks i (IsAt-entries ks i taken.held at) c.unlink-key.ensures.others)
+    ∙ map-remove (linked_to None) ks i ∙ ap (λ hs. remove hs i) taken.held)
 
 pub returns-clause-pair : goal.returns-clause-pair
 returns-clause-pair g c =
-    AtHeld-same_entries c.self.inside.ring c.self.inside.rechained c.self.view_is
-    c.take_out_at.new.ring.held c.take_out_at.ensures.held (pointer_of c.args.at)
-    (λ xs t ys. (c.unlink-key.result.1, c.unlink-key.result.2) ≡ t.pair)
-    (λ xs t ys e at. ap (λ z. (z.1, z.2)) (c.unlink-key.ensures.triple xs t ys e at))
+    let ks = c.take_out_at.new.ring.held in let taken = c.take_out_at.ensures in
+    rw (← c.self.view_is) (λ i at. ap (λ hs. slice_get (map (λ t. t.pair) hs) i) (sym taken.held)
+    ∙ ap (λ ps. slice_get ps i) (pairs-entries ks)
+    ∙ slice_get-pair ks i (IsAt-entries ks i taken.held at) (λ xs t ys e q. ap (λ z. (z.1, z.2)) (c.unlink-key.ensures.triple xs t ys e q)))

@@ -9,6 +9,7 @@ use Rattle.linked_hash_map.proofs.lists.Options.{of-Some, of-None}
 use Rattle.linked_hash_map.proofs.nodes.FoundKeys.{before-HasKey, IsIndex-before}
 use Rattle.linked_hash_map.proofs.nodes.PutPair.{IsTouchedAt, touched_cut, pairs-put, value_at-touched, IsKept-put}
 use Rattle.linked_hash_map.proofs.map.LinkedHashMap.get_refresh.Goals as goal
+use Rattle.lhm_ring.proofs.tables.Positions.{IsAt-index_of}
 use Rattle.lhm_ring.specs.Pointer.{pointer_of}
 
 pub value_mut-requires : goal.value_mut-requires
@@ -16,17 +17,15 @@ value_mut-requires g c =
     let hs = c.self.inside.table.held in let last = c.move_to_back.ensures in
     let has = (of-Some _ c.in-Some.is c.locate-found.ensures.found).has in
     let moved : IsTouchedAt (pointer_of c.in-Some.at) Touch hs c.move_to_back.new.self.held =
-    record { lies = before-HasKey has; touched = (last.last, last.apart) } in
+    record { lies = before-HasKey has; touched = (last.held _ (IsAt-index_of _ hs (before-HasKey has)), last.last) } in
     (touched_cut moved).held
 
 pub invariant_of-self-lent : goal.invariant_of-self-lent
 invariant_of-self-lent g c w =
     let hs = c.self.inside.table.held in let last = c.move_to_back.ensures in
+    let has = (of-Some _ c.in-Some.is c.locate-found.ensures.found).has in
     let moved : IsTouchedAt (pointer_of c.in-Some.at) Touch hs c.move_to_back.new.self.held =
-    record {
-      lies = before-HasKey (of-Some _ c.in-Some.is c.locate-found.ensures.found).has;
-      touched = (last.last, last.apart);
-    } in
+    record { lies = before-HasKey has; touched = (last.held _ (IsAt-index_of _ hs (before-HasKey has)), last.last) } in
     IsKept-put g.met.K.Eq.laws moved c.self.invariant last.keeps.capacity w
 
 pub returns-in-Some : goal.returns-in-Some
@@ -39,7 +38,7 @@ returns-in-Some g c =
     let as_key = g.Q.Equivalent.as_key c.args.key in
     let index = IsIndex-before (HasKey-stored laws respects has) in
     let at : IsTouchedAt (pointer_of c.in-Some.at) Touch m.table.held c.move_to_back.new.self.held =
-    record { lies = before-HasKey has; touched = (moved.last, moved.apart) } in
+    record { lies = before-HasKey has; touched = (moved.held _ (IsAt-index_of _ m.table.held (before-HasKey has)), moved.last) } in
     rw (← c.self.view_is) (
       (λ i. inl (
         c.value_mut.result.ghost_name,

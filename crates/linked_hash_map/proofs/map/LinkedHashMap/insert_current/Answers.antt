@@ -1,5 +1,6 @@
 use Rattle.std.proofs.Common.{◌≡◌, Some, slice_get, option_map, refl, sym, ap, ◌∙◌, subst}
-use Rattle.linked_hash_map.specs.Nodes.{pairs_of, bare, before, visit_of, current_of}
+use Rattle.linked_hash_map.specs.Nodes.{pairs_of, bare, visit_of, current_of}
+use Rattle.lhm_ring.specs.Positions.{index_of}
 use Rattle.linked_hash_map.specs.Indexes.{IsIndex}
 use Rattle.linked_hash_map.specs.Pairs.{put}
 use Rattle.linked_hash_map.proofs.nodes.Kept.{distinct_keys, IsValid-kept}
@@ -31,7 +32,7 @@ moved : (g : _) (c : goal.After-self-1 g) → IsTouchedAt (pointer_of c.unwrap-a
 moved g c = record { lies = before-current c.self.inside.table.held c.self.invariant (is g c); touched = c.touch.ensures.touched }
 
 elsewhere : (g : _) (c : goal.After-self-1 g)
-    → IsElsewhere (before (pointer_of c.unwrap-at.result) c.self.inside.table.held)
+    → IsElsewhere (index_of (pointer_of c.unwrap-at.result) c.self.inside.table.held)
     (visit_of c.self.inside.visit) (bare c.self.inside.table.held)
 elsewhere g c = IsElsewhere-current c.self.inside.table.held c.self.invariant (is g c) c.args.self.now
     (ap (λ m. m.cursor) c.self.view_is) c.requires.outside

@@ -1,15 +1,17 @@
 use Rattle.std.proofs.Common.{◌≡◌, Some, slice_get, refl, sym, ap, ◌∙◌, subst}
 use Rattle.linked_hash_map.specs.declared.map.Mode.TheVariants.{Touch}
-use Rattle.linked_hash_map.specs.Nodes.{pairs_of, bare, before, visit_of, current_of}
+use Rattle.linked_hash_map.specs.Nodes.{pairs_of, bare, visit_of, current_of}
+use Rattle.lhm_ring.specs.Positions.{index_of}
 use Rattle.linked_hash_map.specs.Indexes.{IsIndex}
 use Rattle.linked_hash_map.proofs.pairs.Indexes.{to_back_as_is-index}
 use Rattle.linked_hash_map.proofs.nodes.HeldPairs.{length-pairs_of}
 use Rattle.linked_hash_map.proofs.nodes.Kept.{distinct_keys, IsValid-kept}
 use Rattle.linked_hash_map.proofs.nodes.Current.{current_of-Some, current_at-Some, before-current, CutAt-current, IsElsewhere-current}
-use Rattle.linked_hash_map.proofs.nodes.MovedNode.{pairs-moved, length-to_back}
+use Rattle.linked_hash_map.proofs.nodes.MovedNode.{pairs-moved, length-moved}
 use Rattle.linked_hash_map.proofs.nodes.Outside.{IsElsewhere}
 use Rattle.linked_hash_map.proofs.nodes.PutPair.{IsTouchedAt, slice_get-touched, IsKept-touched, to_visit-touched, elsewhere-touched}
 use Rattle.linked_hash_map.proofs.map.LinkedHashMap.move_current_to_back.Goals as goal
+use Rattle.lhm_ring.proofs.tables.Positions.{IsAt-index_of}
 use Rattle.lhm_ring.specs.Pointer.{pointer_of}
 
 pub move_to_back-requires : goal.move_to_back-requires
@@ -21,13 +23,15 @@ is g c = current_of-Some c.current.ensures c.unwrap-at.ensures
 
 moved : (g : _) (c : goal.After-move_to_back g) → IsTouchedAt (pointer_of c.unwrap-at.result)
     Touch c.self.inside.table.held c.move_to_back.new.self.held
-moved g c = record {
-  lies = before-current c.self.inside.table.held c.self.invariant (is g c);
-  touched = (c.move_to_back.ensures.last, c.move_to_back.ensures.apart);
-}
+moved g c =
+    let lies = before-current c.self.inside.table.held c.self.invariant (is g c) in
+    record {
+      lies = lies;
+      touched = (c.move_to_back.ensures.held _ (IsAt-index_of _ c.self.inside.table.held lies), c.move_to_back.ensures.last);
+    }
 
 elsewhere : (g : _) (c : goal.After-move_to_back g)
-    → IsElsewhere (before (pointer_of c.unwrap-at.result) c.self.inside.table.held)
+    → IsElsewhere (index_of (pointer_of c.unwrap-at.result) c.self.inside.table.held)
     (visit_of c.self.inside.visit) (bare c.self.inside.table.held)
 elsewhere g c = IsElsewhere-current c.self.inside.table.held c.self.invariant (is g c) c.args.self.now
     (ap (λ m. m.cursor) c.self.view_is) c.requires.outside
@@ -41,8 +45,7 @@ returns-clause-pairs g c =
     let hs = c.self.inside.table.held in
     rw (← c.self.view_is) (λ key index.
     let here = subst (IsIndex g.K.PartialEq.eq (pairs_of hs) key) (current_at-Some (is g c) hs) index in
-    pairs-moved hs c.move_to_back.new.self.held c.move_to_back.ensures.last (moved g c).lies here.pair here.there
-    ∙ sym (to_back_as_is-index g.met.K.Eq.laws (distinct_keys hs c.self.invariant) here here.there))
+    pairs-moved _ _ (moved g c).touched.0 ∙ sym (to_back_as_is-index g.met.K.Eq.laws (distinct_keys hs c.self.invariant) here))
 
 pub returns-clause-pair : goal.returns-clause-pair
 returns-clause-pair g c =
@@ -53,8 +56,7 @@ returns-clause-pair g c =
 pub returns-clause-len : goal.returns-clause-len
 returns-clause-len g c =
     let hs = c.self.inside.table.held in let ks = c.move_to_back.new.self.held in
-    rw (← c.self.view_is) (length-pairs_of ks ∙ length-to_back hs ks c.move_to_back.ensures.last (moved g c).lies
-    ∙ sym (length-pairs_of hs))
+    rw (← c.self.view_is) (length-pairs_of ks ∙ length-moved _ _ (moved g c).touched.0 ∙ sym (length-pairs_of hs))
 
 pub returns-clause-to_visit : goal.returns-clause-to_visit
 returns-clause-to_visit g c = rw (← c.self.view_is) (to_visit-touched g.met.K.Eq.laws

@@ -1,5 +1,6 @@
 use Rattle.std.proofs.Common.{◌≡◌, ◌<◌, Some, slice_get, length, refl, sym, ap, ap₂, ◌∙◌, subst}
-use Rattle.linked_hash_map.specs.Nodes.{pairs_of, bare, before, visit_of, current_of}
+use Rattle.linked_hash_map.specs.Nodes.{pairs_of, bare, visit_of, current_of}
+use Rattle.lhm_ring.specs.Positions.{index_of}
 use Rattle.linked_hash_map.specs.Indexes.{IsIndex}
 use Rattle.linked_hash_map.proofs.pairs.Indexes.{to_front-index}
 use Rattle.linked_hash_map.proofs.nodes.HeldPairs.{length-pairs_of}
@@ -26,7 +27,7 @@ is_moved g c = record {
 }
 
 elsewhere : (g : _) (c : goal.After-move_to_front g)
-    → IsElsewhere (before (pointer_of c.unwrap-at.result) c.self.inside.table.held)
+    → IsElsewhere (index_of (pointer_of c.unwrap-at.result) c.self.inside.table.held)
     (visit_of c.self.inside.visit) (bare c.self.inside.table.held)
 elsewhere g c = IsElsewhere-current c.self.inside.table.held c.self.invariant (is g c) c.args.self.now
     (ap (λ m. m.cursor) c.self.view_is) c.requires.outside

@@ -7,11 +7,13 @@ use Rattle.linked_hash_map.proofs.lists.Options.{of-Some, of-None}
 use Rattle.linked_hash_map.proofs.nodes.FoundKeys.{before-HasKey, IsIndex-before}
 use Rattle.linked_hash_map.proofs.nodes.HeldPairs.{length-pairs_of}
 use Rattle.linked_hash_map.proofs.nodes.Kept.{distinct_keys, IsValid-kept}
-use Rattle.linked_hash_map.proofs.nodes.MovedNode.{pairs-moved, length-to_back, IsKept-back}
+use Rattle.linked_hash_map.proofs.nodes.MovedNode.{pairs-moved, length-moved, IsKept-back}
 use Rattle.linked_hash_map.proofs.nodes.StoredKeys.{eq-stored, HasKey-stored}
 use Rattle.linked_hash_map.proofs.pairs.Indexes.{to_back_as_is-index}
 use Rattle.linked_hash_map.proofs.map.LinkedHashMap.move_to_back.Goals as goal
+use Rattle.lhm_ring.proofs.tables.Positions.{IsAt-index_of}
 use Rattle.lhm_ring.specs.Pointer.{pointer_of}
+use Rattle.lhm_ring.specs.Positions.{index_of, to_back_at}
 use Rattle.lhm_ring.specs.Search.{HasKey}
 
 -- a position that is found is that of the key
@@ -20,19 +22,21 @@ has : (g : _) (c : goal.After-move_to_back g)
     (pointer_of c.in-Some.at)
 has g c = (of-Some _ c.in-Some.is c.locate-found.ensures.found).has
 
--- the pair of the stored key is moved
+-- its pair is moved
+held : (g : _) (c : goal.After-move_to_back g) → c.move_to_back.new.self.held
+    ≡ to_back_at c.self.inside.table.held (index_of (pointer_of c.in-Some.at) c.self.inside.table.held)
+held g c = c.move_to_back.ensures.held _ (IsAt-index_of _ c.self.inside.table.held (before-HasKey (has g c)))
+
+-- which is that of the stored key
 moved : (g : _) (c : goal.After-move_to_back g) → pairs_of c.move_to_back.new.self.held
     ≡ to_back_as_is g.K.PartialEq.eq (pairs_of c.self.inside.table.held) (has g c).held.node.pair.0
 moved g c =
-    let laws = g.met.K.Eq.laws in let hs = c.self.inside.table.held in
-    let index = IsIndex-before (HasKey-stored laws (g.met.Q.Equivalent.respects_eq c.args.key) (has g c)) in
-    pairs-moved hs c.move_to_back.new.self.held c.move_to_back.ensures.last (before-HasKey (has g c)) index.pair index.there
-    ∙ sym (to_back_as_is-index laws (distinct_keys hs c.self.invariant) index index.there)
+    let laws = g.met.K.Eq.laws in
+    pairs-moved _ _ (held g c) ∙ sym (to_back_as_is-index laws (distinct_keys c.self.inside.table.held c.self.invariant)
+    (IsIndex-before (HasKey-stored laws (g.met.Q.Equivalent.respects_eq c.args.key) (has g c))))
 
 pub invariant_of-self : goal.invariant_of-self
-invariant_of-self g c = IsKept-back c.self.inside.table.held c.move_to_back.new.self.held
-    c.move_to_back.ensures.last (before-HasKey (has g c)) g.met.K.Eq.laws c.self.invariant
-    c.move_to_back.ensures.keeps.capacity
+invariant_of-self g c = IsKept-back _ _ (held g c) g.met.K.Eq.laws c.self.invariant c.move_to_back.ensures.keeps.capacity
 
 pub returns-in-Some-clause-found : goal.returns-in-Some-clause-found
 returns-in-Some-clause-found g c =
@@ -53,7 +57,7 @@ pub returns-in-Some-clause-len : goal.returns-in-Some-clause-len
 returns-in-Some-clause-len g c =
     let hs = c.self.inside.table.held in let ks = c.move_to_back.new.self.held in
     rw (← c.self.view_is)
-    (length-pairs_of ks ∙ length-to_back hs ks c.move_to_back.ensures.last (before-HasKey (has g c)) ∙ sym (length-pairs_of hs))
+    (length-pairs_of ks ∙ length-moved _ _ (held g c) ∙ sym (length-pairs_of hs))
 
 pub returns-in-Some-clause-finds : goal.returns-in-Some-clause-finds
 returns-in-Some-clause-finds g c =

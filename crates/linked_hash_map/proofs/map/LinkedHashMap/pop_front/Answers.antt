@@ -1,42 +1,34 @@
-use Rattle.std.proofs.Common.{remove, slice_get, refl, sym, ap, ◌∙◌}
+use Rattle.std.proofs.Common.{refl, sym, ◌∙◌}
 use Rattle.lhm_ring.proofs.rings.Ends.{First-first_at, first_held}
 use Rattle.linked_hash_map.specs.Nodes.{pairs_of}
 use Rattle.linked_hash_map.proofs.nodes.Kept.{IsValid-kept, IsValid-view}
-use Rattle.linked_hash_map.proofs.nodes.FirstAndLast.{before-first_at_within, before-first_at}
+use Rattle.lhm_ring.proofs.tables.Positions.{IsAt-first_at, IsAt-within}
 use Rattle.linked_hash_map.proofs.runs.Effects.{remove-first}
 use Rattle.linked_hash_map.proofs.pairs.Calls.{find-none}
 use Rattle.linked_hash_map.proofs.runs.Pops.{Updates-drop_first}
-use Rattle.linked_hash_map.proofs.nodes.TakenNode.{pair-removed, pairs-removed, IsKept-removed}
+use Rattle.linked_hash_map.proofs.nodes.TakenNode.{pairs-removed, IsKept-removed}
 use Rattle.linked_hash_map.proofs.map.LinkedHashMap.pop_front.Goals as goal
 use Rattle.lhm_ring.specs.Pointer.{pointer_of}
+use Rattle.lhm_ring.specs.Positions.{IsAt}
 
 pub remove_at-requires : goal.remove_at-requires
 remove_at-requires g c = let p = pointer_of c.in_ok-front.front in
     first_held (First-first_at c.self.inside.table.held c.in_ok-front.ensures refl)
 
+-- it was the first
+is_first : (g : _) (c : goal.After-remove_at g) → IsAt c.self.inside.table.held (pointer_of c.in_ok-front.front) 0
+is_first g c = IsAt-first_at c.self.inside.table.held c.in_ok-front.ensures
+
 pub invariant_of-self : goal.invariant_of-self
-invariant_of-self g c = IsKept-removed c.self.inside.table.held
-    c.remove_at.new.self.held c.remove_at.ensures.others
-    (before-first_at_within c.self.inside.table.held c.in_ok-front.ensures) c.self.invariant
-    c.remove_at.ensures.keeps.capacity
+invariant_of-self g c = IsKept-removed _ _ (c.remove_at.ensures.others 0 (is_first g c)) (IsAt-within _ 0 (is_first g c))
+    c.self.invariant c.remove_at.ensures.keeps.capacity
 
 pub returns-clause-pair : goal.returns-clause-pair
-returns-clause-pair g c =
-    let hs = c.self.inside.table.held in
-    rw (← c.self.view_is) (
-    sym (ap (slice_get (pairs_of hs)) (sym (before-first_at hs c.in_ok-front.ensures))
-    ∙ pair-removed hs c.remove_at.new.self.held c.remove_at.ensures.others
-    (before-first_at_within hs c.in_ok-front.ensures) c.remove_at.ensures.pair)
-    )
+returns-clause-pair g c = rw (← c.self.view_is) (sym (c.remove_at.ensures.pair 0 (is_first g c)))
 
 pub returns-clause-pairs : goal.returns-clause-pairs
-returns-clause-pairs g c =
-    let hs = c.self.inside.table.held in
-    rw (← c.self.view_is) (
-    pairs-removed hs c.remove_at.new.self.held c.remove_at.ensures.others
-    (before-first_at_within hs c.in_ok-front.ensures)
-    ∙ ap (remove (pairs_of hs)) (before-first_at hs c.in_ok-front.ensures) ∙ remove-first (pairs_of hs)
-    )
+returns-clause-pairs g c = rw (← c.self.view_is) (pairs-removed c.self.inside.table.held 0 (c.remove_at.ensures.others 0 (is_first g c))
+    ∙ remove-first (pairs_of c.self.inside.table.held))
 
 pub returns-clause-valid : goal.returns-clause-valid
 returns-clause-valid g c = IsValid-view c.self.inside c.self.view_is c.self.invariant

@@ -10,6 +10,7 @@ use Rattle.linked_hash_map.proofs.nodes.FoundKeys.{before-HasKey}
 use Rattle.linked_hash_map.proofs.nodes.StoredKeys.{find-stored, without-stored, UpdatesBy-without, length-without_stored, UpdatesBy-absent}
 use Rattle.linked_hash_map.proofs.nodes.TakenNode.{IsKept-removed}
 use Rattle.linked_hash_map.proofs.map.LinkedHashMap.remove_entry.Goals as goal
+use Rattle.lhm_ring.proofs.tables.Positions.{IsAt-index_of, remove-at}
 use Rattle.lhm_ring.specs.Ring.{Held}
 use Rattle.lhm_ring.specs.Table.{TableState}
 
@@ -51,8 +52,9 @@ returns-in_err-pair-clause-same g c =
 pub invariant_of-self-2 : goal.invariant_of-self-2
 invariant_of-self-2 g c =
     let removed = of-Some _ c.in_ok-pair.was c.remove.ensures.removed in
-    IsKept-removed c.self.inside.table.held c.remove.new.self.held removed.others
-    (before-HasKey removed.has) c.self.invariant c.remove.ensures.keeps.capacity
+    let lies = before-HasKey removed.has in
+    IsKept-removed _ _ (remove-at _ _ (IsAt-index_of _ c.self.inside.table.held lies) removed.others) lies
+    c.self.invariant c.remove.ensures.keeps.capacity
 
 pub returns-clause-pair : goal.returns-clause-pair
 returns-clause-pair g c =

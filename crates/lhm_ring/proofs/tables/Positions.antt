@@ -1,0 +1,205 @@
+-- Positions and indexes: what lies at an index, and where a position is once a triple moved.
+use Rattle.std.proofs.Common.{◌≡◌, ℕ, zero, suc, ◌+◌, ◌-◌, ◌<◌, true, false, cond, List, [], ◌∷◌, ◌++◌, map, length, remove, slice_get}
+use Rattle.std.proofs.Common.{Option, Some, None, option_map, refl, sym, ap, ap₂, ◌∙◌, subst, arith, length-append}
+use Rattle.std.specs.Option.{option_to_list}
+use Rattle.std.specs.List.Sorted.{IsPermutation}
+use Rattle.std.proofs.lemmas.List.{map-append, length-map}
+use Rattle.std.proofs.lemmas.List.Sorted.{IsPermutation-refl, IsPermutation-cons, IsPermutation-append_comm}
+use Rattle.std.proofs.lemmas.Option.{slice_get-map, slice_get_within}
+use denote.RawPtr.{Ptr}
+use Rattle.lhm_ring.proofs.lists.Apart.{IsFresh, same_ptr-equal, same_ptr-reflexive, same_ptr-symmetric, IsFresh-middle}
+use Rattle.lhm_ring.proofs.lists.Options.{Some-injective, none_some}
+use Rattle.lhm_ring.proofs.indexes.Entries.{pointers-entries}
+use Rattle.lhm_ring.specs.Index.{entries}
+use Rattle.lhm_ring.specs.Nodes.{same_ptr, IsApart}
+use Rattle.lhm_ring.specs.Positions.{IsAt, index_of, to_back_at}
+use Rattle.lhm_ring.specs.Ring.{Held, IsHeld, AtHeld, first_at, last_at, last_of}
+
+-- the element right after the first ones, and the list without it
+pub slice_get-append : {X : Type 0} (xs : List X) (x : X) (ys : List X) → slice_get (xs ++ x ∷ ys) (length xs) ≡ Some x
+slice_get-append [] x ys = refl
+slice_get-append (y ∷ xs) x ys = slice_get-append xs x ys
+
+pub remove-append : {X : Type 0} (xs : List X) (x : X) (ys : List X) → remove (xs ++ x ∷ ys) (length xs) ≡ xs ++ ys
+remove-append [] x ys = refl
+remove-append (y ∷ xs) x ys = ap (λ l. y ∷ l) (remove-append xs x ys)
+
+-- a function of each element
+module _ {X Y : Type 0} (f : X → Y) where
+  pub map-remove : (xs : List X) (i : ℕ) → map f (remove xs i) ≡ remove (map f xs) i
+  map-remove [] zero = refl
+  map-remove [] (suc i) = refl
+  map-remove (x ∷ xs) zero = refl
+  map-remove (x ∷ xs) (suc i) = ap (λ ys. f x ∷ ys) (map-remove xs i)
+
+  map-option_to_list : (o : Option X) → map f (option_to_list o) ≡ option_to_list (option_map f o)
+  map-option_to_list None = refl
+  map-option_to_list (Some x) = refl
+
+  pub map-to_back_at : (xs : List X) (i : ℕ) → map f (to_back_at xs i) ≡ to_back_at (map f xs) i
+  map-to_back_at xs i = map-append f (remove xs i) (option_to_list (slice_get xs i))
+      ∙ ap₂ (λ ys zs. ys ++ zs) (map-remove xs i)
+      (map-option_to_list (slice_get xs i) ∙ ap option_to_list (sym (slice_get-map f xs i)))
+
+module _ {X : Type 0} where
+  pub IsPermutation-to_back_at : (xs : List X) (i : ℕ) → IsPermutation xs (to_back_at xs i)
+  IsPermutation-to_back_at [] zero = IsPermutation-refl []
+  IsPermutation-to_back_at [] (suc i) = IsPermutation-refl []
+  IsPermutation-to_back_at (x ∷ xs) zero = IsPermutation-append_comm (x ∷ []) xs
+  IsPermutation-to_back_at (x ∷ xs) (suc i) = IsPermutation-cons x xs (to_back_at xs i) (IsPermutation-to_back_at xs i)
+
+module _ {B : Type 0} where
+  pub IsAt-append : (xs : List (Held B)) (t : Held B) (ys : List (Held B)) → IsAt (xs ++ t ∷ ys) t.at (length xs)
+  IsAt-append [] t ys = refl
+  IsAt-append (x ∷ xs) t ys = IsAt-append xs t ys
+
+  pub IsAt-split : {hs : List (Held B)} {p : Ptr} (xs : List (Held B)) (t : Held B) (ys : List (Held B)) → hs ≡ xs ++ t ∷ ys
+      → t.at ≡ p → IsAt hs p (length xs)
+  IsAt-split xs t ys is at = ap (λ hs. slice_get (map (λ u. u.at) hs) (length xs)) is ∙ IsAt-append xs t ys ∙ ap Some at
+
+  -- the triple at the index of a position
+  pub record CutAt (hs : List (Held B)) (p : Ptr) (i : ℕ) : Type 0 where
+    pub held : IsHeld hs p
+    pub long : length held.before ≡ i
+
+  pub CutAt-IsAt : (hs : List (Held B)) (p : Ptr) (i : ℕ) → IsAt hs p i → CutAt hs p i
+  CutAt-IsAt [] p zero at = absurd (none_some p at)
+  CutAt-IsAt [] p (suc i) at = absurd (none_some p at)
+  CutAt-IsAt (t ∷ hs) p zero at = record {
+    held = record { before = []; node = t; after = hs; is = refl; at_is = Some-injective t.at p at };
+    long = refl;
+  }
+  CutAt-IsAt (t ∷ hs) p (suc i) at =
+      let r = CutAt-IsAt hs p i at in let h = r.held in
+      record {
+        held = record { before = t ∷ h.before; node = h.node; after = h.after; is = ap (λ l. t ∷ l) h.is; at_is = h.at_is };
+        long = ap suc r.long;
+      }
+
+  -- `index_of` has the first index of a position that has one
+  pub IsAt-index_of : (p : Ptr) (hs : List (Held B)) → index_of p hs < length hs → IsAt hs p (index_of p hs)
+  IsAt-index_of p [] h = absurd (omega (arith, h))
+  IsAt-index_of p (t ∷ hs) h =
+      (elim (same_ptr t.at p) as (λ y. same_ptr t.at p ≡ y → cond y 0 (index_of p hs + 1) < suc (length hs)
+      → IsAt (t ∷ hs) p (cond y 0 (index_of p hs + 1))) [
+        | true ↦ λ e k. ap Some (same_ptr-equal t.at p e)
+        | false ↦ λ e k.
+            let one : suc (index_of p hs) ≡ index_of p hs + 1 = omega arith in
+            subst (IsAt (t ∷ hs) p) one (IsAt-index_of p hs (omega (arith, k)))
+      ]) refl h
+
+  pub IsAt-within : (hs : List (Held B)) (i : ℕ) {p : Ptr} → IsAt hs p i → i < length hs
+  IsAt-within hs i at = let h = slice_get_within (map (λ t. t.at) hs) i _ at in let long = length-map hs (λ t. t.at) in omega (arith, h, long)
+
+  -- at the ends
+  pub IsAt-first_at : (hs : List (Held B)) {p : Ptr} → Some p ≡ first_at hs → IsAt hs p 0
+  IsAt-first_at [] is = absurd (none_some _ (sym is))
+  IsAt-first_at (t ∷ hs) is = sym is
+
+  IsAt-last_of : (t : Held B) (hs : List (Held B)) → IsAt (t ∷ hs) (last_of t hs) (length hs)
+  IsAt-last_of t [] = refl
+  IsAt-last_of t (u ∷ hs) = IsAt-last_of u hs
+
+  pub IsAt-last_at : (hs : List (Held B)) {p : Ptr} → Some p ≡ last_at hs → IsAt hs p (length hs - 1)
+  IsAt-last_at [] is = absurd (none_some _ (sym is))
+  IsAt-last_at (t ∷ hs) {p} is =
+      let one : length hs ≡ suc (length hs) - 1 = omega arith in
+      subst (IsAt (t ∷ hs) p) one (IsAt-last_of t hs ∙ sym is)
+
+  pub index_of-within : (p : Ptr) (xs : List (Held B)) (t : Held B) (ys : List (Held B)) → t.at ≡ p
+      → index_of p (xs ++ t ∷ ys) < length (xs ++ t ∷ ys)
+  index_of-within p [] t ys at =
+      let here : index_of p (t ∷ ys) ≡ 0 = ap (λ y. cond y 0 (index_of p ys + 1))
+      (subst (λ q. same_ptr t.at q ≡ true) at (same_ptr-reflexive t.at)) in
+      omega (arith, here)
+  index_of-within p (x ∷ xs) t ys at =
+      let on = index_of-within p xs t ys at in
+      elim (same_ptr x.at p) as (λ y. cond y 0 (index_of p (xs ++ t ∷ ys) + 1) < suc (length (xs ++ t ∷ ys)))
+      [ true ↦ omega arith | false ↦ omega (arith, on) ]
+
+  pub index_of-held : {hs : List (Held B)} {p : Ptr} → IsHeld hs p → index_of p hs < length hs
+  index_of-held {p = p} h = subst (λ (ks : List (Held B)). index_of p ks < length ks) (sym h.is)
+      (index_of-within p h.before h.node h.after h.at_is)
+
+  -- what is made of the list at an index of p, by what is made of it at p
+  module _ (hs : List (Held B)) {p : Ptr} (i : ℕ) (at : IsAt hs p i) where
+    pub cut_at : CutAt hs p i
+    cut_at = CutAt-IsAt hs p i at
+
+    pub slice_get-at : slice_get hs i ≡ Some cut_at.held.node
+    slice_get-at = let h = cut_at.held in (λ j. slice_get (h.is j) (sym cut_at.long j)) ∙ slice_get-append h.before h.node h.after
+
+    pub slice_get-pair : {b : B} → AtHeld hs p (λ xs t ys. b ≡ t.pair) → slice_get (map (λ t. t.pair) hs) i ≡ Some b
+    slice_get-pair is =
+        let h = cut_at.held in
+        slice_get-map (λ (t : Held B). t.pair) hs i ∙ ap (option_map (λ (t : Held B). t.pair)) slice_get-at
+        ∙ ap Some (sym (is h.before h.node h.after h.is h.at_is))
+
+    pub remove-at : {ws : List (Held B)} → AtHeld hs p (λ xs t ys. ws ≡ xs ++ ys) → ws ≡ remove hs i
+    remove-at others =
+        let h = cut_at.held in
+        others h.before h.node h.after h.is h.at_is
+        ∙ sym ((λ j. remove (h.is j) (sym cut_at.long j)) ∙ remove-append h.before h.node h.after)
+
+    pub to_back_at-at : {ws : List (Held B)} → AtHeld hs p (λ xs t ys. ws ≡ (xs ++ ys) ++ t ∷ []) → ws ≡ to_back_at hs i
+    to_back_at-at last =
+        let h = cut_at.held in
+        last h.before h.node h.after h.is h.at_is
+        ∙ sym (ap₂ (λ xs o. xs ++ option_to_list o)
+        ((λ j. remove (h.is j) (sym cut_at.long j)) ∙ remove-append h.before h.node h.after) slice_get-at)
+
+  -- among other positions the last has the last index
+  pub index_of-last : (p : Ptr) (hs : List (Held B)) (t : Held B) → t.at ≡ p
+      → IsFresh p (map (λ u. u.at) hs) → index_of p (hs ++ t ∷ []) ≡ length hs
+  index_of-last p [] t at fresh = ap (λ y. cond y 0 1) (subst (λ q. same_ptr t.at q ≡ true) at (same_ptr-reflexive t.at))
+  index_of-last p (x ∷ hs) t at fresh =
+      let on = index_of-last p hs t at fresh.1 in
+      let one : index_of p (hs ++ t ∷ []) + 1 ≡ suc (length hs) = omega (arith, on) in
+      ap (λ y. cond y 0 (index_of p (hs ++ t ∷ []) + 1)) (same_ptr-symmetric x.at p ∙ fresh.0) ∙ one
+
+  -- and so has one that moved to the back
+  pub index_of-to_back : {hs ks : List (Held B)} {p : Ptr} → IsApart (map (λ t. t.at) hs) → (h : IsHeld hs p)
+      → AtHeld hs p (λ xs t ys. ks ≡ (xs ++ ys) ++ t ∷ []) → index_of p ks + 1 ≡ length hs
+  index_of-to_back {hs} {ks} {p} apart h last =
+      let pointers : List (Held B) → List Ptr = map (λ t. t.at) in
+      let cut = subst IsApart (ap pointers h.is ∙ map-append (λ (t : Held B). t.at) h.before (h.node ∷ h.after)) apart in
+      let fresh = subst (IsFresh h.node.at) (sym (map-append (λ (t : Held B). t.at) h.before h.after))
+      (IsFresh-middle (pointers h.before) h.node.at (pointers h.after) cut) in
+      let index = ap (index_of p) (last h.before h.node h.after h.is h.at_is)
+      ∙ index_of-last p (h.before ++ h.after) h.node h.at_is (subst (λ q. IsFresh q (pointers (h.before ++ h.after))) h.at_is fresh) in
+      let of_hs = ap length h.is ∙ length-append h.before (h.node ∷ h.after) in
+      omega (arith, index, of_hs, length-append h.before h.after)
+
+  -- where other positions are once one is out
+  module _ (p : Ptr) where
+    pub index_of-later : (hs : List (Held B)) (i : ℕ) → i < index_of p hs → index_of p (remove hs i) + 1 ≡ index_of p hs
+    index_of-later [] i h = absurd (omega (arith, h))
+    index_of-later (t ∷ hs) zero h = (elim (same_ptr t.at p) as (λ y. 0 < cond y 0 (index_of p hs + 1)
+        → index_of p hs + 1 ≡ cond y 0 (index_of p hs + 1)) [ true ↦ λ k. absurd (omega (arith, k)) | false ↦ λ k. refl ]) h
+    index_of-later (t ∷ hs) (suc i) h =
+        (elim (same_ptr t.at p) as (λ y. suc i < cond y 0 (index_of p hs + 1)
+        → cond y 0 (index_of p (remove hs i) + 1) + 1 ≡ cond y 0 (index_of p hs + 1)) [
+          | true ↦ λ k. absurd (omega (arith, k))
+          | false ↦ λ k. ap (λ n. n + 1) (index_of-later hs i (omega (arith, k)))
+        ]) h
+
+    pub index_of-earlier : (hs : List (Held B)) (i : ℕ) → index_of p hs < i → index_of p (remove hs i) ≡ index_of p hs
+    index_of-earlier [] zero h = refl
+    index_of-earlier [] (suc i) h = refl
+    index_of-earlier (t ∷ hs) zero h = absurd (omega (arith, h))
+    index_of-earlier (t ∷ hs) (suc i) h =
+        (elim (same_ptr t.at p) as (λ y. cond y 0 (index_of p hs + 1) < suc i
+        → cond y 0 (index_of p (remove hs i) + 1) ≡ cond y 0 (index_of p hs + 1)) [
+          | true ↦ λ k. refl
+          | false ↦ λ k. ap (λ n. n + 1) (index_of-earlier hs i (omega (arith, k)))
+        ]) h
+
+-- without chain links
+module _ {K V : Type 0} where
+  pub IsAt-entries : (hs : List (Held (K × V))) {es : List (Held (K × V))} {p : Ptr} (i : ℕ) → entries hs ≡ es → IsAt es p i
+      → IsAt hs p i
+  IsAt-entries hs i same at = ap (λ ps. slice_get ps i) (sym (pointers-entries hs) ∙ ap (map (λ t. t.at)) same) ∙ at
+
+  pub index_of-entries : (p : Ptr) (hs : List (Held (K × V))) → index_of p (entries hs) ≡ index_of p hs
+  index_of-entries p [] = refl
+  index_of-entries p (t ∷ hs) = ap (λ n. cond (same_ptr t.at p) 0 (n + 1)) (index_of-entries p hs)
