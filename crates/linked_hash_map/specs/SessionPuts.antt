@@ -6,14 +6,19 @@ use Rattle.linked_hash_map.specs.SessionTables.{Session, SessionTable, session_o
 use Rattle.linked_hash_map.specs.declared.sessions.storage.PutPlan.{PutPlan}
 
 module _ {T : Type 0} where
-  -- as many sessions go as have to, if the others are to weigh at most so much, and the plan says
-  -- what they weigh then
+  -- so many sessions go for those except that of the id to be within the weight that is left, and
+  -- what these weigh then
+  pub record AreLeaving (sessions : List (Session T)) (id weight_left count staying : ℕ) : Type 0
+    where
+      pub stay : drop count (without sessions id) ≡ fit weight_left (without sessions id)
+      pub staying_is : staying ≡ total_weight (fit weight_left (without sessions id))
+      pub within : count ≤ length (without sessions id)
+
+  -- that, and whether the id is new
   pub record IsPutPlan (sessions : List (Session T)) (id weight_left : ℕ) (plan : PutPlan) : Type 0
     where
       pub is_new : is_some (session_of sessions id) ≡ not plan.is_new
-      pub stay : drop plan.count (without sessions id) ≡ fit weight_left (without sessions id)
-      pub staying : plan.staying ≡ total_weight (fit weight_left (without sessions id))
-      pub within : plan.count ≤ length (without sessions id)
+      pub leaving : AreLeaving sessions id weight_left plan.count plan.staying
 
   -- the session is at the back, and the longest end that fits is left
   pub record HasPut (old : SessionTable T) (session : Session T) (new : SessionTable T) : Type 0

@@ -3,6 +3,7 @@ use Rattle.std.proofs.Common.{◌≡◌, ℕ, ◌+◌, ◌-◌, ◌<◌, ◌≤�
 use Rattle.std.proofs.lemmas.Bool.{ne_eqb}
 use Rattle.std.proofs.lemmas.List.{drop-drop}
 use Rattle.std.proofs.lemmas.List.Sums.{length-filter, count_by-le-length}
+use Rattle.linked_hash_map.specs.SessionPuts.{AreLeaving}
 use Rattle.linked_hash_map.specs.SessionTables.{Session, total_weight, without, fit}
 use Rattle.linked_hash_map.proofs.session_table.Lists.{total_weight-cons, fit-all, fit-more}
 
@@ -14,12 +15,6 @@ module _ {T : Type 0} (id weight_left : ℕ) (all : List (Session T)) where
     pub weighs : weight ≡ total_weight (without rest id)
     pub goes : fit weight_left (without all id) ≡ fit weight_left (without rest id)
     pub counted : count + length (without rest id) ≡ length (without all id)
-
-  -- these go, and the others stay
-  pub record AreLeaving (count staying : ℕ) : Type 0 where
-    pub stay : drop count (without all id) ≡ fit weight_left (without all id)
-    pub weigh : staying ≡ total_weight (fit weight_left (without all id))
-    pub within : count ≤ length (without all id)
 
   module _ {count weight : ℕ} where
     -- while too much is left, the next one goes
@@ -49,12 +44,12 @@ module _ {T : Type 0} (id weight_left : ℕ) (all : List (Session T)) where
     )
 
     -- once they fit, all that are left stay
-    pub AreLeaving-past : (rest : List (Session T)) → IsPast count weight rest → weight ≤ weight_left → AreLeaving count weight
+    pub AreLeaving-past : (rest : List (Session T)) → IsPast count weight rest → weight ≤ weight_left → AreLeaving all id weight_left count weight
     AreLeaving-past rest past light =
         let all_left : fit weight_left (without all id) ≡ without rest id = past.goes
         ∙ fit-all weight_left (without rest id) (subst (λ n. n ≤ weight_left) past.weighs light) in
         record {
           stay = past.left ∙ sym all_left;
-          weigh = past.weighs ∙ ap total_weight (sym all_left);
+          staying_is = past.weighs ∙ ap total_weight (sym all_left);
           within = omega (arith, past.counted);
         }

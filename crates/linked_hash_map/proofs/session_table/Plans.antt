@@ -1,5 +1,5 @@
 -- What a planned put leaves of a table.
-use Rattle.std.proofs.Common.{◌≡◌, ℕ, ◌+◌, ◌-◌, ◌<◌, ◌≤◌, true, false, List, [], ◌∷◌, ◌++◌, length, take, drop, nat_eq}
+use Rattle.std.proofs.Common.{◌≡◌, ℕ, ◌+◌, ◌-◌, ◌≤◌, true, false, List, ◌++◌, length, take, drop, nat_eq}
 use Rattle.std.proofs.Common.{sym, ap, ◌∙◌, subst, arith, length-drop, length-take-le}
 use Rattle.std.specs.Prelude.{max}
 use Rattle.std.specs.List.{IsDistinct}
@@ -24,22 +24,22 @@ module _ {T : Type 0} {sessions : List (Session T)} {limit id weight : ℕ} {pla
   -- none goes exactly if all fit
   pub none-leaves : total_weight (without sessions id) + weight ≤ limit → plan.count ≡ 0
   none-leaves fits =
-      let all = ap length (planned.stay ∙ fit-all (limit - weight) (without sessions id) (omega arith)) in
-      omega (arith, all, length-drop plan.count (without sessions id), planned.within)
+      let all = ap length (planned.leaving.stay ∙ fit-all (limit - weight) (without sessions id) (omega arith)) in
+      omega (arith, all, length-drop plan.count (without sessions id), planned.leaving.within)
 
   pub all-fit : plan.count ≡ 0 → total_weight (without sessions id) + weight ≤ limit
   all-fit none =
-      let all = sym (ap (λ n. drop n (without sessions id)) none) ∙ planned.stay in
+      let all = sym (ap (λ n. drop n (without sessions id)) none) ∙ planned.leaving.stay in
       omega (arith, ap total_weight all, total_weight-fit (limit - weight) (without sessions id))
 
   -- what is left is within the limit
   pub staying-within : plan.staying + weight ≤ limit
-  staying-within = omega (arith, planned.staying, total_weight-fit (limit - weight) (without sessions id))
+  staying-within = omega (arith, planned.leaving.staying_is, total_weight-fit (limit - weight) (without sessions id))
 
   module _ (payload : T) where
     pub drop-put : drop plan.count (with_last sessions id weight payload) ≡ fit limit (with_last sessions id weight payload)
-    drop-put = drop-with_last sessions plan.count id weight payload planned.within
-        ∙ fit-with_last limit weight id payload sessions (drop plan.count (without sessions id)) light planned.stay
+    drop-put = drop-with_last sessions plan.count id weight payload planned.leaving.within
+        ∙ fit-with_last limit weight id payload sessions (drop plan.count (without sessions id)) light planned.leaving.stay
 
     pub take-put : take plan.count (with_last sessions id weight payload) ≡ leaving limit (with_last sessions id weight payload)
     take-put =
@@ -50,13 +50,13 @@ module _ {T : Type 0} {sessions : List (Session T)} {limit id weight : ℕ} {pla
     pub length-leaving_put : length (leaving limit (with_last sessions id weight payload)) ≡ plan.count
     length-leaving_put =
         sym (ap length take-put) ∙ length-take-le plan.count (with_last sessions id weight payload)
-        (omega (arith, length-with_last sessions id weight payload, planned.within))
+        (omega (arith, length-with_last sessions id weight payload, planned.leaving.within))
 
     pub total_weight-left : plan.staying + weight ≡ total_weight (drop plan.count (with_last sessions id weight payload))
     total_weight-left =
-        ap (λ w. w + weight) (planned.staying ∙ sym (ap total_weight planned.stay))
+        ap (λ w. w + weight) (planned.leaving.staying_is ∙ sym (ap total_weight planned.leaving.stay))
         ∙ sym (total_weight-put weight id payload (drop plan.count (without sessions id)))
-        ∙ sym (ap total_weight (drop-with_last sessions plan.count id weight payload planned.within))
+        ∙ sym (ap total_weight (drop-with_last sessions plan.count id weight payload planned.leaving.within))
 
 module _ {T : Type 0} {limit id weight : ℕ} {plan : PutPlan} (payload : T) (ps : List (ℕ × Weighted T)) where
   pub HasPut-planned : {left : List (Session T)} {old now : ℕ} → weight ≤ limit
@@ -68,7 +68,7 @@ module _ {T : Type 0} {limit id weight : ℕ} {plan : PutPlan} (payload : T) (ps
       → HasPut (session_table (sessions_of ps) limit old) (id, weight, payload) (session_table left limit now)
   HasPut-planned {left} {old} {now} light planned within distinct is raised same =
       let all = with_last (sessions_of ps) id weight payload in
-      let behind = is ∙ drop-with_last (sessions_of ps) plan.count id weight payload planned.within in
+      let behind = is ∙ drop-with_last (sessions_of ps) plan.count id weight payload planned.leaving.within in
       let stay = is ∙ drop-put light planned payload in
       record {
         stay = stay;
@@ -78,6 +78,6 @@ module _ {T : Type 0} {limit id weight : ℕ} {plan : PutPlan} (payload : T) (ps
         others = λ other apart.
             subst (λ l. IsSome (payload_of l other) → payload_of l other ≡ payload_of (sessions_of ps) other) (sym is)
             (payload_of-stays ps plan.count id other weight payload distinct apart);
-        capacity = capacity-put plan.is_new ps (id, weight, payload) within distinct planned.is_new planned.within raised same
+        capacity = capacity-put plan.is_new ps (id, weight, payload) within distinct planned.is_new planned.leaving.within raised same
             ∙ ap (λ l. max old (length l)) (sym is);
       }

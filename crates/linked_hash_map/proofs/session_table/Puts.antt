@@ -17,7 +17,7 @@ use Rattle.linked_hash_map.proofs.Callers.Keys.{distinct-to_back, find-drop, len
 use Rattle.linked_hash_map.proofs.Callers.Lookups.{find-without_here, value_at-to_back_apart}
 use Rattle.linked_hash_map.proofs.Callers.Turns.{find-others}
 use Rattle.linked_hash_map.proofs.log.LiveKeys.{none_is}
-use Rattle.linked_hash_map.proofs.session_table.Lists.{total_weight-append, total_weight-last, fit-all, fit-append, session_of-append}
+use Rattle.linked_hash_map.proofs.session_table.Lists.{total_weight-append, total_weight-last, fit-append, session_of-append}
 use Rattle.linked_hash_map.proofs.session_table.Pairs.{sessions_of-without, sessions_of-to_back, length-sessions_of, is_some-session_of}
 use Rattle.linked_hash_map.proofs.session_table.Pairs.{payload_of-sessions_of}
 

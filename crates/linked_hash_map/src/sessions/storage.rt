@@ -3,7 +3,8 @@ ghost use Rattle.std.specs.Prelude.{◌≡◌, ◌+◌, ◌<◌, ◌≤◌, leng
 ghost use Rattle.std.specs.List.{FoldsTo};
 ghost use Rattle.linked_hash_map.specs.Pairs as pairs;
 ghost use Rattle.linked_hash_map.specs.SessionHandOuts.{CalledWithSession, CallableWithEachSession};
-ghost use Rattle.linked_hash_map.specs.SessionTables.{session_of, payload_of, total_weight, without, with_last, fit};
+ghost use Rattle.linked_hash_map.specs.SessionPuts.{AreLeaving};
+ghost use Rattle.linked_hash_map.specs.SessionTables.{session_of, payload_of, total_weight, without, with_last};
 ghost use Rattle.linked_hash_map.specs.Validity.{IsValid};
 ghost use Rattle.linked_hash_map.specs.SessionsKept.{sessions_of};
 ghost use Rattle.linked_hash_map.specs.declared.map.Mode.TheVariants.{Touch};
@@ -53,11 +54,7 @@ pub(super) fn find_leaving<T>(
     weight_left: u64,
 ) -> Leaving
     requires { others ≡ total_weight (without (sessions_of map.now.pairs) id) }
-    ensures stay { drop result.count (without (sessions_of map.now.pairs) id)
-        ≡ fit weight_left (without (sessions_of map.now.pairs) id) }
-    ensures staying { result.staying
-        ≡ total_weight (fit weight_left (without (sessions_of map.now.pairs) id)) }
-    ensures within { result.count ≤ length (without (sessions_of map.now.pairs) id) }
+    ensures { AreLeaving (sessions_of map.now.pairs) id weight_left result.count result.staying }
 {
     let mut count = 0;
     let mut staying = others;

@@ -2,7 +2,6 @@ use Rattle.std.proofs.Common.{length, sym, ap, ◌∙◌, subst, arith, not}
 use Rattle.std.specs.List.{FoldsTo}
 use Rattle.linked_hash_map.specs.SessionHandOuts.{CalledWithSession, CallableWithEachSession}
 use Rattle.linked_hash_map.specs.SessionTables.{total_weight}
-use Rattle.linked_hash_map.specs.SessionsKept.{sessions_of}
 use Rattle.linked_hash_map.proofs.log.LiveKeys.{none_is}
 use Rattle.linked_hash_map.proofs.session_table.Pairs.{IsValidTable-kept, length-sessions_of}
 use Rattle.linked_hash_map.proofs.session_table.Plans.{all-fit, staying-within, take-put, total_weight-left, HasPut-planned}
@@ -23,7 +22,7 @@ store-old-requires-clause-present g c =
 
 pub store-old-requires-clause-enough : goal.store-old-requires-clause-enough
 store-old-requires-clause-enough g c =
-    let plan = rw (← c.self.view_is) at c.requires.plan in rw c.make_room.ensures.pairs plan.within
+    let plan = rw (← c.self.view_is) at c.requires.plan in rw c.make_room.ensures.pairs plan.leaving.within
 
 pub store-old-requires-clause-room : goal.store-old-requires-clause-room
 store-old-requires-clause-room g c = λ none new.

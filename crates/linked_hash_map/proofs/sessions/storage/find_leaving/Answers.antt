@@ -4,15 +4,10 @@ use Rattle.linked_hash_map.proofs.session_table.Leaving.{IsPast, IsPast-more, Ar
 use Rattle.linked_hash_map.proofs.session_table.Pairs.{length-sessions_of}
 use Rattle.linked_hash_map.proofs.sessions.storage.find_leaving.Goals as goal
 
-pub returns-then-staying-weight_left-clause-stay : goal.returns-then-staying-weight_left-clause-stay
-returns-then-staying-weight_left-clause-stay g c =
-    (AreLeaving-past c.args.id c.args.weight_left (sessions_of c.args.map.now.pairs)
-    (sessions_of c.loop-other.other-iterator) c.loop-other.invariant (omega arith)).stay
-
-pub returns-then-staying-weight_left-clause-staying : goal.returns-then-staying-weight_left-clause-staying
-returns-then-staying-weight_left-clause-staying g c =
-    (AreLeaving-past c.args.id c.args.weight_left (sessions_of c.args.map.now.pairs)
-    (sessions_of c.loop-other.other-iterator) c.loop-other.invariant (omega arith)).weigh
+pub returns-then-staying-weight_left : goal.returns-then-staying-weight_left
+returns-then-staying-weight_left g c =
+    AreLeaving-past c.args.id c.args.weight_left (sessions_of c.args.map.now.pairs)
+    (sessions_of c.loop-other.other-iterator) c.loop-other.invariant (omega arith)
 
 pub overflow_add-count : goal.overflow_add-count
 overflow_add-count g c =
