@@ -1,9 +1,10 @@
 -- What calls make of a map: updates of what it was, so that they name what changes and nothing
 -- else.
-use Rattle.std.specs.Prelude.{◌≡◌, ◌+◌, Bool, Option, max, [], ◌∷◌, ◌++◌, length}
+use Rattle.std.specs.Prelude.{◌≡◌, ◌+◌, Bool, Option, Some, max, [], ◌∷◌, ◌++◌, length, slice_get}
 use Rattle.linked_hash_map.specs.LinkedMap.{LinkedMap}
-use Rattle.linked_hash_map.specs.Cursor.{without_cursor}
+use Rattle.linked_hash_map.specs.Cursor.{to_visit, without_cursor, IsOutside}
 use Rattle.linked_hash_map.specs.Pairs.{to_back, to_back_by, set_or_push}
+use Rattle.linked_hash_map.specs.Validity.{IsValid}
 use Rattle.lhm_ring.specs.Buckets.{rechained_raised, made_raised}
 
 module _ {K V S : Type 0} where
@@ -57,3 +58,15 @@ module _ {K V S : Type 0} (old new : LinkedMap K V S) where
     pub made : new.made ≡ old.made
     pub hasher : new.hasher ≡ old.hasher
     pub mode : new.mode ≡ old.mode
+
+-- the current pair was moved and written: it is still the current one, and none of those to visit,
+-- which stay, as all but the pairs does
+pub record MovesCurrent {K V S : Type 0} (eq : K → K → Bool) (write : K × V → K × V)
+    (old new : LinkedMap K V S) : Type 0 where
+  pub pair : (pair : K × V) → slice_get old.pairs old.cursor.current ≡ Some pair
+      → slice_get new.pairs new.cursor.current ≡ Some (write pair)
+  pub keeps : Keeps old new
+  pub visit : to_visit new ≡ to_visit old
+  pub outside : IsOutside new.cursor.current new
+  pub valid : IsValid eq old
+  pub stays_valid : IsValid eq new

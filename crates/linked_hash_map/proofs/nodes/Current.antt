@@ -1,17 +1,21 @@
 -- The pair at the current index.
 use Rattle.std.proofs.Common.{◌≡◌, ℕ, ◌+◌, ◌<◌, ◌≤◌, ◌⊎◌, Bool, true, false, cond, List, length}
-use Rattle.std.proofs.Common.{Option, Some, None, refl, sym, ap, ◌∙◌, subst, arith}
+use Rattle.std.proofs.Common.{Option, Some, None, slice_get, refl, sym, ap, ◌∙◌, subst, arith}
 use denote.RawPtr.{Ptr}
 use Rattle.lhm_ring.specs.declared.pointer.Position.{Position}
 use Rattle.linked_hash_map.specs.LinkedMap.{LinkedMap, CursorState}
+use Rattle.linked_hash_map.specs.Changes.{MovesCurrent}
 use Rattle.linked_hash_map.specs.Cursor.{IsOutside}
 use Rattle.linked_hash_map.specs.Nodes.{VisitState, no_visit, bare, current_at, cursor_at, Lies, IsKept}
 use Rattle.lhm_ring.specs.Positions.{index_of}
+use Rattle.linked_hash_map.specs.Nodes.{Beside, pairs_of, map_of}
 use Rattle.linked_hash_map.proofs.nodes.HeldPairs.{length-bare, before-bare}
 use Rattle.linked_hash_map.proofs.nodes.CutNodes.{CutAt, CutAt-before}
-use Rattle.linked_hash_map.proofs.nodes.Outside.{IsElsewhere}
+use Rattle.linked_hash_map.proofs.nodes.Kept.{IsValid-kept}
+use Rattle.linked_hash_map.proofs.nodes.Outside.{IsElsewhere, to_visit_of}
 use Rattle.lhm_ring.specs.Pointer.{pointer_of, pointer_of_some}
 use Rattle.lhm_ring.specs.Ring.{Held}
+use Rattle.lhm_ring.specs.Table.{TableState, KeepsCounts}
 
 -- the index is the number of nodes before the pointer
 pub current_at-Some : {K V : Type 0} {o : Option Ptr} {p : Ptr} → o ≡ Some p
@@ -78,3 +82,28 @@ module _ {K : Type 0} {eq : K → K → Bool} {hash : K → ℕ} {us : List (Hel
   pub IsKept-left : (active : Bool) → IsKept eq hash us capacity (record visit { current = cond active None None })
   IsKept-left true = IsKept-current None tt
   IsKept-left false = IsKept-current None tt
+
+-- other nodes of the same counts, among which the current one was moved and written
+module _ {K V S : Type 0} {eq : K → K → Bool} {hash : K → ℕ} (s t : TableState (K × V)) (b : Beside S)
+    {p : Ptr} (is : b.visit.current ≡ Some p) (kept : IsKept eq hash (bare s.held) s.capacity b.visit) where
+  pub MovesCurrent-nodes : {write : K × V → K × V}
+      → ((pair : K × V) → slice_get (pairs_of s.held) (index_of p s.held) ≡ Some pair
+      → slice_get (pairs_of t.held) (index_of p t.held) ≡ Some (write pair))
+      → KeepsCounts s t → to_visit_of b.visit t.held ≡ to_visit_of b.visit s.held
+      → IsElsewhere (index_of p t.held) b.visit (bare t.held) → IsKept eq hash (bare t.held) t.capacity b.visit
+      → MovesCurrent eq write (map_of s b) (map_of t b)
+  MovesCurrent-nodes at counts visits elsewhere still = record {
+    pair = λ pair there. ap (slice_get (pairs_of t.held)) (current_at-Some is t.held)
+        ∙ at pair (ap (slice_get (pairs_of s.held)) (sym (current_at-Some is s.held)) ∙ there);
+    keeps = record {
+      capacity = counts.capacity;
+      rechained = counts.rechained;
+      made = counts.made;
+      hasher = refl;
+      mode = refl;
+    };
+    visit = visits;
+    outside = subst (λ k. IsElsewhere k b.visit (bare t.held)) (sym (current_at-Some is t.held)) elsewhere;
+    valid = IsValid-kept s.held kept refl refl refl;
+    stays_valid = IsValid-kept t.held still refl refl refl;
+  }

@@ -9,7 +9,7 @@ use Rattle.std.specs.Cmp.{IsEquivalence}
 use denote.RawPtr.{Ptr}
 use Rattle.linked_hash_map.specs.declared.map.Mode.{Mode}
 use Rattle.linked_hash_map.specs.declared.map.Mode.TheVariants.{Touch, Keep}
-use Rattle.linked_hash_map.specs.Nodes.{VisitState, no_visit, pairs_of, bare, current_at, IsKept}
+use Rattle.linked_hash_map.specs.Nodes.{VisitState, no_visit, pairs_of, bare, IsKept}
 use Rattle.lhm_ring.specs.Positions.{index_of, to_back_at}
 use Rattle.linked_hash_map.specs.Pairs.{value_at, put}
 use Rattle.linked_hash_map.specs.Indexes.{IsIndex, set_value_at}
@@ -19,7 +19,7 @@ use Rattle.linked_hash_map.proofs.pairs.Indexes.{set_value-index, is_some-index,
 use Rattle.linked_hash_map.proofs.pairs.Calls.{set_or_push-present}
 use Rattle.linked_hash_map.proofs.nodes.HeldPairs.{bare-change, before-bare, length-bare, length-pairs_of, length-same}
 use Rattle.linked_hash_map.proofs.nodes.CutNodes.{CutAt, CutAt-before, slice_get-held, pairs_of-change_at}
-use Rattle.linked_hash_map.proofs.nodes.Current.{current_at-Some, IsKept-visited}
+use Rattle.linked_hash_map.proofs.nodes.Current.{IsKept-visited}
 use Rattle.linked_hash_map.proofs.nodes.Kept.{IsKept-same}
 use Rattle.linked_hash_map.proofs.nodes.MovedNode.{pairs-moved, length-moved, IsKept-moved, to_visit-moved, behind-moved}
 use Rattle.linked_hash_map.proofs.nodes.Outside.{IsElsewhere, to_visit_at, to_visit_of, to_visit-bare}
@@ -158,12 +158,13 @@ module _ {K V : Type 0} {eq : K → K → Bool} (laws : IsEquivalence eq) {hash 
       ∙ ap (to_visit_at visit) (bare-change p w ks) ∙ to_visit-bare visit ks
       ∙ to_visit-touched laws kept is elsewhere moved
 
-  pub outside-put : (w : V) → IsElsewhere (current_at visit.current (bare (change_at p (revalued w) ks))) visit
+  pub elsewhere-put : (w : V) → IsElsewhere (index_of p (change_at p (revalued w) ks)) visit
       (bare (change_at p (revalued w) ks))
-  outside-put w =
-      subst (λ us. IsElsewhere (current_at visit.current us) visit us) (sym (bare-change p w ks))
-      (subst (λ k. IsElsewhere k visit (bare ks)) (sym (current_at-Some is ks))
-      (elsewhere-touched laws kept is elsewhere moved))
+  elsewhere-put w =
+      let ls = change_at p (revalued w) ks in
+      subst (λ k. IsElsewhere k visit (bare ls)) (before-bare p ls)
+      (subst (λ us. IsElsewhere (index_of p us) visit us) (sym (bare-change p w ks))
+      (subst (λ k. IsElsewhere k visit (bare ks)) (sym (before-bare p ks)) (elsewhere-touched laws kept is elsewhere moved)))
 
 -- with nothing to visit, and no current pair
 pub IsKept-put : {K V : Type 0} {eq : K → K → Bool} → IsEquivalence eq → {hash : K → ℕ} {p : Ptr}

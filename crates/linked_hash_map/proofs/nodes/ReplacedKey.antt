@@ -8,13 +8,14 @@ use Rattle.std.specs.Map.{keys_of}
 use Rattle.std.proofs.Math.Seq.{set-append_seam}
 use Rattle.std.proofs.lemmas.List.{map-append, map-set}
 use denote.RawPtr.{Ptr}
-use Rattle.linked_hash_map.specs.Nodes.{VisitState, Lies, pairs_of, bare, bare_node, bookmark_at, current_at, cursor_at, IsKept}
+use Rattle.linked_hash_map.specs.Nodes.{VisitState, no_visit, Lies, bookmark_at, current_at, cursor_at, IsKept}
+use Rattle.linked_hash_map.specs.Nodes.{pairs_of, bare, bare_node}
 use Rattle.lhm_ring.specs.Positions.{index_of}
 use Rattle.linked_hash_map.specs.Pairs.{set_key}
 use Rattle.linked_hash_map.proofs.lists.Distinct.{AllByRecursion-replaced, IsDistinct-replaced}
 use Rattle.linked_hash_map.proofs.lists.Stretches.{stretch-set}
 use Rattle.linked_hash_map.proofs.nodes.CutNodes.{slice_get-held, pairs_of-held}
-use Rattle.linked_hash_map.proofs.nodes.HeldPairs.{length-pairs_of, pairs_of-append}
+use Rattle.linked_hash_map.proofs.nodes.HeldPairs.{before-bare, length-pairs_of, pairs_of-append}
 use Rattle.linked_hash_map.proofs.nodes.Outside.{IsElsewhere, to_visit_of}
 use Rattle.linked_hash_map.proofs.pairs.Indexes.{set_key_by_index}
 use Rattle.lhm_ring.specs.Nodes.{same_ptr}
@@ -90,6 +91,10 @@ module _ {K V : Type 0} {hs ks : List (Held (K × V))} {p : Ptr} (h : IsHeld hs 
       })
       ∙ sym (ap (cursor_at visit) bare_old)
 
+  pub before-rekeyed : (q : Ptr) → index_of q ks ≡ index_of q hs
+  before-rekeyed q = sym (before-bare q ks)
+      ∙ ap (λ cursor. cursor.current) (cursor_at-rekeyed (record no_visit { current = Some q })) ∙ before-bare q hs
+
   pub pairs_of-rekeyed : pairs_of ks ≡ slice_set (pairs_of hs) (length h.before) (k, h.node.pair.1)
   pairs_of-rekeyed =
       let new : K × V = (k, h.node.pair.1) in
@@ -106,13 +111,6 @@ module _ {K V : Type 0} {hs ks : List (Held (K × V))} {p : Ptr} (h : IsHeld hs 
     is = rekeyed_is;
     at_is = h.at_is;
   })
-
-  pub length-rekeyed_nodes : length ks ≡ length hs
-  length-rekeyed_nodes =
-      let of_ks = ap length rekeyed_is in let of_hs = ap length h.is in
-      let of_new = length-append h.before (rekeyed k h.node ∷ h.after) in
-      let of_old = length-append h.before (h.node ∷ h.after) in
-      omega (arith, of_ks, of_hs, of_new, of_old)
 
   -- the keys to visit stay, if the node is none of theirs
   pub to_visit-rekeyed : (visit : VisitState) → IsElsewhere (length h.before) visit (bare hs)

@@ -4,7 +4,7 @@ ghost use Rattle.std.specs.Map.{keys_of};
 ghost use Rattle.std.specs.Borrow.{sem};
 ghost use Rattle.linked_hash_map.specs.Pairs.{find, put, set_key, to_back_as_is, to_front};
 ghost use Rattle.linked_hash_map.specs.Cursor.{to_visit, without_cursor, IsOutside};
-ghost use Rattle.linked_hash_map.specs.Changes.{Keeps};
+ghost use Rattle.linked_hash_map.specs.Changes.{Keeps, MovesCurrent};
 ghost use Rattle.linked_hash_map.specs.Validity.{IsValid};
 ghost use Rattle.linked_hash_map.specs.Hashers.{hash_by};
 ghost use Rattle.linked_hash_map.specs.Indexes.{IsIndex};
@@ -179,8 +179,9 @@ impl<K: Eq + Hash, V, S: BuildHasher> LinkedHashMap<K, V, S> {
     /// whether there is such a pair. Hashes the key once.
     #[inline]
     pub(crate) fn seek(&mut self, key: &K) -> (u64, bool)
-        ensures hash { result.0 ≡ hash_by S.Hasher.finish S.Hasher.write S.build_hasher K.hash_input
-            self.old.hasher key.now }
+        ensures hash { result.0
+            ≡ hash_by S.Hasher.finish S.Hasher.write S.build_hasher K.hash_input self.old.hasher
+            key.now }
         ensures found { IsTrue result.1
             → IsIndex K.eq self.old.pairs key.now self.new.cursor.current }
         ensures ends_visit { IsTrue result.1
@@ -250,16 +251,9 @@ impl<K: Eq + Hash, V, S: BuildHasher> LinkedHashMap<K, V, S> {
         requires outside { IsOutside self.old.cursor.current self.old }
         ensures pairs { (key : K) → IsIndex K.eq self.old.pairs key self.old.cursor.current →
             self.new.pairs ≡ put K.eq self.old.mode self.old.pairs key value }
-        ensures pair { (pair : K × V) → slice_get self.old.pairs self.old.cursor.current ≡ Some pair
-            → slice_get self.new.pairs self.new.cursor.current ≡ Some (pair.0, value) }
         ensures old { option_map (λ pair. pair.1) (slice_get self.old.pairs self.old.cursor.current)
             ≡ Some result }
-        ensures len { length self.new.pairs ≡ length self.old.pairs }
-        ensures keeps { Keeps self.old self.new }
-        ensures to_visit { to_visit self.new ≡ to_visit self.old }
-        ensures outside { IsOutside self.new.cursor.current self.new }
-        ensures valid { IsValid K.eq self.old }
-        ensures stays_valid { IsValid K.eq self.new }
+        ensures moves { MovesCurrent K.eq (λ pair. (pair.0, value)) self.old self.new }
     {
         let at = self.visit.current().unwrap();
         touch(&mut self.table, at, self.mode);
@@ -272,14 +266,7 @@ impl<K: Eq + Hash, V, S: BuildHasher> LinkedHashMap<K, V, S> {
         requires outside { IsOutside self.old.cursor.current self.old }
         ensures pairs { (key : K) → IsIndex K.eq self.old.pairs key self.old.cursor.current →
             self.new.pairs ≡ to_back_as_is K.eq self.old.pairs key }
-        ensures pair { (pair : K × V) → slice_get self.old.pairs self.old.cursor.current ≡ Some pair
-            → slice_get self.new.pairs self.new.cursor.current ≡ Some pair }
-        ensures len { length self.new.pairs ≡ length self.old.pairs }
-        ensures keeps { Keeps self.old self.new }
-        ensures to_visit { to_visit self.new ≡ to_visit self.old }
-        ensures outside { IsOutside self.new.cursor.current self.new }
-        ensures valid { IsValid K.eq self.old }
-        ensures stays_valid { IsValid K.eq self.new }
+        ensures moves { MovesCurrent K.eq (λ pair. pair) self.old self.new }
     {
         let at = self.visit.current().unwrap();
         self.table.move_to_back(at);
@@ -291,14 +278,7 @@ impl<K: Eq + Hash, V, S: BuildHasher> LinkedHashMap<K, V, S> {
         requires outside { IsOutside self.old.cursor.current self.old }
         ensures pairs { (key : K) → IsIndex K.eq self.old.pairs key self.old.cursor.current →
             self.new.pairs ≡ to_front K.eq self.old.pairs key }
-        ensures pair { (pair : K × V) → slice_get self.old.pairs self.old.cursor.current ≡ Some pair
-            → slice_get self.new.pairs self.new.cursor.current ≡ Some pair }
-        ensures len { length self.new.pairs ≡ length self.old.pairs }
-        ensures keeps { Keeps self.old self.new }
-        ensures to_visit { to_visit self.new ≡ to_visit self.old }
-        ensures outside { IsOutside self.new.cursor.current self.new }
-        ensures valid { IsValid K.eq self.old }
-        ensures stays_valid { IsValid K.eq self.new }
+        ensures moves { MovesCurrent K.eq (λ pair. pair) self.old self.new }
     {
         let at = self.visit.current().unwrap();
         self.table.move_to_front(at);
@@ -313,14 +293,7 @@ impl<K: Eq + Hash, V, S: BuildHasher> LinkedHashMap<K, V, S> {
             (slice_get self.old.pairs self.old.cursor.current)
             ≡ Some result }
         ensures pairs { self.new.pairs ≡ set_key K.eq self.old.pairs key }
-        ensures pair { (pair : K × V) → slice_get self.old.pairs self.old.cursor.current ≡ Some pair
-            → slice_get self.new.pairs self.new.cursor.current ≡ Some (key, pair.1) }
-        ensures len { length self.new.pairs ≡ length self.old.pairs }
-        ensures keeps { Keeps self.old self.new }
-        ensures cursor { self.new.cursor ≡ self.old.cursor }
-        ensures to_visit { to_visit self.new ≡ to_visit self.old }
-        ensures valid { IsValid K.eq self.old }
-        ensures stays_valid { IsValid K.eq self.new }
+        ensures moves { MovesCurrent K.eq (λ pair. (key, pair.1)) self.old self.new }
     {
         let at = self.visit.current().unwrap();
         self.table.replace_key(at, key)

@@ -12,8 +12,8 @@ invariant_of-self g c =
     let o = c.args.self.now in let new = c.insert_current.new.self in
     record {
       within = slice_get-within new.pairs new.cursor.current (occupied_key o, c.args.value)
-          (c.insert_current.ensures.pair _ (slice_get-occupied o));
-      outside = c.insert_current.ensures.outside;
+          (c.insert_current.ensures.moves.pair _ (slice_get-occupied o));
+      outside = c.insert_current.ensures.moves.outside;
     }
 
 pub returns-clause-old : goal.returns-clause-old
@@ -22,12 +22,12 @@ returns-clause-old g c = occupied_value-is c.args.self.now c.insert_current.resu
 pub returns-clause-key : goal.returns-clause-key
 returns-clause-key g c =
     let o = c.args.self.now in
-    sym (ap (λ pair. pair.0) (occupied_pair-is _ (occupied_key o, c.args.value) (c.insert_current.ensures.pair _ (slice_get-occupied o))))
+    sym (ap (λ pair. pair.0) (occupied_pair-is _ _ (c.insert_current.ensures.moves.pair _ (slice_get-occupied o))))
 
 pub returns-clause-value : goal.returns-clause-value
 returns-clause-value g c =
     let o = c.args.self.now in
-    sym (ap (λ pair. pair.1) (occupied_pair-is _ (occupied_key o, c.args.value) (c.insert_current.ensures.pair _ (slice_get-occupied o))))
+    sym (ap (λ pair. pair.1) (occupied_pair-is _ _ (c.insert_current.ensures.moves.pair _ (slice_get-occupied o))))
 
 pub returns-clause-pairs : goal.returns-clause-pairs
 returns-clause-pairs g c =
@@ -35,10 +35,10 @@ returns-clause-pairs g c =
     c.insert_current.ensures.pairs (occupied_key o) (IsIndex-occupied o g.met.K.Eq.laws)
 
 pub returns-clause-valid : goal.returns-clause-valid
-returns-clause-valid g c = IsValid-current nowhere c.insert_current.ensures.valid
+returns-clause-valid g c = IsValid-current nowhere c.insert_current.ensures.moves.valid
 
 pub returns-clause-stays_valid : goal.returns-clause-stays_valid
-returns-clause-stays_valid g c = IsValid-current nowhere c.insert_current.ensures.stays_valid
+returns-clause-stays_valid g c = IsValid-current nowhere c.insert_current.ensures.moves.stays_valid
 
 pub returns-clause-updates : goal.returns-clause-updates
 returns-clause-updates g c =

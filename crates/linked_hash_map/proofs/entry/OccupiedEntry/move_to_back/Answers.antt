@@ -12,19 +12,19 @@ pub invariant_of-self : goal.invariant_of-self
 invariant_of-self g c =
     let o = c.args.self.now in let new = c.move_current_to_back.new.self in
     record {
-      within = slice_get-within new.pairs new.cursor.current _ (c.move_current_to_back.ensures.pair _ (slice_get-occupied o));
-      outside = c.move_current_to_back.ensures.outside;
+      within = slice_get-within new.pairs new.cursor.current _ (c.move_current_to_back.ensures.moves.pair _ (slice_get-occupied o));
+      outside = c.move_current_to_back.ensures.moves.outside;
     }
 
 pub returns-clause-key : goal.returns-clause-key
 returns-clause-key g c =
     let o = c.args.self.now in
-    sym (ap (λ pair. pair.0) (occupied_pair-is _ _ (c.move_current_to_back.ensures.pair _ (slice_get-occupied o))))
+    sym (ap (λ pair. pair.0) (occupied_pair-is _ _ (c.move_current_to_back.ensures.moves.pair _ (slice_get-occupied o))))
 
 pub returns-clause-value : goal.returns-clause-value
 returns-clause-value g c =
     let o = c.args.self.now in
-    sym (ap (λ pair. pair.1) (occupied_pair-is _ _ (c.move_current_to_back.ensures.pair _ (slice_get-occupied o))))
+    sym (ap (λ pair. pair.1) (occupied_pair-is _ _ (c.move_current_to_back.ensures.moves.pair _ (slice_get-occupied o))))
 
 pub returns-clause-pairs : goal.returns-clause-pairs
 returns-clause-pairs g c =
@@ -32,10 +32,10 @@ returns-clause-pairs g c =
     c.move_current_to_back.ensures.pairs (occupied_key o) (IsIndex-occupied o g.met.K.Eq.laws)
 
 pub returns-clause-valid : goal.returns-clause-valid
-returns-clause-valid g c = IsValid-current nowhere c.move_current_to_back.ensures.valid
+returns-clause-valid g c = IsValid-current nowhere c.move_current_to_back.ensures.moves.valid
 
 pub returns-clause-stays_valid : goal.returns-clause-stays_valid
-returns-clause-stays_valid g c = IsValid-current nowhere c.move_current_to_back.ensures.stays_valid
+returns-clause-stays_valid g c = IsValid-current nowhere c.move_current_to_back.ensures.moves.stays_valid
 
 pub returns-clause-finds : goal.returns-clause-finds
 returns-clause-finds g c q =

@@ -1,6 +1,5 @@
-use Rattle.std.proofs.Common.{◌≡◌, true, cond, option_map, sym, ap, ◌∙◌, subst}
+use Rattle.std.proofs.Common.{◌≡◌, true, cond, option_map, sym, ap, ◌∙◌}
 use Rattle.linked_hash_map.specs.Entry.{occupied_pair, occupied_key}
-use Rattle.linked_hash_map.specs.Cursor.{IsOutside}
 use Rattle.linked_hash_map.specs.Pairs.{value_at}
 use Rattle.linked_hash_map.proofs.Callers.ReplacedKeys.{value_at-set_key}
 use Rattle.linked_hash_map.proofs.pairs.Indexes.{slice_get-within}
@@ -21,9 +20,8 @@ pub invariant_of-self : goal.invariant_of-self
 invariant_of-self g c =
     let o = c.args.self.now in let new = c.replace_current_key.new.self in
     record {
-      within = slice_get-within new.pairs new.cursor.current _ (c.replace_current_key.ensures.pair _ (slice_get-occupied o));
-      outside = subst (λ cursor. IsOutside cursor.current (record new { cursor = cursor }))
-          (sym c.replace_current_key.ensures.cursor) o.outside;
+      within = slice_get-within new.pairs new.cursor.current _ (c.replace_current_key.ensures.moves.pair _ (slice_get-occupied o));
+      outside = c.replace_current_key.ensures.moves.outside;
     }
 
 pub returns-then-has_key-clause-stored : goal.returns-then-has_key-clause-stored
@@ -36,13 +34,13 @@ returns-then-has_key-clause-key g c =
     let o = c.args.self.now in
     let same : g.K.PartialEq.eq c.args.key (occupied_key o) ≡ true =
     (let same = c.has_key.ensures.same in let is = c.if-has_key.ensures in cc) in
-    sym (ap (λ pair. pair.0) (occupied_pair-is _ _ (c.replace_current_key.ensures.pair _ (slice_get-occupied o))))
+    sym (ap (λ pair. pair.0) (occupied_pair-is _ _ (c.replace_current_key.ensures.moves.pair _ (slice_get-occupied o))))
     ∙ sym (ap (λ b. cond b c.args.key (occupied_key o)) same)
 
 pub returns-then-has_key-clause-value : goal.returns-then-has_key-clause-value
 returns-then-has_key-clause-value g c =
     let o = c.args.self.now in
-    sym (ap (λ pair. pair.1) (occupied_pair-is _ _ (c.replace_current_key.ensures.pair _ (slice_get-occupied o))))
+    sym (ap (λ pair. pair.1) (occupied_pair-is _ _ (c.replace_current_key.ensures.moves.pair _ (slice_get-occupied o))))
 
 pub returns-then-has_key-clause-values : goal.returns-then-has_key-clause-values
 returns-then-has_key-clause-values g c = λ q.

@@ -1,13 +1,14 @@
-use Rattle.std.proofs.Common.{◌≡◌, Some, slice_get, option_map, refl, sym, ap, ◌∙◌, subst}
-use Rattle.linked_hash_map.specs.Nodes.{pairs_of, bare, visit_of, current_of}
+use Rattle.std.proofs.Common.{◌≡◌, Some, slice_get, option_map, sym, ap, ◌∙◌, subst}
+use Rattle.linked_hash_map.specs.Nodes.{pairs_of, bare, beside, visit_of, current_of}
 use Rattle.lhm_ring.specs.Positions.{index_of}
 use Rattle.linked_hash_map.specs.Indexes.{IsIndex}
 use Rattle.linked_hash_map.specs.Pairs.{put}
-use Rattle.linked_hash_map.proofs.nodes.Kept.{distinct_keys, IsValid-kept}
+use Rattle.linked_hash_map.proofs.nodes.Kept.{distinct_keys}
 use Rattle.linked_hash_map.proofs.nodes.Current.{current_of-Some, current_at-Some, before-current, CutAt-current, IsElsewhere-current}
+use Rattle.linked_hash_map.proofs.nodes.Current.{MovesCurrent-nodes}
 use Rattle.linked_hash_map.proofs.nodes.Outside.{IsElsewhere}
-use Rattle.linked_hash_map.proofs.nodes.PutPair.{IsTouchedAt, touched_cut, value-touched, pair-touched, pairs-put, length-put}
-use Rattle.linked_hash_map.proofs.nodes.PutPair.{IsKept-put_current, to_visit-put, outside-put}
+use Rattle.linked_hash_map.proofs.nodes.PutPair.{IsTouchedAt, touched_cut, value-touched, pair-touched, pairs-put}
+use Rattle.linked_hash_map.proofs.nodes.PutPair.{IsKept-put_current, to_visit-put, elsewhere-put}
 use Rattle.linked_hash_map.proofs.map.LinkedHashMap.insert_current.Goals as goal
 use Rattle.lhm_ring.specs.Pointer.{pointer_of}
 use Rattle.lhm_ring.specs.Ring.{change_at, revalued}
@@ -49,16 +50,6 @@ returns-clause-pairs g c =
     (distinct_keys c.self.inside.table.held c.self.invariant) (moved g c) c.value_mut.ensures.alone c.replace.new.dest
     ∙ ap (put g.K.PartialEq.eq c.self.inside.mode (pairs_of hs) key) c.replace.ensures.after)
 
-pub returns-clause-pair : goal.returns-clause-pair
-returns-clause-pair g c =
-    let hs = c.self.inside.table.held in
-    let ls = change_at (pointer_of c.unwrap-at.result) (revalued c.replace.new.dest)
-    c.touch.new.table.held in
-    rw (← c.self.view_is) (λ pair there. ap (slice_get (pairs_of ls)) (current_at-Some (is g c) ls)
-    ∙ pair-touched (moved g c) c.value_mut.ensures.alone c.replace.new.dest pair
-    (ap (slice_get (pairs_of hs)) (sym (current_at-Some (is g c) hs)) ∙ there)
-    ∙ ap (λ v. Some (pair.0, v)) c.replace.ensures.after)
-
 pub returns-clause-old : goal.returns-clause-old
 returns-clause-old g c =
     let hs = c.self.inside.table.held in
@@ -67,16 +58,14 @@ returns-clause-old g c =
     ∙ value-touched (moved g c) c.value_mut.ensures.value ∙ ap Some (sym c.replace.ensures.value)
     )
 
-pub returns-clause-len : goal.returns-clause-len
-returns-clause-len g c = rw (← c.self.view_is) (length-put (moved g c) c.replace.new.dest)
-
-pub returns-clause-to_visit : goal.returns-clause-to_visit
-returns-clause-to_visit g c = rw (← c.self.view_is) (to_visit-put g.met.K.Eq.laws (moved g c)
-    c.self.invariant (is g c) (elsewhere g c) c.replace.new.dest)
-
-pub returns-clause-outside : goal.returns-clause-outside
-returns-clause-outside g c = outside-put g.met.K.Eq.laws (moved g c) c.self.invariant (is g c)
-    (elsewhere g c) c.replace.new.dest
-
-pub returns-clause-stays_valid : goal.returns-clause-stays_valid
-returns-clause-stays_valid g c = IsValid-kept _ (invariant_of-self g c) refl refl refl
+pub returns-clause-moves : goal.returns-clause-moves
+returns-clause-moves g c =
+    let m = c.self.inside in let laws = g.met.K.Eq.laws in let keeps = c.touch.ensures.keeps in let w = c.replace.new.dest in
+    let held = change_at (pointer_of c.unwrap-at.result) (revalued w) c.touch.new.table.held in
+    rw (← c.self.view_is) (MovesCurrent-nodes m.table (record c.touch.new.table { held = held }) (beside m) (is g c)
+    c.self.invariant
+    (λ pair there. pair-touched (moved g c) c.value_mut.ensures.alone w pair there
+    ∙ ap (λ v. Some (pair.0, v)) c.replace.ensures.after)
+    (record { capacity = keeps.capacity; rechained = keeps.rechained; made = keeps.made })
+    (to_visit-put laws (moved g c) c.self.invariant (is g c) (elsewhere g c) w)
+    (elsewhere-put laws (moved g c) c.self.invariant (is g c) (elsewhere g c) w) (invariant_of-self g c))

@@ -1,13 +1,13 @@
-use Rattle.std.proofs.Common.{◌≡◌, Some, slice_get, refl, sym, ap, ◌∙◌, subst}
+use Rattle.std.proofs.Common.{◌≡◌, Some, sym, ap, ◌∙◌, subst}
 use Rattle.linked_hash_map.specs.declared.map.Mode.TheVariants.{Touch}
-use Rattle.linked_hash_map.specs.Nodes.{pairs_of, bare, visit_of, current_of}
+use Rattle.linked_hash_map.specs.Nodes.{pairs_of, bare, beside, visit_of, current_of}
 use Rattle.lhm_ring.specs.Positions.{index_of}
 use Rattle.linked_hash_map.specs.Indexes.{IsIndex}
 use Rattle.linked_hash_map.proofs.pairs.Indexes.{to_back_as_is-index}
-use Rattle.linked_hash_map.proofs.nodes.HeldPairs.{length-pairs_of}
-use Rattle.linked_hash_map.proofs.nodes.Kept.{distinct_keys, IsValid-kept}
+use Rattle.linked_hash_map.proofs.nodes.Kept.{distinct_keys}
 use Rattle.linked_hash_map.proofs.nodes.Current.{current_of-Some, current_at-Some, before-current, CutAt-current, IsElsewhere-current}
-use Rattle.linked_hash_map.proofs.nodes.MovedNode.{pairs-moved, length-moved}
+use Rattle.linked_hash_map.proofs.nodes.Current.{MovesCurrent-nodes}
+use Rattle.linked_hash_map.proofs.nodes.MovedNode.{pairs-moved}
 use Rattle.linked_hash_map.proofs.nodes.Outside.{IsElsewhere}
 use Rattle.linked_hash_map.proofs.nodes.PutPair.{IsTouchedAt, slice_get-touched, IsKept-touched, to_visit-touched, elsewhere-touched}
 use Rattle.linked_hash_map.proofs.map.LinkedHashMap.move_current_to_back.Goals as goal
@@ -47,26 +47,10 @@ returns-clause-pairs g c =
     let here = subst (IsIndex g.K.PartialEq.eq (pairs_of hs) key) (current_at-Some (is g c) hs) index in
     pairs-moved _ _ (moved g c).touched.0 ∙ sym (to_back_as_is-index g.met.K.Eq.laws (distinct_keys hs c.self.invariant) here))
 
-pub returns-clause-pair : goal.returns-clause-pair
-returns-clause-pair g c =
-    let hs = c.self.inside.table.held in let ks = c.move_to_back.new.self.held in
-    rw (← c.self.view_is) (λ pair there. ap (slice_get (pairs_of ks)) (current_at-Some (is g c) ks)
-    ∙ slice_get-touched (moved g c) pair (ap (slice_get (pairs_of hs)) (sym (current_at-Some (is g c) hs)) ∙ there))
-
-pub returns-clause-len : goal.returns-clause-len
-returns-clause-len g c =
-    let hs = c.self.inside.table.held in let ks = c.move_to_back.new.self.held in
-    rw (← c.self.view_is) (length-pairs_of ks ∙ length-moved _ _ (moved g c).touched.0 ∙ sym (length-pairs_of hs))
-
-pub returns-clause-to_visit : goal.returns-clause-to_visit
-returns-clause-to_visit g c = rw (← c.self.view_is) (to_visit-touched g.met.K.Eq.laws
-    c.self.invariant (is g c) (elsewhere g c) (moved g c))
-
-pub returns-clause-outside : goal.returns-clause-outside
-returns-clause-outside g c =
-    let ks = c.move_to_back.new.self.held in
-    subst (λ k. IsElsewhere k (visit_of c.self.inside.visit) (bare ks)) (sym (current_at-Some (is g c) ks))
-    (elsewhere-touched g.met.K.Eq.laws c.self.invariant (is g c) (elsewhere g c) (moved g c))
-
-pub returns-clause-stays_valid : goal.returns-clause-stays_valid
-returns-clause-stays_valid g c = IsValid-kept _ (invariant_of-self g c) refl refl refl
+pub returns-clause-moves : goal.returns-clause-moves
+returns-clause-moves g c =
+    let m = c.self.inside in let laws = g.met.K.Eq.laws in
+    rw (← c.self.view_is) (MovesCurrent-nodes m.table c.move_to_back.new.self (beside m) (is g c) c.self.invariant
+    (slice_get-touched (moved g c)) c.move_to_back.ensures.keeps
+    (to_visit-touched laws c.self.invariant (is g c) (elsewhere g c) (moved g c))
+    (elsewhere-touched laws c.self.invariant (is g c) (elsewhere g c) (moved g c)) (invariant_of-self g c))

@@ -1,12 +1,12 @@
-use Rattle.std.proofs.Common.{◌≡◌, ◌<◌, Some, slice_get, length, refl, sym, ap, ap₂, ◌∙◌, subst}
-use Rattle.linked_hash_map.specs.Nodes.{pairs_of, bare, visit_of, current_of}
+use Rattle.std.proofs.Common.{◌≡◌, Some, slice_get, sym, ap, ap₂, ◌∙◌, subst}
+use Rattle.linked_hash_map.specs.Nodes.{pairs_of, bare, beside, visit_of, current_of}
 use Rattle.lhm_ring.specs.Positions.{index_of}
 use Rattle.linked_hash_map.specs.Indexes.{IsIndex}
 use Rattle.linked_hash_map.proofs.pairs.Indexes.{to_front-index}
-use Rattle.linked_hash_map.proofs.nodes.HeldPairs.{length-pairs_of}
-use Rattle.linked_hash_map.proofs.nodes.Kept.{distinct_keys, IsValid-kept}
+use Rattle.linked_hash_map.proofs.nodes.Kept.{distinct_keys}
 use Rattle.linked_hash_map.proofs.nodes.Current.{current_of-Some, current_at-Some, before-current, CutAt-current, IsElsewhere-current}
-use Rattle.linked_hash_map.proofs.nodes.MovedToFront.{IsMovedToFront, pairs-moved, length-to_front, before-at_front, IsKept-moved}
+use Rattle.linked_hash_map.proofs.nodes.Current.{MovesCurrent-nodes}
+use Rattle.linked_hash_map.proofs.nodes.MovedToFront.{IsMovedToFront, pairs-moved, before-at_front, IsKept-moved}
 use Rattle.linked_hash_map.proofs.nodes.MovedToFront.{to_visit-moved, elsewhere-moved}
 use Rattle.linked_hash_map.proofs.nodes.Outside.{IsElsewhere}
 use Rattle.linked_hash_map.proofs.map.LinkedHashMap.move_current_to_front.Goals as goal
@@ -44,29 +44,10 @@ returns-clause-pairs g c =
     pairs-moved (is_moved g c) here.pair here.there
     ∙ sym (to_front-index g.met.K.Eq.laws (distinct_keys hs c.self.invariant) here here.there))
 
-pub returns-clause-pair : goal.returns-clause-pair
-returns-clause-pair g c =
-    let hs = c.self.inside.table.held in let ks = c.move_to_front.new.self.held in
-    rw (← c.self.view_is) (λ pair there.
-    let was = ap (slice_get (pairs_of hs)) (sym (current_at-Some (is g c) hs)) ∙ there in
-    let pushed = pairs-moved (is_moved g c) pair was in
-    let at = current_at-Some (is g c) ks ∙ before-at_front (is_moved g c) in
-    ap₂ (λ ps i. slice_get ps i) pushed at)
-
-pub returns-clause-len : goal.returns-clause-len
-returns-clause-len g c =
-    let hs = c.self.inside.table.held in let ks = c.move_to_front.new.self.held in
-    rw (← c.self.view_is) (length-pairs_of ks ∙ length-to_front (is_moved g c) ∙ sym (length-pairs_of hs))
-
-pub returns-clause-to_visit : goal.returns-clause-to_visit
-returns-clause-to_visit g c = rw (← c.self.view_is) (to_visit-moved (is_moved g c) c.self.invariant (elsewhere g c)
-    c.move_to_front.ensures.apart)
-
-pub returns-clause-outside : goal.returns-clause-outside
-returns-clause-outside g c =
-    let ks = c.move_to_front.new.self.held in
-    subst (λ k. IsElsewhere k (visit_of c.self.inside.visit) (bare ks)) (sym (current_at-Some (is g c) ks))
-    (elsewhere-moved (is_moved g c) c.self.invariant (elsewhere g c) c.move_to_front.ensures.apart)
-
-pub returns-clause-stays_valid : goal.returns-clause-stays_valid
-returns-clause-stays_valid g c = IsValid-kept _ (invariant_of-self g c) refl refl refl
+pub returns-clause-moves : goal.returns-clause-moves
+returns-clause-moves g c =
+    let m = c.self.inside in let moved = is_moved g c in let apart = c.move_to_front.ensures.apart in
+    rw (← c.self.view_is) (MovesCurrent-nodes m.table c.move_to_front.new.self (beside m) (is g c) c.self.invariant
+    (λ pair was. ap₂ (λ ps i. slice_get ps i) (pairs-moved moved pair was) (before-at_front moved)) c.move_to_front.ensures.keeps
+    (to_visit-moved moved c.self.invariant (elsewhere g c) apart)
+    (elsewhere-moved moved c.self.invariant (elsewhere g c) apart) (invariant_of-self g c))

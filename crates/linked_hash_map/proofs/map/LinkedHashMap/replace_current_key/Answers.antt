@@ -1,14 +1,14 @@
-use Rattle.std.proofs.Common.{◌≡◌, IsTrue, Some, slice_get, length, option_map, refl, sym, ap, ◌∙◌, subst}
+use Rattle.std.proofs.Common.{◌≡◌, ℕ, ◌+◌, ◌<◌, ◌≤◌, ◌⊎◌, IsTrue, Some, slice_get, length, option_map, sym, ap, ◌∙◌, subst}
 use Rattle.linked_hash_map.specs.LinkedMap.{LinkedMap}
-use Rattle.linked_hash_map.specs.Nodes.{pairs_of, bare, visit_of, current_of, current_at}
+use Rattle.linked_hash_map.specs.Nodes.{pairs_of, bare, beside, visit_of, current_of, current_at}
 use Rattle.linked_hash_map.specs.Indexes.{IsIndex}
 use Rattle.linked_hash_map.proofs.nodes.AbsentKeys.{hash_by-respects}
 use Rattle.linked_hash_map.proofs.nodes.Current.{current_of-Some, current_at-Some, CutAt-current, IsElsewhere-current}
 use Rattle.linked_hash_map.proofs.nodes.CutNodes.{CutAt, slice_get-held}
-use Rattle.linked_hash_map.proofs.nodes.HeldPairs.{length-pairs_of}
-use Rattle.linked_hash_map.proofs.nodes.Kept.{distinct_keys, IsValid-kept}
+use Rattle.linked_hash_map.proofs.nodes.Current.{MovesCurrent-nodes}
+use Rattle.linked_hash_map.proofs.nodes.Kept.{distinct_keys}
 use Rattle.linked_hash_map.proofs.nodes.Outside.{IsElsewhere}
-use Rattle.linked_hash_map.proofs.nodes.ReplacedKey.{cursor_at-rekeyed, slice_get-rekeyed, length-rekeyed_nodes}
+use Rattle.linked_hash_map.proofs.nodes.ReplacedKey.{before-rekeyed, cursor_at-rekeyed, slice_get-rekeyed}
 use Rattle.linked_hash_map.proofs.nodes.ReplacedKey.{to_visit-rekeyed, set_key-rekeyed, IsKept-rekeyed}
 use Rattle.linked_hash_map.proofs.map.LinkedHashMap.replace_current_key.Goals as goal
 use Rattle.lhm_ring.proofs.lists.Options.{Some-injective}
@@ -58,33 +58,20 @@ returns-clause-pairs g c =
     rw (← c.self.view_is) (set_key-rekeyed (cut g c).held c.args.key c.replace_key.ensures.held g.met.K.Eq.laws (same g c)
     (distinct_keys c.self.inside.table.held c.self.invariant))
 
-pub returns-clause-pair : goal.returns-clause-pair
-returns-clause-pair g c =
-    let hs = c.self.inside.table.held in let ks = c.replace_key.new.self.held in let h = (cut g c).held in
-    rw (← c.self.view_is) (λ pair there.
-    let is = Some-injective _ _ (sym (slice_get-held h) ∙ ap (slice_get (pairs_of hs)) (sym (index g c)) ∙ there) in
-    let at = ap (λ cursor. cursor.current) (cursor_at-rekeyed h c.args.key c.replace_key.ensures.held (visit_of c.self.inside.visit)) in
-    ap (slice_get (pairs_of ks)) (at ∙ index g c)
-    ∙ slice_get-rekeyed h c.args.key c.replace_key.ensures.held
-    ∙ ap (λ p. Some (c.args.key, p.1)) is)
-
-pub returns-clause-len : goal.returns-clause-len
-returns-clause-len g c =
-    let hs = c.self.inside.table.held in let ks = c.replace_key.new.self.held in
-    rw (← c.self.view_is) (length-pairs_of ks
-    ∙ length-rekeyed_nodes (cut g c).held c.args.key c.replace_key.ensures.held ∙ sym (length-pairs_of hs))
-
-pub returns-clause-cursor : goal.returns-clause-cursor
-returns-clause-cursor g c =
-    rw (← c.self.view_is) (cursor_at-rekeyed (cut g c).held c.args.key c.replace_key.ensures.held (visit_of c.self.inside.visit))
-
-pub returns-clause-to_visit : goal.returns-clause-to_visit
-returns-clause-to_visit g c =
-    let hs = c.self.inside.table.held in let visit = visit_of c.self.inside.visit in
-    let elsewhere = IsElsewhere-current hs c.self.invariant (current_of-Some c.current.ensures c.unwrap-at.ensures)
-    c.args.self.now (ap (λ m. m.cursor) c.self.view_is) c.requires.outside in
-    rw (← c.self.view_is) (to_visit-rekeyed (cut g c).held c.args.key c.replace_key.ensures.held visit
-    (subst (λ i. IsElsewhere i visit (bare hs)) (sym (cut g c).long) elsewhere))
-
-pub returns-clause-stays_valid : goal.returns-clause-stays_valid
-returns-clause-stays_valid g c = IsValid-kept _ (invariant_of-self g c) refl refl refl
+pub returns-clause-moves : goal.returns-clause-moves
+returns-clause-moves g c =
+    let m = c.self.inside in let hs = m.table.held in let ks = c.replace_key.new.self.held in
+    let visit = visit_of m.visit in let h = (cut g c).held in let rekeyed = c.replace_key.ensures.held in
+    let is = current_of-Some c.current.ensures c.unwrap-at.ensures in
+    let as_before = before-rekeyed h c.args.key rekeyed (pointer_of c.unwrap-at.result) in
+    let bookmark = ap (λ cursor. cursor.bookmark) (cursor_at-rekeyed h c.args.key rekeyed visit) in
+    let elsewhere = IsElsewhere-current hs c.self.invariant is c.args.self.now (ap (λ m. m.cursor) c.self.view_is)
+    c.requires.outside in
+    rw (← c.self.view_is) (MovesCurrent-nodes m.table c.replace_key.new.self (beside m) is c.self.invariant
+    (λ pair there. ap (slice_get (pairs_of ks)) (as_before ∙ sym (cut g c).long) ∙ slice_get-rekeyed h c.args.key rekeyed
+    ∙ ap (λ p. Some (c.args.key, p.1))
+    (Some-injective _ _ (sym (slice_get-held h) ∙ ap (slice_get (pairs_of hs)) (cut g c).long ∙ there)))
+    c.replace_key.ensures.keeps
+    (to_visit-rekeyed h c.args.key rekeyed visit (subst (λ i. IsElsewhere i visit (bare hs)) (sym (cut g c).long) elsewhere))
+    (subst (λ (x : ℕ × ℕ). (x.0 < x.1) ⊎ (x.1 + visit.unvisited ≤ x.0)) (λ i. (sym as_before i, sym bookmark i)) elsewhere)
+    (invariant_of-self g c))
