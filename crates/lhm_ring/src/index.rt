@@ -4,7 +4,7 @@ ghost use Rattle.std.specs.Int.{IsNextPowerOfTwo};
 ghost use Rattle.lhm_ring.specs.Ring.{IsHeld};
 ghost use Rattle.lhm_ring.specs.Pointer.{pointer_of, pointer_of_some};
 ghost use Rattle.lhm_ring.specs.Buckets.{buckets, HasNoChain};
-ghost use Rattle.lhm_ring.specs.Search.{HasKey, IsAbsent};
+ghost use Rattle.lhm_ring.specs.Search.{HasKey, LacksKey};
 ghost use Rattle.lhm_ring.specs.Index.{Indexes, spots, OfNodeAt, entries, HoldsOthers, IsOnChain, PutsFirst};
 
 pub use crate::buckets::buckets_for;
@@ -201,7 +201,7 @@ impl<K: Eq + Hash, V> Index<K, V> {
         requires small { length ring.now.held < 2 ^ 64 }
         ensures found { IfSome result (λ p.
             HasKey (Q.equivalent key) hash ring.now.held (pointer_of p)) }
-        ensures absent { IfNone result (IsAbsent (Q.equivalent key) hash ring.now.held) }
+        ensures absent { IfNone result (LacksKey (Q.equivalent key) hash ring.now.held) }
     {
         if self.buckets() == 0 {
             return None;

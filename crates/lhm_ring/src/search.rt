@@ -2,8 +2,8 @@
 ghost use Rattle.std.specs.Prelude.{◌≡◌, Bool, ◌+◌, ◌%◌, ◌<◌, ◌≤◌, ◌^◌, ◌∷◌, [], length, None, Some, IfSome, IfNone, OnSome, slice_index_or};
 ghost use Rattle.lhm_ring.specs.Ring.{IsHeld};
 ghost use Rattle.lhm_ring.specs.Pointer.{pointer_of, pointer_of_some};
-ghost use Rattle.lhm_ring.specs.Index.{Indexes, spot, spots, same, OfNodeAt, entries, HoldsOthers};
-ghost use Rattle.lhm_ring.specs.Search.{Compares, FindsKey, FindsNone, HasKey, IsAbsent, CountsSome, CountsAll, IsPart};
+ghost use Rattle.lhm_ring.specs.Index.{Indexes, spot, spots, count_with_hash, OfNodeAt, entries, HoldsOthers};
+ghost use Rattle.lhm_ring.specs.Search.{Compares, FindsKey, FindsNone, HasKey, LacksKey, CountsSome, CountsAll, IsPart};
 
 use crate::index::Index;
 use crate::pointer::Position;
@@ -65,7 +65,7 @@ fn step<K: Eq + Hash, V, Q: Equivalent<K>>(
     requires order { probe.old.compared ≤ probe.old.visited }
     ensures visited { probe.new.visited ≡ probe.old.visited + 1 }
     ensures compared { OfNodeAt ring.now.held (pointer_of at) (λ x.
-        probe.new.compared ≡ probe.old.compared + same (spot x ∷ []) hash) }
+        probe.new.compared ≡ probe.old.compared + count_with_hash (spot x ∷ []) hash) }
     ensures found { OfNodeAt ring.now.held (pointer_of at) (λ x.
         Compares (Q.equivalent key) hash x result) }
 {
@@ -190,7 +190,7 @@ impl<K: Eq + Hash, V> Index<K, V> {
         requires small { length ring.now.held < 2 ^ 64 }
         ensures found { IfSome result.0 (λ p.
             HasKey (K.eq key.now) hash ring.now.held (pointer_of p)) }
-        ensures absent { IfNone result.0 (IsAbsent (K.eq key.now) hash ring.now.held) }
+        ensures absent { IfNone result.0 (LacksKey (K.eq key.now) hash ring.now.held) }
         ensures counts_found { OnSome result.0
             (CountsSome (spots ring.now.held) (length self.now.heads) hash result.1.visited
             result.1.compared) }
@@ -221,7 +221,7 @@ impl<K: Eq + Hash, V> Index<K, V> {
         ensures found { IfSome result (λ at.
             HasKey (Q.equivalent key) hash ring.new.held (pointer_of at)) }
         ensures lacks { IfSome result (λ at. HoldsOthers self.new ring.new.held (pointer_of at)) }
-        ensures absent { IfNone result (IsAbsent (Q.equivalent key) hash ring.old.held) }
+        ensures absent { IfNone result (LacksKey (Q.equivalent key) hash ring.old.held) }
         ensures unchanged { IfNone result (self.new ≡ self.old) }
         ensures ring_unchanged { IfNone result (ring.new ≡ ring.old) }
         ensures held { entries ring.new.held ≡ entries ring.old.held }

@@ -5,7 +5,7 @@ ghost use Rattle.lhm_ring.specs.Ring.{IsHeld, AtHeld, first_at, last_at, held, p
 ghost use Rattle.lhm_ring.specs.Pointer.{pointer_of, pointer_of_some};
 ghost use Rattle.lhm_ring.specs.Positions.{IsAt, index_of, to_back_at};
 ghost use Rattle.lhm_ring.specs.Index.{spots, entries};
-ghost use Rattle.lhm_ring.specs.Search.{HasKey, IsAbsent, CountsSome, CountsAll};
+ghost use Rattle.lhm_ring.specs.Search.{HasKey, LacksKey, CountsSome, CountsAll};
 ghost use Rattle.lhm_ring.specs.Buckets.{buckets};
 ghost use Rattle.lhm_ring.specs.Table.{KeepsCounts, Removes, WritesOnly};
 
@@ -339,7 +339,7 @@ impl<K: Eq + Hash, V> Table<K, V> {
     pub fn find(&self, hash: u64, key: &K) -> (Option<Position<K, V>>, Probe)
         ensures found { IfSome result.0 (λ p.
             HasKey (K.eq key.now) hash self.now.held (pointer_of p)) }
-        ensures absent { IfNone result.0 (IsAbsent (K.eq key.now) hash self.now.held) }
+        ensures absent { IfNone result.0 (LacksKey (K.eq key.now) hash self.now.held) }
         ensures counts_found { OnSome result.0
             (CountsSome (spots self.now.held) (buckets self.now.capacity) hash result.1.visited
             result.1.compared) }
@@ -355,7 +355,7 @@ impl<K: Eq + Hash, V> Table<K, V> {
     pub fn position<Q: Equivalent<K>>(&self, hash: u64, key: Q) -> Option<Position<K, V>>
         ensures found { IfSome result (λ p.
             HasKey (Q.equivalent key) hash self.now.held (pointer_of p)) }
-        ensures absent { IfNone result (IsAbsent (Q.equivalent key) hash self.now.held) }
+        ensures absent { IfNone result (LacksKey (Q.equivalent key) hash self.now.held) }
     {
         self.index.position(&self.ring, hash, key)
     }
@@ -364,7 +364,7 @@ impl<K: Eq + Hash, V> Table<K, V> {
     pub fn remove<Q: Equivalent<K>>(&mut self, hash: u64, key: Q) -> Option<(K, V)>
         ensures removed { IfSome result
             (Removes (Q.equivalent key) hash self.old.held self.new.held) }
-        ensures absent { IfNone result (IsAbsent (Q.equivalent key) hash self.old.held) }
+        ensures absent { IfNone result (LacksKey (Q.equivalent key) hash self.old.held) }
         ensures unchanged { IfNone result (self.new ≡ self.old) }
         ensures keeps { KeepsCounts self.old self.new }
     {

@@ -3,7 +3,7 @@ ghost use Rattle.std.specs.Prelude.{◌≡◌, List as Seq, Some};
 ghost use Rattle.std.specs.Borrow.{sem};
 ghost use base.Fml.{GName, ftrue, ffalse};
 ghost use denote.RawPtr.{Ptr};
-ghost use Rattle.lhm_ring.specs.ValueLoan.{borrowed, value_at, without_value, Lies};
+ghost use Rattle.lhm_ring.specs.ValueLoan.{borrowed, value_at, without_value, HasValueAt};
 
 use crate::iter::IterMut;
 use crate::nodes::Node;
@@ -47,7 +47,7 @@ impl<'a, L, K, V> Model for ValueLoan<'a, L, K, V> {
 impl<'a, L, K, V> ValueLoan<'a, L, K, V> {
     /// Returns a mutable reference to the value of the node at `at`.
     pub(crate) fn take(&mut self, at: NodePointer) -> &'a mut V
-        requires { Lies self.old.run at.ptr }
+        requires { HasValueAt self.old.run at.ptr }
         ensures value { value_at self.old.run at.ptr ≡ Some result.now }
         ensures run { self.new.run ≡ without_value at.ptr self.old.run }
         ensures tie { self.new.tie ≡ self.old.tie }

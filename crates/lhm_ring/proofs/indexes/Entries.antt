@@ -6,8 +6,8 @@ use Rattle.std.specs.Prelude.{count_by}
 use Rattle.std.proofs.lemmas.List.{map-append, length-map}
 use Rattle.lhm_ring.proofs.lists.RearrangedCounts.{count_by-cons}
 use Rattle.lhm_ring.specs.Ring.{Held, IsHeld, AtHeld, linked_to, first_at, last_at, last_of, change_at, triples, SplitAt, revalued}
-use Rattle.lhm_ring.specs.Index.{OfNodeAt, entries, spot, spots, same, beside}
-use Rattle.lhm_ring.specs.Search.{HasKey, IsAbsent, Compares, CountsSome, CountsAll}
+use Rattle.lhm_ring.specs.Index.{OfNodeAt, entries, spot, spots, count_with_hash, count_in_bucket}
+use Rattle.lhm_ring.specs.Search.{HasKey, LacksKey, Compares, CountsSome, CountsAll}
 use Rattle.lhm_ring.specs.Nodes.{same_ptr}
 
 pub entries-link : {K V : Type 0} (before : List (Held (K × V))) (x : Held (K × V))
@@ -133,9 +133,9 @@ module _ {K V : Type 0} where
       → HasKey is_key hash hs p → HasKey is_key hash (entries hs) p
   HasKey-entries is_key hash hs p h = HasKey-kept hs (entries hs) p (entries-entries hs) is_key hash h
 
-  pub IsAbsent-entries : (is_key : K → Bool) (hash : ℕ) (hs : List (Held (K × V)))
-      → IsAbsent is_key hash hs → IsAbsent is_key hash (entries hs)
-  IsAbsent-entries is_key hash hs none xs t ys e =
+  pub LacksKey-entries : (is_key : K → Bool) (hash : ℕ) (hs : List (Held (K × V)))
+      → LacksKey is_key hash hs → LacksKey is_key hash (entries hs)
+  LacksKey-entries is_key hash hs none xs t ys e =
       let k = (EntriesCut-split hs xs t ys e).split in
       subst (λ (u : Held (K × V)). Compares is_key hash u false) k.at_is (none k.before k.node k.after k.is)
 
@@ -148,19 +148,21 @@ module _ {K V : Type 0} where
       let right = count_by-cons (λ s. test s.hash) (spot t) (spots hs) in
       omega (arith, rest, left, right)
 
-  pub same-entries : (hs : List (Held (K × V))) (hash : ℕ) → same (spots (entries hs)) hash ≡ same (spots hs) hash
-  same-entries hs hash = count_by-entries (λ n. eqb n hash) hs
+  pub count_with_hash-entries : (hs : List (Held (K × V))) (hash : ℕ)
+      → count_with_hash (spots (entries hs)) hash ≡ count_with_hash (spots hs) hash
+  count_with_hash-entries hs hash = count_by-entries (λ n. eqb n hash) hs
 
-  pub beside-entries : (hs : List (Held (K × V))) (n hash : ℕ) → beside (spots (entries hs)) n hash ≡ beside (spots hs) n hash
-  beside-entries hs n hash = count_by-entries (λ m. eqb (m % n) (hash % n)) hs
+  pub count_in_bucket-entries : (hs : List (Held (K × V))) (n hash : ℕ)
+      → count_in_bucket (spots (entries hs)) n hash ≡ count_in_bucket (spots hs) n hash
+  count_in_bucket-entries hs n hash = count_by-entries (λ m. eqb (m % n) (hash % n)) hs
 
   pub CountsSome-entries : (hs : List (Held (K × V))) (m n hash visited compared : ℕ) → m ≡ n
       → CountsSome (spots hs) m hash visited compared → CountsSome (spots (entries hs)) n hash
       visited compared
   CountsSome-entries hs m n hash visited compared wide c =
-      let all = same-entries hs hash in
-      let near = beside-entries hs m hash in
-      let here = ap (λ k. beside (spots (entries hs)) k hash) wide in
+      let all = count_with_hash-entries hs hash in
+      let near = count_in_bucket-entries hs m hash in
+      let here = ap (λ k. count_in_bucket (spots (entries hs)) k hash) wide in
       record {
         some = c.some;
         compared_few = omega (arith, all, c.compared_few);
@@ -172,8 +174,8 @@ module _ {K V : Type 0} where
       → CountsAll (spots hs) m hash visited compared → CountsAll (spots (entries hs)) n hash visited
       compared
   CountsAll-entries hs m n hash visited compared wide c = record {
-    visited_all = c.visited_all ∙ sym (beside-entries hs m hash) ∙ ap (λ k. beside (spots (entries hs)) k hash) wide;
-    compared_all = c.compared_all ∙ sym (same-entries hs hash);
+    visited_all = c.visited_all ∙ sym (count_in_bucket-entries hs m hash) ∙ ap (λ k. count_in_bucket (spots (entries hs)) k hash) wide;
+    compared_all = c.compared_all ∙ sym (count_with_hash-entries hs hash);
   }
 
 -- nodes with the same entries are as many

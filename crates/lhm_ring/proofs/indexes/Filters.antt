@@ -12,7 +12,7 @@ use Rattle.lhm_ring.specs.declared.buckets.Word.{Word}
 use Rattle.lhm_ring.specs.Buckets.{bits_of, may_contain, SetsBit}
 use Rattle.lhm_ring.specs.Ring.{Held}
 use Rattle.lhm_ring.specs.Index.{PutsIn, is_in, Spot, spot, spots, entries, CoversAll}
-use Rattle.lhm_ring.specs.Search.{IsAbsent}
+use Rattle.lhm_ring.specs.Search.{LacksKey}
 
 -- the bit of the hash in a word
 abbrev has_bit : ℕ → ℕ → Bool
@@ -138,9 +138,9 @@ module _ (words : List ℕ) where
         CoversAll-hashes (spots old) (spots new) (hashes-spots old ∙ ap (map (λ t. t.hash)) (sym e) ∙ sym (hashes-spots new))
 
     -- no node has a hash whose bit is not set
-    pub IsAbsent-uncovered : (is_key : K → Bool) (hash : ℕ) (nodes : List (Held (K × V))) → CoversAll words (spots nodes)
-        → may_contain words hash ≡ false → IsAbsent is_key hash nodes
-    IsAbsent-uncovered is_key hash nodes c lacks before x after e =
+    pub LacksKey-uncovered : (is_key : K → Bool) (hash : ℕ) (nodes : List (Held (K × V))) → CoversAll words (spots nodes)
+        → may_contain words hash ≡ false → LacksKey is_key hash nodes
+    LacksKey-uncovered is_key hash nodes c lacks before x after e =
         let covers = subst (λ (zs : List (Held (K × V))). CoversAll words (spots zs)) e c in
         let own : may_contain words x.hash ≡ true = may_contain-covered (spot x)
         (spots (before ++ after)) (spots (before ++ x ∷ after)) (PutsIn-spots before x after) covers

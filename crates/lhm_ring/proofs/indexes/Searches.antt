@@ -16,23 +16,24 @@ use Rattle.lhm_ring.proofs.lists.Rearranged.{SplitAround-rearranged}
 use Rattle.lhm_ring.proofs.lists.RearrangedCounts.{count_by-IsRearranged, length-IsRearranged, count_by-cons, count_by-append}
 use Rattle.lhm_ring.proofs.indexes.Spots.{IsHeld-spot, PutsIn-bucket, OfNodeAt-spot}
 use Rattle.lhm_ring.specs.Ring.{Held, IsHeld}
-use Rattle.lhm_ring.specs.Index.{IsRearranged, IsChain, IsOnChain, is_in, HasChain, HasChains, Spot, spot, spots, same, beside, OfNodeAt}
+use Rattle.lhm_ring.specs.Index.{IsRearranged, IsChain, IsOnChain, is_in, HasChain, HasChains, Spot, spot, spots}
+use Rattle.lhm_ring.specs.Index.{count_with_hash, count_in_bucket, OfNodeAt}
 use Rattle.lhm_ring.specs.Search.{Compares, DifferAll, IsPart, FindsKey, FindsNone}
 
 -- ---- counts in the chain
 
 -- the nodes of a hash are all in its bucket
-same-filter : (n hash : ℕ) (xs : List Spot) → same (filter (is_in n (hash % n)) xs) hash ≡ same xs hash
-same-filter n hash [] = refl
-same-filter n hash (x ∷ xs) =
+count_with_hash-filter : (n hash : ℕ) (xs : List Spot) → count_with_hash (filter (is_in n (hash % n)) xs) hash ≡ count_with_hash xs hash
+count_with_hash-filter n hash [] = refl
+count_with_hash-filter n hash (x ∷ xs) =
     let q : Spot → Bool = is_in n (hash % n) in
     let p : Spot → Bool = λ v. eqb v.hash hash in
-    let i : same (filter q xs) hash ≡ same xs hash = same-filter n hash xs in
-    let cx : same (x ∷ xs) hash ≡ cond (p x) 1 0 + same xs hash = count_by-cons p x xs in
-    let goal : Type 0 = same (filter q (x ∷ xs)) hash ≡ same (x ∷ xs) hash in
-    let step : (b : Bool) → q x ≡ b → same (cond b (x ∷ filter q xs) (filter q xs)) hash ≡ same (x ∷ xs) hash =
+    let i : count_with_hash (filter q xs) hash ≡ count_with_hash xs hash = count_with_hash-filter n hash xs in
+    let cx : count_with_hash (x ∷ xs) hash ≡ cond (p x) 1 0 + count_with_hash xs hash = count_by-cons p x xs in
+    let goal : Type 0 = count_with_hash (filter q (x ∷ xs)) hash ≡ count_with_hash (x ∷ xs) hash in
+    let step : (b : Bool) → q x ≡ b → count_with_hash (cond b (x ∷ filter q xs) (filter q xs)) hash ≡ count_with_hash (x ∷ xs) hash =
     elim [
-      | true ↦ λ e. let cf : same (x ∷ filter q xs) hash ≡ cond (p x) 1 0 + same (filter q xs)
+      | true ↦ λ e. let cf : count_with_hash (x ∷ filter q xs) hash ≡ cond (p x) 1 0 + count_with_hash (filter q xs)
           hash = count_by-cons p x (filter q xs) in omega (arith, i, cx, cf)
       | false ↦ λ e.
           let off : p x ≡ false = ne_eqb x.hash hash (λ w. false≢true (sym e ∙ eq-eqb (x.hash % n) (hash % n) (ap (λ v. v % n) w))) in
@@ -41,12 +42,13 @@ same-filter n hash (x ∷ xs) =
     ] in
     step (q x) refl
 
-pub same-chain : (chain xs : List Spot) (n hash : ℕ) → IsRearranged chain (filter (is_in n (hash % n)) xs) → same chain hash ≡ same xs hash
-same-chain chain xs n hash h =
-    count_by-IsRearranged (λ v. eqb v.hash hash) chain (filter (is_in n (hash % n)) xs) h ∙ same-filter n hash xs
+pub count_with_hash-chain : (chain xs : List Spot) (n hash : ℕ) → IsRearranged chain (filter (is_in n (hash % n)) xs)
+    → count_with_hash chain hash ≡ count_with_hash xs hash
+count_with_hash-chain chain xs n hash h =
+    count_by-IsRearranged (λ v. eqb v.hash hash) chain (filter (is_in n (hash % n)) xs) h ∙ count_with_hash-filter n hash xs
 
 pub length-chain : (chain xs : List Spot) (n hash : ℕ)
-    → IsRearranged chain (filter (is_in n (hash % n)) xs) → length chain ≡ beside xs n hash
+    → IsRearranged chain (filter (is_in n (hash % n)) xs) → length chain ≡ count_in_bucket xs n hash
 length-chain chain xs n hash h =
     length-IsRearranged chain (filter (is_in n (hash % n)) xs) h ∙ length-filter (is_in n (hash % n)) xs
 
@@ -106,7 +108,7 @@ module _ {K V : Type 0} {is_key : K → Bool} {hash : ℕ} {heads : List (Option
   here-part Q f = OfNodeAt-spot Q (OnNode-on_chain IsOnChain-part).of IsOnChain-part.at_is f
 
   -- one more is visited
-  visited-more : visited + 1 + length IsOnChain-part.rest ≡ beside (spots nodes) (length heads) hash
+  visited-more : visited + 1 + length IsOnChain-part.rest ≡ count_in_bucket (spots nodes) (length heads) hash
   visited-more =
       let b : IsOnChain heads hash (spots nodes) before p = IsOnChain-part in
       let l = length-chain (b.done ++ b.here ∷ b.rest) (spots nodes) (length heads) hash b.holds in
@@ -120,10 +122,10 @@ module _ {K V : Type 0} {is_key : K → Bool} {hash : ℕ} {heads : List (Option
 
   -- its node is visited, and compared
   module _ {visited' compared' : ℕ} {equal : Bool} (v : visited' ≡ visited + 1)
-      (c : OfNodeAt nodes p (λ x. compared' ≡ compared + same (spot x ∷ []) hash))
+      (c : OfNodeAt nodes p (λ x. compared' ≡ compared + count_with_hash (spot x ∷ []) hash))
       (d : OfNodeAt nodes p (λ x. Compares is_key hash x equal)) where
-    compared-here : compared' ≡ compared + same (IsOnChain-part.here ∷ []) hash
-    compared-here = here-part (λ s. compared' ≡ compared + same (s ∷ []) hash) c
+    compared-here : compared' ≡ compared + count_with_hash (IsOnChain-part.here ∷ []) hash
+    compared-here = here-part (λ s. compared' ≡ compared + count_with_hash (s ∷ []) hash) c
 
     pub IsPart-more : {link : Option Ptr} → equal ≡ false → OfNodeAt nodes p (λ x. link ≡ x.link)
         → IsPart is_key hash heads nodes (Some p) link visited' compared'
@@ -155,13 +157,13 @@ module _ {K V : Type 0} {is_key : K → Bool} {hash : ℕ} {heads : List (Option
         let hit : OfNodeAt nodes p (λ x. eqb x.hash hash ≡ true) =
         λ xs x ys i j. and-left (eqb x.hash hash) (is_key x.pair.0) (sym on ∙ d xs x ys i j) in
         let unit = ap (λ u. 0 + cond {A = ℕ} u 1 0) (here-part (λ s. eqb s.hash hash ≡ true) hit) in
-        let one : compared' ≡ compared + same (b.here ∷ []) hash = compared-here in
+        let one : compared' ≡ compared + count_with_hash (b.here ∷ []) hash = compared-here in
         let split = count_by-append test b.done (b.here ∷ b.rest) in
         let first = count_by-append test (b.here ∷ []) b.rest in
-        let all : same (b.done ++ b.here ∷ b.rest) hash ≡ same (spots nodes) hash =
-        same-chain (b.done ++ b.here ∷ b.rest) (spots nodes) (length heads) hash b.holds in
-        let few : same b.done hash ≤ length b.done = count_by-le-length test b.done in
-        let ci : compared ≡ same b.done hash = w.compared_is in
+        let all : count_with_hash (b.done ++ b.here ∷ b.rest) hash ≡ count_with_hash (spots nodes) hash =
+        count_with_hash-chain (b.done ++ b.here ∷ b.rest) (spots nodes) (length heads) hash b.holds in
+        let few : count_with_hash b.done hash ≤ length b.done = count_by-le-length test b.done in
+        let ci : compared ≡ count_with_hash b.done hash = w.compared_is in
         record {
           on = b;
           has = record {
@@ -185,7 +187,7 @@ module _ {K V : Type 0} {is_key : K → Bool} {hash : ℕ} {heads : List (Option
       let off : OfNodeAt nodes p (λ x. eqb x.hash hash ≡ false) =
       λ xs x ys i j. ap (λ u. eqb u hash) (sym (h xs x ys i j)) ∙ not-left (eqb other hash) follows t in
       IsPart-more {equal = false} refl
-      (λ xs x ys i j. let none : same (spot x ∷ []) hash ≡ 0 = ap (λ u. 0 + cond {A = ℕ} u 1 0) (off xs x ys i j) in omega arith)
+      (λ xs x ys i j. let none : count_with_hash (spot x ∷ []) hash ≡ 0 = ap (λ u. 0 + cond {A = ℕ} u 1 0) (off xs x ys i j) in omega arith)
       (λ xs x ys i j. sym (ap (λ u. u && is_key x.pair.0) (off xs x ys i j))) refl l
 
 OfNodeAt-differs : {K V : Type 0} (is_key : K → Bool) (hash : ℕ)
@@ -208,7 +210,7 @@ FindsNone-part {K} {V} {is_key} {hash} {heads} {nodes} w none =
     let whole : w.done ++ w.rest ≡ w.done = append-end w.done w.rest
     (none-IsChain w.rest (subst (λ (v : Option Ptr). IsChain v w.rest) none w.next_is)) in
     let h = subst (λ (u : List Spot). IsRearranged u (filter q (spots nodes))) whole w.holds in
-    let all = same-chain w.done (spots nodes) n hash h in
+    let all = count_with_hash-chain w.done (spots nodes) n hash h in
     let long = length-chain w.done (spots nodes) n hash h in
     record {
       absent = λ before' x after' e.

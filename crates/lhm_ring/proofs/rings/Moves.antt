@@ -200,8 +200,8 @@ module _ {B : Type 0} {cs : List (Cell Links B)} {spare : Link} {n m : ℕ} {v :
     (ok : IsOwned cs spare n m) (w : state (ring_list cs n) m total ≡ v) where
   -- the nodes beside a held one are there
   module _ {p : Ptr} (h : IsHeld v.held p) where
-    pub is_there-beside : {l : Links} → links_at cs p ≡ Some l → (IsThere cs l.prev.ptr) × (IsThere cs l.next.ptr)
-    is_there-beside e =
+    pub is_there-neighbours : {l : Links} → links_at cs p ≡ Some l → (IsThere cs l.prev.ptr) × (IsThere cs l.next.ptr)
+    is_there-neighbours e =
         let s = NodeAt-held ok w p h in let T : Ptr → Type 0 = λ q. IsThere cs q in
         (subst T (ap prev_of e) (There-prev ok.ring s), subst T (ap next_of e) (There-next ok.ring s))
 

@@ -16,7 +16,7 @@ use Rattle.lhm_ring.proofs.tables.IndexedRing.{IsIndexed-value, IsIndexed-same_s
 use Rattle.lhm_ring.specs.Nodes.{IsApart}
 use Rattle.lhm_ring.specs.Ring.{Held, State, state, IsHeld, AtHeld, ChangesOnly, linked_to, first_at, change_at, triples, revalued, rekeyed}
 use Rattle.lhm_ring.specs.RingAfterLoan.{with_value}
-use Rattle.lhm_ring.specs.Index.{Indexes, PutsIn, spot, spots, same, entries, HoldsOthers}
+use Rattle.lhm_ring.specs.Index.{Indexes, PutsIn, spot, spots, entries, HoldsOthers}
 use Rattle.lhm_ring.specs.Buckets.{BucketState, buckets, rechained_raised, made_raised}
 use Rattle.lhm_ring.specs.Links.{nodes_grown, least_more}
 use Rattle.lhm_ring.specs.TableAfterLoan.{with_value as write}

@@ -9,7 +9,7 @@ use Rattle.linked_hash_map.specs.Nodes.{pairs_of, bare}
 use Rattle.linked_hash_map.specs.Pairs.{find}
 use Rattle.linked_hash_map.proofs.pairs.Calls.{lookup_entry-none}
 use Rattle.lhm_ring.specs.Ring.{Held}
-use Rattle.lhm_ring.specs.Search.{IsAbsent}
+use Rattle.lhm_ring.specs.Search.{LacksKey}
 
 -- no node with the hash of a key has that key
 module _ {A K V : Type 0} (eq : A → K → Bool) (hash_of : A → ℕ) (hash : K → ℕ)
@@ -23,13 +23,13 @@ module _ {A K V : Type 0} (eq : A → K → Bool) (hash_of : A → ℕ) (hash : 
       let same_hash : eqb t.hash n ≡ true = eq-eqb t.hash n (h ∙ sym (respects k t.pair.0 same) ∙ sym is) in
       sym (none ∙ ap (λ b. b && eq k t.pair.0) same_hash)
 
-  list_any-IsAbsent : (hs : List (Held (K × V)))
-      → AllByRecursion (λ u. u.hash ≡ hash u.pair) (bare hs) → IsAbsent (eq k) n hs
+  list_any-LacksKey : (hs : List (Held (K × V)))
+      → AllByRecursion (λ u. u.hash ≡ hash u.pair) (bare hs) → LacksKey (eq k) n hs
       → list_any (eq k) (keys_of (pairs_of hs)) ≡ false
-  list_any-IsAbsent [] h none = refl
-  list_any-IsAbsent (t ∷ hs) h none =
+  list_any-LacksKey [] h none = refl
+  list_any-LacksKey (t ∷ hs) h none =
       ap (λ b. b || list_any (eq k) (keys_of (pairs_of hs))) (eq-other_hash t h.0 (none [] t hs refl) (eq k t.pair.0) refl)
-      ∙ list_any-IsAbsent hs h.1 (λ xs x ys e. none (t ∷ xs) x ys (ap (λ l. t ∷ l) e))
+      ∙ list_any-LacksKey hs h.1 (λ xs x ys e. none (t ∷ xs) x ys (ap (λ l. t ∷ l) e))
 
 -- what looks up a key has the hash of the key, if the two are hashed by the same
 pub hash_by-respects : {A K S H : Type 0} {eq : A → K → Bool} {input_of : A → List (List ℕ)}
@@ -43,8 +43,8 @@ hash_by-respects finish write build respects hasher x y same =
 -- so a map of these nodes has no such key
 module _ {A K V S : Type 0} {eq : A → K → Bool} {hash_of : S → A → ℕ} {hash : S → K → ℕ}
     (respects : (hasher : S) (x : A) (y : K) → IsTrue (eq x y) → hash_of hasher x ≡ hash hasher y) where
-  pub find-IsAbsent : (hasher : S) (k : A) {n : ℕ} → n ≡ hash_of hasher k → (hs : List (Held (K × V)))
-      → AllByRecursion (λ u. u.hash ≡ hash hasher u.pair) (bare hs) → IsAbsent (eq k) n hs
+  pub find-LacksKey : (hasher : S) (k : A) {n : ℕ} → n ≡ hash_of hasher k → (hs : List (Held (K × V)))
+      → AllByRecursion (λ u. u.hash ≡ hash hasher u.pair) (bare hs) → LacksKey (eq k) n hs
       → find eq (pairs_of hs) k ≡ None
-  find-IsAbsent hasher k is hs hashed none = lookup_entry-none (eq k) (pairs_of hs)
-      (list_any-IsAbsent eq (hash_of hasher) (hash hasher) (respects hasher) k is hs hashed none)
+  find-LacksKey hasher k is hs hashed none = lookup_entry-none (eq k) (pairs_of hs)
+      (list_any-LacksKey eq (hash_of hasher) (hash hasher) (respects hasher) k is hs hashed none)

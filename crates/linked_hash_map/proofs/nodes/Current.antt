@@ -6,12 +6,12 @@ use Rattle.lhm_ring.specs.declared.pointer.Position.{Position}
 use Rattle.linked_hash_map.specs.LinkedMap.{LinkedMap, CursorState}
 use Rattle.linked_hash_map.specs.Changes.{MovesCurrent}
 use Rattle.linked_hash_map.specs.Cursor.{IsOutside}
-use Rattle.linked_hash_map.specs.Nodes.{VisitState, no_visit, bare, current_at, cursor_at, Lies, IsKept}
+use Rattle.linked_hash_map.specs.Nodes.{VisitState, bare, current_at, cursor_at, Lies, IsKept}
+use Rattle.linked_hash_map.proofs.nodes.Kept.{no_visit, IsValid-kept}
 use Rattle.lhm_ring.specs.Positions.{index_of}
 use Rattle.linked_hash_map.specs.Nodes.{Beside, pairs_of, map_of}
 use Rattle.linked_hash_map.proofs.nodes.HeldPairs.{length-bare, before-bare}
 use Rattle.linked_hash_map.proofs.nodes.CutNodes.{CutAt, CutAt-before}
-use Rattle.linked_hash_map.proofs.nodes.Kept.{IsValid-kept}
 use Rattle.linked_hash_map.proofs.nodes.Outside.{IsElsewhere, to_visit_of}
 use Rattle.lhm_ring.specs.Pointer.{pointer_of, pointer_of_some}
 use Rattle.lhm_ring.specs.Ring.{Held}

@@ -3,7 +3,8 @@ use Rattle.std.proofs.Common.{◌≡◌, ℕ, Bool, List, [], ◌∷◌, map, le
 use Rattle.std.specs.List.{IsDistinct, AllByRecursion}
 use Rattle.std.specs.Map.{keys_of}
 use Rattle.lhm_ring.proofs.indexes.Entries.{length-same_triples}
-use Rattle.linked_hash_map.specs.Nodes.{VisitState, no_visit, IsKept, pairs_of, bare}
+use Rattle.linked_hash_map.specs.Nodes.{VisitState, IsKept, pairs_of, bare}
+use Rattle.linked_hash_map.proofs.nodes.Kept.{no_visit}
 use Rattle.linked_hash_map.proofs.nodes.HeldPairs.{length-bare, keys-bare, pairs-triples}
 use Rattle.lhm_ring.specs.Ring.{Held, triples}
 

@@ -27,9 +27,9 @@ module _ {K V : Type 0} (hash : K → ℕ) where
 module _ {K V : Type 0} {eq : K → K → Bool} {hash : K → ℕ} (hs : List (Held (K × V)))
     {capacity : ℕ} {visit : VisitState} (kept : IsKept eq hash (bare hs) capacity visit) (k : K)
     {n : ℕ} (is : n ≡ hash k) where
-  pub same-spots : nodes.same (spots hs) n ≡ same hash (pairs_of hs) k
-  same-spots = ap (nodes.same (spots hs)) is ∙ count_by-spots hash (λ n. eqb n (hash k)) hs kept.hashed
+  pub count_with_hash-spots : nodes.count_with_hash (spots hs) n ≡ same hash (pairs_of hs) k
+  count_with_hash-spots = ap (nodes.count_with_hash (spots hs)) is ∙ count_by-spots hash (λ n. eqb n (hash k)) hs kept.hashed
 
-  pub beside-spots : nodes.beside (spots hs) (buckets capacity) n ≡ beside hash (pairs_of hs) capacity k
-  beside-spots = ap (nodes.beside (spots hs) (buckets capacity)) is
+  pub count_in_bucket-spots : nodes.count_in_bucket (spots hs) (buckets capacity) n ≡ beside hash (pairs_of hs) capacity k
+  count_in_bucket-spots = ap (nodes.count_in_bucket (spots hs) (buckets capacity)) is
       ∙ count_by-spots hash (λ m. eqb (m % buckets capacity) (hash k % buckets capacity)) hs kept.hashed

@@ -9,7 +9,8 @@ use Rattle.std.specs.Cmp.{IsEquivalence}
 use denote.RawPtr.{Ptr}
 use Rattle.linked_hash_map.specs.declared.map.Mode.{Mode}
 use Rattle.linked_hash_map.specs.declared.map.Mode.TheVariants.{Touch, Keep}
-use Rattle.linked_hash_map.specs.Nodes.{VisitState, no_visit, pairs_of, bare, IsKept}
+use Rattle.linked_hash_map.specs.Nodes.{VisitState, pairs_of, bare, IsKept}
+use Rattle.linked_hash_map.proofs.nodes.Kept.{no_visit, IsKept-same}
 use Rattle.lhm_ring.specs.Positions.{index_of, to_back_at}
 use Rattle.linked_hash_map.specs.Pairs.{value_at, put}
 use Rattle.linked_hash_map.specs.Indexes.{IsIndex, set_value_at}
@@ -20,7 +21,6 @@ use Rattle.linked_hash_map.proofs.pairs.Calls.{set_or_push-present}
 use Rattle.linked_hash_map.proofs.nodes.HeldPairs.{bare-change, before-bare, length-bare, length-pairs_of, length-same}
 use Rattle.linked_hash_map.proofs.nodes.CutNodes.{CutAt, CutAt-before, slice_get-held, pairs_of-change_at}
 use Rattle.linked_hash_map.proofs.nodes.Current.{IsKept-visited}
-use Rattle.linked_hash_map.proofs.nodes.Kept.{IsKept-same}
 use Rattle.linked_hash_map.proofs.nodes.MovedNode.{pairs-moved, length-moved, IsKept-moved, to_visit-moved, behind-moved}
 use Rattle.linked_hash_map.proofs.nodes.Outside.{IsElsewhere, to_visit_at, to_visit_of, to_visit-bare}
 use Rattle.lhm_ring.specs.Ring.{Held, AtHeld, change_at, revalued}

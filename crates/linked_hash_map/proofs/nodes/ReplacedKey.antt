@@ -8,7 +8,8 @@ use Rattle.std.specs.Map.{keys_of}
 use Rattle.std.proofs.Math.Seq.{set-append_seam}
 use Rattle.std.proofs.lemmas.List.{map-append, map-set}
 use denote.RawPtr.{Ptr}
-use Rattle.linked_hash_map.specs.Nodes.{VisitState, no_visit, Lies, bookmark_at, current_at, cursor_at, IsKept}
+use Rattle.linked_hash_map.specs.Nodes.{VisitState, Lies, bookmark_at, current_at, cursor_at, IsKept}
+use Rattle.linked_hash_map.proofs.nodes.Kept.{no_visit}
 use Rattle.linked_hash_map.specs.Nodes.{pairs_of, bare, bare_node}
 use Rattle.lhm_ring.specs.Positions.{index_of}
 use Rattle.linked_hash_map.specs.Pairs.{set_key}

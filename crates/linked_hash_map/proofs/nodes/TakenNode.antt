@@ -3,11 +3,11 @@ use Rattle.std.proofs.Common.{◌≡◌, ℕ, ◌<◌, inr, Bool, List, map, len
 use Rattle.std.specs.List.{IsDistinct}
 use Rattle.std.proofs.lemmas.List.Edits.{length-remove}
 use Rattle.lhm_ring.proofs.tables.Positions.{map-remove}
-use Rattle.linked_hash_map.specs.Nodes.{VisitState, no_visit, pairs_of, bare, bare_node, IsKept}
+use Rattle.linked_hash_map.specs.Nodes.{VisitState, pairs_of, bare, bare_node, IsKept}
+use Rattle.linked_hash_map.proofs.nodes.Kept.{no_visit, IsKept-same}
 use Rattle.linked_hash_map.proofs.lists.Distinct.{all_removed, distinct_removed}
 use Rattle.linked_hash_map.proofs.nodes.Current.{IsKept-visited}
 use Rattle.linked_hash_map.proofs.nodes.HeldPairs.{length-bare}
-use Rattle.linked_hash_map.proofs.nodes.Kept.{IsKept-same}
 use Rattle.linked_hash_map.proofs.nodes.Outside.{IsElsewhere, to_visit_at, to_visit_of, to_visit-bare, in_reach-out, to_visit-out}
 use Rattle.lhm_ring.specs.Ring.{Held}
 

@@ -1,6 +1,6 @@
 //! The index, beside its ring.
 ghost use Rattle.std.specs.Prelude.{◌≡◌, ◌+◌, ◌<◌, IfNone, OnOk, OnErr};
-ghost use Rattle.lhm_ring.specs.Search.{IsAbsent};
+ghost use Rattle.lhm_ring.specs.Search.{LacksKey};
 
 use super::support::checks::check_eq;
 use lhm_ring::index::{Index, Probe, buckets_for};
@@ -100,7 +100,7 @@ impl<K: Eq + Hash, V> Table<K, V> {
     }
 
     fn remove(&mut self, hash: u64, key: &K) -> Option<(u64, K, V)>
-        ensures absent { IfNone result (IsAbsent (K.eq key.now) hash self.old.held) }
+        ensures absent { IfNone result (LacksKey (K.eq key.now) hash self.old.held) }
     {
         let _len = self.ring.len();
         let at = self.index.take_out(&mut self.ring, hash, key).0?;

@@ -1,12 +1,12 @@
 use Rattle.std.proofs.Common.{ap, sym, refl, ◌∙◌, subst, ◌<◌, ℕ, length, None, get_or}
-use Rattle.lhm_ring.proofs.indexes.Filters.{IsAbsent-uncovered}
+use Rattle.lhm_ring.proofs.indexes.Filters.{LacksKey-uncovered}
 use Rattle.lhm_ring.proofs.indexes.Searches.{IsPart-first, FindsNone-part}
 use Rattle.lhm_ring.proofs.index.Index.position.Goals as goal
 use Rattle.lhm_ring.specs.Pointer.{pointer_of_some}
 
 pub returns-then-not-may_contain-clause-absent : goal.returns-then-not-may_contain-clause-absent
 returns-then-not-may_contain-clause-absent g c =
-    IsAbsent-uncovered c.args.self.now.words (g.Q.Equivalent.equivalent c.args.key) c.args.hash
+    LacksKey-uncovered c.args.self.now.words (g.Q.Equivalent.equivalent c.args.key) c.args.hash
     c.args.ring.now.held c.requires.indexed.covers (sym c.may_contain.ensures ∙ c.if-not-may_contain.true)
 
 -- a bucket without a node

@@ -1,5 +1,5 @@
 use Rattle.std.proofs.Common.{◌∙◌, ap, sym, subst}
-use Rattle.lhm_ring.proofs.rings.Moves.{is_there-beside, is_there-moving, IsOwned-moved, AtHeld-moved}
+use Rattle.lhm_ring.proofs.rings.Moves.{is_there-neighbours, is_there-moving, IsOwned-moved, AtHeld-moved}
 use Rattle.lhm_ring.proofs.rings.RingCells.{links_at-ring_cells, prev_at-null, is_there-nowhere, led_to-some, led_to-none, IsJoined-same}
 use Rattle.lhm_ring.proofs.rings.HeldPointers.{IsApart-held}
 use Rattle.lhm_ring.proofs.memory.Places.{IsLaid-same}
@@ -13,7 +13,7 @@ links-links-requires g c = IsAt-inside c.self.inside c.self.invariant c.self.vie
 pub join-requires : goal.join-requires
 join-requires g c =
     let i = c.self.inside in let p = c.args.at.pointer.ptr in
-    is_there-beside c.self.invariant.ring c.self.view_is c.requires
+    is_there-neighbours c.self.invariant.ring c.self.view_is c.requires
     (links_at-ring_cells i.ends i.nodes.cells p c.args.at.block ∙ c.links-links.ensures)
 
 pub join-requires-2 : goal.join-requires-2

@@ -3,7 +3,7 @@ use Rattle.lhm_ring.proofs.rings.ReadAtPosition.{hash-held}
 use Rattle.lhm_ring.proofs.rings.RingCells.{IsAt-in_nodes, Holds-in_nodes, links_at-ring_cells}
 use Rattle.lhm_ring.proofs.rings.RingCells.{body_at-ring_cells, ring_cells-with_body}
 use Rattle.lhm_ring.proofs.rings.RingCells.{ChainsTo-ring_cells}
-use Rattle.lhm_ring.proofs.rings.Moves.{is_there-beside}
+use Rattle.lhm_ring.proofs.rings.Moves.{is_there-neighbours}
 use Rattle.lhm_ring.proofs.rings.PutBackAndUnlink.{Holds-unlinked, IsAt-unlinked, count-held}
 use Rattle.lhm_ring.proofs.rings.PutBackAndUnlink.{IsOwned-unlinked, ring_list-unlinked}
 use Rattle.lhm_ring.proofs.rings.PutBackAndUnlink.{pair-unlinked}
@@ -17,7 +17,7 @@ links-old-requires g c = IsAt-inside c.self.inside c.self.invariant c.self.view_
 pub join-requires : goal.join-requires
 join-requires g c =
     let i = c.self.inside in let p = c.args.at.pointer.ptr in
-    is_there-beside c.self.invariant.ring c.self.view_is c.requires
+    is_there-neighbours c.self.invariant.ring c.self.view_is c.requires
     (links_at-ring_cells i.ends i.nodes.cells p c.args.at.block ∙ c.links-old.ensures)
 
 pub take-key-requires : goal.take-key-requires

@@ -1,6 +1,6 @@
 use Rattle.std.proofs.lemmas.Option.{IfSome_then}
 use Rattle.lhm_ring.proofs.lists.Options.{OnSome-then, IfNone-then}
-use Rattle.lhm_ring.proofs.indexes.Entries.{HasKey-entries, IsAbsent-entries, CountsSome-entries, CountsAll-entries}
+use Rattle.lhm_ring.proofs.indexes.Entries.{HasKey-entries, LacksKey-entries, CountsSome-entries, CountsAll-entries}
 use Rattle.lhm_ring.proofs.table.Table.find.Goals as goal
 use Rattle.lhm_ring.specs.Pointer.{pointer_of}
 
@@ -11,7 +11,7 @@ returns-clause-found g c = rw (← c.self.view_is) (IfSome_then c.find.result.0 
 
 pub returns-clause-absent : goal.returns-clause-absent
 returns-clause-absent g c = rw (← c.self.view_is) (IfNone-then c.find.result.0 c.find.ensures.absent
-    (λ h. IsAbsent-entries (g.K.PartialEq.eq c.args.key.now) c.args.hash c.self.inside.ring.held h))
+    (λ h. LacksKey-entries (g.K.PartialEq.eq c.args.key.now) c.args.hash c.self.inside.ring.held h))
 
 pub returns-clause-counts_found : goal.returns-clause-counts_found
 returns-clause-counts_found g c = rw (← c.self.view_is)

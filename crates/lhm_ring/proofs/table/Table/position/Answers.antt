@@ -1,6 +1,6 @@
 use Rattle.std.proofs.lemmas.Option.{IfSome_then}
 use Rattle.lhm_ring.proofs.lists.Options.{IfNone-then}
-use Rattle.lhm_ring.proofs.indexes.Entries.{HasKey-entries, IsAbsent-entries}
+use Rattle.lhm_ring.proofs.indexes.Entries.{HasKey-entries, LacksKey-entries}
 use Rattle.lhm_ring.proofs.table.Table.position.Goals as goal
 use Rattle.lhm_ring.specs.Pointer.{pointer_of}
 
@@ -12,4 +12,4 @@ returns-clause-found g c =
 pub returns-clause-absent : goal.returns-clause-absent
 returns-clause-absent g c =
     rw (← c.self.view_is) (IfNone-then c.position.result c.position.ensures.absent
-    (λ h. IsAbsent-entries (g.Q.Equivalent.equivalent c.args.key) c.args.hash c.self.inside.ring.held h))
+    (λ h. LacksKey-entries (g.Q.Equivalent.equivalent c.args.key) c.args.hash c.self.inside.ring.held h))

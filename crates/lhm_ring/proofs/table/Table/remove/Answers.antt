@@ -1,5 +1,5 @@
 use Rattle.std.proofs.Common.{◌≡◌, ◌++◌, sym, ap, ◌∙◌, arith}
-use Rattle.lhm_ring.proofs.indexes.Entries.{HasKey-kept, IsAbsent-entries, HasKey-entries, entries-append}
+use Rattle.lhm_ring.proofs.indexes.Entries.{HasKey-kept, LacksKey-entries, HasKey-entries, entries-append}
 use Rattle.lhm_ring.proofs.tables.Tables.{AtHeld-same_entries, length-capacity, IsTable-removed, length-with_spares}
 use Rattle.lhm_ring.proofs.table.Table.remove.Goals as goal
 use Rattle.lhm_ring.specs.Pointer.{pointer_of}
@@ -9,7 +9,7 @@ pub returns-in_err-at-clause-absent : goal.returns-in_err-at-clause-absent
 returns-in_err-at-clause-absent g c =
     let absent = rw c.in_err-at.was at c.take_out.ensures.absent in
     rw (c.from_residual.ensures, ← c.self.view_is)
-    (IsAbsent-entries (g.Q.Equivalent.equivalent c.args.key) c.args.hash c.self.inside.ring.held absent)
+    (LacksKey-entries (g.Q.Equivalent.equivalent c.args.key) c.args.hash c.self.inside.ring.held absent)
 
 pub invariant_of-self-2 : goal.invariant_of-self-2
 invariant_of-self-2 g c =

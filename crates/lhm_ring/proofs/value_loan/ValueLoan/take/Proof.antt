@@ -25,7 +25,7 @@ use Rattle.lhm_ring.specs.contracts.value_loan.ValueLoan.take.{ended, clauses}
 use Rattle.lhm_ring.specs.contracts.value_loan.ValueLoan.take.Key.{name as #self}
 use Rattle.lhm_ring.proofs.value_loan.ValueLoan.take.Statement.{statement}
 use Rattle.lhm_ring.proofs.value_loan.ValueLoan.take.Code as code
-use Rattle.lhm_ring.specs.ValueLoan.{borrowed, spread, Spread, value_at, without_value, Lies}
+use Rattle.lhm_ring.specs.ValueLoan.{borrowed, spread, Spread, value_at, without_value, HasValueAt}
 use Rattle.lhm_ring.specs.Nodes.{value_address}
 
 pub take_spec : {M : Type 1} → statement M
@@ -47,7 +47,7 @@ take_spec 𝓤 𝓛 𝓜 𝓡 wired L K V LL LK LV =
     let d : ValueLoan L.Denot K.Denot V.Denot = a.0.now in let p : Ptr = a.1.0.ptr in
     let It : RattleType = L-type.the_row (named_lft 5 1 tt κs) R S W in let κ : Lft = κs.1.0 in
     let q = qs.1.0 in let f : Ptr → Ptr = value_address R S W in
-    let Asked : Type 0 = Lies d.run p in
+    let Asked : Type 0 = HasValueAt d.run p in
     qed 𝓛 (((‵ (flft κs.0 qs.0) ⊛ ‵ (tokens 4 κs.1 qs.1)) ⊛ ‵
     (owns (types_at En.signature.params κs) a vss)) ∷ raw (fact 𝓤 _) ∷ raw (fact 𝓤 _) ∷ raw
     (fact 𝓤 _) ∷ raw (fact 𝓤 Asked) ∷ []) ∵

@@ -1,11 +1,11 @@
 use Rattle.std.proofs.Common.{◌≤◌, Some, option_map, sym, ap, ◌∙◌, subst}
-use Rattle.linked_hash_map.proofs.nodes.LookupCounts.{same-spots, beside-spots}
+use Rattle.linked_hash_map.proofs.nodes.LookupCounts.{count_with_hash-spots, count_in_bucket-spots}
 use Rattle.linked_hash_map.proofs.pairs.Indexes.{value_at-index}
 use Rattle.linked_hash_map.proofs.lists.Options.{of-Some, of-None, of-OnSome}
 use Rattle.linked_hash_map.proofs.nodes.FoundKeys.{IsIndex-HasKey}
 use Rattle.linked_hash_map.proofs.nodes.CutNodes.{slice_get-held}
 use Rattle.linked_hash_map.proofs.nodes.Kept.{distinct_keys}
-use Rattle.linked_hash_map.proofs.nodes.AbsentKeys.{hash_by-respects, find-IsAbsent}
+use Rattle.linked_hash_map.proofs.nodes.AbsentKeys.{hash_by-respects, find-LacksKey}
 use Rattle.linked_hash_map.proofs.map.LinkedHashMap.get_counted.Goals as goal
 
 pub returns-in-Some-clause-value : goal.returns-in-Some-clause-value
@@ -20,21 +20,21 @@ pub returns-in-Some-clause-compared_few : goal.returns-in-Some-clause-compared_f
 returns-in-Some-clause-compared_few g c =
     let counts = of-OnSome c.in-Some.is c.find-found.ensures.counts_found in
     rw (← c.self.view_is) (subst (λ n. c.find-found.result.1.compared ≤ n)
-    (same-spots c.self.inside.table.held c.self.invariant c.args.key.now c.hash_one-hash.ensures)
+    (count_with_hash-spots c.self.inside.table.held c.self.invariant c.args.key.now c.hash_one-hash.ensures)
     counts.compared_few)
 
 pub returns-in-Some-clause-visited_few : goal.returns-in-Some-clause-visited_few
 returns-in-Some-clause-visited_few g c =
     let counts = of-OnSome c.in-Some.is c.find-found.ensures.counts_found in
     rw (← c.self.view_is) (subst (λ n. c.find-found.result.1.visited ≤ n)
-    (beside-spots c.self.inside.table.held c.self.invariant c.args.key.now c.hash_one-hash.ensures)
+    (count_in_bucket-spots c.self.inside.table.held c.self.invariant c.args.key.now c.hash_one-hash.ensures)
     counts.visited_few)
 
 pub returns-in-None-clause-value : goal.returns-in-None-clause-value
 returns-in-None-clause-value g c =
     let m = c.self.inside in
     rw (← c.self.view_is) (sym (ap (option_map (λ pair. pair.1))
-    (find-IsAbsent (hash_by-respects g.S.Hasher.Hasher.finish
+    (find-LacksKey (hash_by-respects g.S.Hasher.Hasher.finish
     g.S.Hasher.Hasher.write g.S.BuildHasher.build_hasher g.met.K.Hash.respects_eq) m.hasher
     c.args.key.now c.hash_one-hash.ensures m.table.held c.self.invariant.hashed
     (of-None c.in-None.is c.find-found.ensures.absent))))
@@ -43,10 +43,10 @@ pub returns-in-None-clause-compared : goal.returns-in-None-clause-compared
 returns-in-None-clause-compared g c =
     let counts = of-None c.in-None.is c.find-found.ensures.counts_absent in
     rw (← c.self.view_is) (counts.compared_all
-    ∙ same-spots c.self.inside.table.held c.self.invariant c.args.key.now c.hash_one-hash.ensures)
+    ∙ count_with_hash-spots c.self.inside.table.held c.self.invariant c.args.key.now c.hash_one-hash.ensures)
 
 pub returns-in-None-clause-visited : goal.returns-in-None-clause-visited
 returns-in-None-clause-visited g c =
     let counts = of-None c.in-None.is c.find-found.ensures.counts_absent in
     rw (← c.self.view_is) (counts.visited_all
-    ∙ beside-spots c.self.inside.table.held c.self.invariant c.args.key.now c.hash_one-hash.ensures)
+    ∙ count_in_bucket-spots c.self.inside.table.held c.self.invariant c.args.key.now c.hash_one-hash.ensures)

@@ -5,7 +5,7 @@ use Rattle.linked_hash_map.specs.Pairs.{find}
 use Rattle.linked_hash_map.proofs.lists.Options.{of-Some, of-None}
 use Rattle.linked_hash_map.proofs.pairs.Calls.{filter-none}
 use Rattle.linked_hash_map.proofs.nodes.Kept.{distinct_keys, IsValid-kept}
-use Rattle.linked_hash_map.proofs.nodes.AbsentKeys.{hash_by-respects, find-IsAbsent}
+use Rattle.linked_hash_map.proofs.nodes.AbsentKeys.{hash_by-respects, find-LacksKey}
 use Rattle.linked_hash_map.proofs.nodes.FoundKeys.{before-HasKey}
 use Rattle.linked_hash_map.proofs.nodes.StoredKeys.{find-stored, without-stored, UpdatesBy-without, length-without_stored, UpdatesBy-absent}
 use Rattle.linked_hash_map.proofs.nodes.TakenNode.{IsKept-removed}
@@ -18,7 +18,7 @@ use Rattle.lhm_ring.specs.Table.{TableState}
 absent : (g : _) (c : goal.After-from_residual g) → find g.Q.Equivalent.equivalent c.args.self.now.pairs c.args.key ≡ None
 absent g c =
     let m = c.self.inside in
-    rw (← c.self.view_is) (find-IsAbsent (hash_by-respects g.S.Hasher.Hasher.finish
+    rw (← c.self.view_is) (find-LacksKey (hash_by-respects g.S.Hasher.Hasher.finish
     g.S.Hasher.Hasher.write g.S.BuildHasher.build_hasher g.met.Q.Equivalent.respects_hash) m.hasher
     c.args.key c.hash_one-hash.ensures m.table.held c.self.invariant.hashed (of-None c.in_err-pair.was c.remove.ensures.absent))
 

@@ -1,7 +1,7 @@
 use Rattle.std.proofs.Common.{subst}
 use Rattle.std.proofs.lemmas.Option.{IfSome_then}
 use Rattle.std.specs.List.{IsDistinct}
-use Rattle.linked_hash_map.proofs.nodes.AbsentKeys.{hash_by-respects, find-IsAbsent}
+use Rattle.linked_hash_map.proofs.nodes.AbsentKeys.{hash_by-respects, find-LacksKey}
 use Rattle.linked_hash_map.proofs.nodes.HeldPairs.{keys-bare}
 use Rattle.linked_hash_map.proofs.nodes.StoredKeys.{find-stored}
 use Rattle.linked_hash_map.proofs.map.get.locate.Goals as goal
@@ -17,6 +17,6 @@ returns-clause-found g c =
 
 pub returns-clause-absent : goal.returns-clause-absent
 returns-clause-absent g c = IfNone-then c.position.result c.position.ensures.absent
-    (find-IsAbsent (hash_by-respects g.S.Hasher.Hasher.finish g.S.Hasher.Hasher.write
+    (find-LacksKey (hash_by-respects g.S.Hasher.Hasher.finish g.S.Hasher.Hasher.write
     g.S.BuildHasher.build_hasher g.met.Q.Equivalent.respects_hash) c.args.hasher.now
     c.args.key c.hash_one-hash.ensures c.args.table.now.held c.requires.hashed)
