@@ -30,8 +30,8 @@ module _ {F K V : Type 0} (T : F → K → V → Bool → V → F → Type 0) wh
     pub now_is : now ≡ kept ++ rest
     pub next_is : next ≡ first_at rest
     pub callable : CallableOnEachPair T Q f (map (λ t. t.pair) rest)
-    pub ends : (last : List (Held (K × V))) → RetainsHeld f rest last
-        → RetainsHeld start old (kept ++ last)
+    pub ends : (last : List (Held (K × V))) → RetainsHeld T f rest last
+        → RetainsHeld T start old (kept ++ last)
 
 -- what a node holds is written twice
 module _ {L B : Type 0} where
