@@ -1,5 +1,5 @@
 -- What `extend` and `extend_refs` have inserted, one step after another.
-use Rattle.std.proofs.Common.{◌≡◌, ◌+◌, ◌-◌, ◌<◌, ◌≤◌, ◌⊎◌, ℕ, Bool, List, [], ◌∷◌, ◌++◌, length, map, Option, Some, None}
+use Rattle.std.proofs.Common.{◌≡◌, ◌+◌, ◌-◌, ◌<◌, ◌≤◌, ◌⊎◌, ℕ, Bool, List, [], ◌∷◌, ◌++◌, length, max, map, Option, Some, None}
 use Rattle.std.proofs.Common.{OnSome, IfNone, IsSome, inl, inr, take, drop, refl, sym, ap, ◌∙◌, subst, arith, length-append}
 use Rattle.std.proofs.Math.Nat.{eq-or-lt_of_le}
 use Rattle.std.proofs.Math.Seq.{drop-nil, take-nil}
@@ -7,8 +7,9 @@ use Rattle.std.specs.List.{IsDistinct}
 use Rattle.std.specs.Map.{keys_of}
 use Rattle.std.specs.Iterator.{Count, IsFinite, size, MakesProgress, YieldsThen}
 use Rattle.std.specs.Cmp.{IsEquivalence}
-use Rattle.std.proofs.lemmas.List.{map-append, map-id, length-map}
+use Rattle.std.proofs.lemmas.List.{map-append, length-map}
 use Rattle.linked_hash_map.specs.LinkedMap.{LinkedMap}
+use Rattle.linked_hash_map.specs.Changes.{KeepsSettings}
 use Rattle.linked_hash_map.specs.Counts.{rechained_each, made_each}
 use Rattle.linked_hash_map.specs.Inserts.{insert_each, InsertsUntil, LeavesVisit, ExtendsWith, CollectsInto, IsNewDefault}
 use Rattle.linked_hash_map.specs.Cursor.{to_visit}
@@ -123,25 +124,24 @@ module _ {I X K V S : Type 0} {eq : K → K → Bool} (laws : IsEquivalence eq) 
       subst (LeavesVisit (length came) old) (sym unchanged) so_far.visit,
     )
 
--- the items that came so far went in
-module _ {I X K V S : Type 0} {eq : K → K → Bool} {shows : X → K × V} {remaining : I → Count}
-    {old new : LinkedMap K V S} {start now : I} {came : List X} where
-  pub ExtendsWith-IsExtended : IsExtended eq shows remaining old start now came new → ExtendsWith eq old (map shows came) new
-  ExtendsWith-IsExtended so_far = record {
-    pairs = so_far.inserted.pairs;
-    capacity = so_far.inserted.capacity;
-    rechained = so_far.inserted.rechained;
-    made = so_far.inserted.made;
-    settings = so_far.inserted.settings;
-    visit = subst (λ n. LeavesVisit n old new) (sym (length-map came shows)) so_far.visit;
-    valid = so_far.valid;
-  }
-
-pub ExtendsWith-pairs : {I K V S : Type 0} {eq : K → K → Bool} {remaining : I → Count}
-    {old new : LinkedMap K V S} {start now : I} {came : List (K × V)}
-    → IsExtended eq (λ pair. pair) remaining old start now came new → ExtendsWith eq old came new
-ExtendsWith-pairs {eq = eq} {old = old} {new = new} {came = came} so_far =
-    subst (λ items. ExtendsWith eq old items new) (map-id came) (ExtendsWith-IsExtended so_far)
+-- items that went in, each as the pair that it shows
+pub ExtendsWith-shown : {X K V S : Type 0} {eq : K → K → Bool} {old new : LinkedMap K V S} (shows : X → K × V)
+    (items : List X) {shown : List (K × V)} → map shows items ≡ shown
+    → new.pairs ≡ insert_each eq old.mode old.pairs (map shows items)
+    → new.capacity ≡ max old.capacity (length new.pairs)
+    → new.rechained ≡ rechained_each old.rechained old.capacity (new.capacity - old.capacity)
+    → new.made ≡ made_each old.made old.capacity (new.capacity - old.capacity) → KeepsSettings old new
+    → LeavesVisit (length items) old new → IsValid eq new → ExtendsWith eq old shown new
+ExtendsWith-shown {eq = eq} {old} {new} shows items are pairs capacity rechained made settings visit valid =
+    subst (λ shown. ExtendsWith eq old shown new) are (record {
+      pairs = pairs;
+      capacity = capacity;
+      rechained = rechained;
+      made = made;
+      settings = settings;
+      visit = subst (λ n. LeavesVisit n old new) (sym (length-map items shows)) visit;
+      valid = valid;
+    })
 
 -- a map without pairs has none to visit, and neither has it once items went in
 pub to_visit-LeavesVisit : {K V S : Type 0} {old new : LinkedMap K V S} {n : ℕ} → old.pairs ≡ []

@@ -22,15 +22,10 @@ impl<K: Eq + Hash + Drop, V: Drop, S: BuildHasher> Extend<(K, V)> for LinkedHash
     ghost extend_gives = { ExtendsWith K.eq };
 
     fn extend<I: IntoIterator<Item = (K, V)>>(&mut self, items: I) -> Result<(), AllocError> {
-        // Shows that the map is valid if no item comes.
-        let _len = self.len();
-        for (key, value) in items {
-            match self.insert(key, value) {
-                Ok(_old) => {}
-                Err(_refused) => return Err(AllocError),
-            }
+        match self.extend(items) {
+            Ok(()) => Ok(()),
+            Err(_refused) => Err(AllocError),
         }
-        Ok(())
     }
 }
 
@@ -52,15 +47,10 @@ impl<'a, K: Eq + Hash + Copy + 'a, V: Copy + 'a, S: BuildHasher> Extend<(&'a K, 
         &mut self,
         items: I,
     ) -> Result<(), AllocError> {
-        // Shows that the map is valid if no item comes.
-        let _len = self.len();
-        for (key, value) in items {
-            match self.insert(*key, *value) {
-                Ok(_old) => {}
-                Err(_refused) => return Err(AllocError),
-            }
+        match self.extend_refs(items) {
+            Ok(()) => Ok(()),
+            Err(_refused) => Err(AllocError),
         }
-        Ok(())
     }
 }
 

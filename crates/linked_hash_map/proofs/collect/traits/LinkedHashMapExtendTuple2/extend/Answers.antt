@@ -1,48 +1,17 @@
-use Rattle.std.proofs.Common.{sym, subst}
-use Rattle.linked_hash_map.specs.Inserts.{ExtendsWith}
-use Rattle.linked_hash_map.proofs.pairs.ExtendSteps.{IsExtended-none, IsExtended-put, ExtendsWith-pairs}
+use Rattle.std.proofs.lemmas.List.{map-id}
+use Rattle.linked_hash_map.proofs.pairs.ExtendSteps.{ExtendsWith-shown}
 use Rattle.linked_hash_map.proofs.collect.traits.LinkedHashMapExtendTuple2.extend.Goals as goal
 
-pub loop-key-preserved-in-Ok : goal.loop-key-preserved-in-Ok
-loop-key-preserved-in-Ok g c =
-    let put = c.in-Ok.ensures in
-    IsExtended-put g.met.K.Eq.laws c.len-len.ensures.valid.distinct c.loop-key.invariant c.in-Some.ensures.goes
-    (record { pairs = put.pairs; capacity = put.capacity; rechained = put.rechained; made = put.made; settings = put.settings })
-    put.stays_valid
-    (record { value = c.in-Ok._old; is = put.old; ends = put.ends_visit; stands = put.to_visit; as_many = put.as_many; more = put.more })
-
-pub loop-key-preserved : goal.loop-key-preserved
-loop-key-preserved g c =
-    let put = c.in-Ok.ensures in
-    IsExtended-put g.met.K.Eq.laws c.len-len.ensures.valid.distinct c.loop-key.invariant c.in-Some.ensures.goes
-    (record { pairs = put.pairs; capacity = put.capacity; rechained = put.rechained; made = put.made; settings = put.settings })
-    put.stays_valid
-    (record { value = c.in-Ok._old; is = put.old; ends = put.ends_visit; stands = put.to_visit; as_many = put.as_many; more = put.more })
-
-pub loop-key-init : goal.loop-key-init
-loop-key-init g c =
-    IsExtended-none g.met.K.Eq.laws c.len-len.ensures.valid
-    (c.requires _ c.into_iter-key-iterator.ensures.into_iter_gives).1
+pub returns-in-Ok : goal.returns-in-Ok
+returns-in-Ok g c =
+    let all = c.in-Ok.ensures in let inserts = all.to_visit.0 in let gives = inserts.gives in
+    let into = ExtendsWith-shown (λ pair. pair) inserts.given (map-id inserts.given) inserts.pairs all.capacity
+    all.rechained all.made all.settings all.to_visit.1 all.stays_valid in
+    record { ran = (gives.iterator, inserts.given, gives.made, into, gives.gives) }
 
 pub returns-in-Err : goal.returns-in-Err
-returns-in-Err g c = record {
-  ran = (
-    c.into_iter-key-iterator.result,
-    c.loop-key.yielded,
-    c.into_iter-key-iterator.ensures.into_iter_gives,
-    subst (ExtendsWith g.K.PartialEq.eq c.args.self.now c.loop-key.yielded)
-        (sym c.in-Err.ensures.unchanged) (ExtendsWith-pairs c.loop-key.invariant),
-    (c.loop-key.key-iterator, c.loop-key.yielded_by),
-  );
-}
-
-pub returns : goal.returns
-returns g c = record {
-  ran = (
-    c.into_iter-key-iterator.result,
-    c.loop-key.yielded,
-    c.into_iter-key-iterator.ensures.into_iter_gives,
-    ExtendsWith-pairs c.loop-key.invariant,
-    (_, (c.loop-key.key-iterator, c.loop-key.yielded_by, c.in-None.ensures.steps)),
-  );
-}
+returns-in-Err g c =
+    let some = c.in-Err.ensures in let inserts = some.visit_stopped.0 in let gives = inserts.gives in
+    let into = ExtendsWith-shown (λ pair. pair) inserts.given (map-id inserts.given) inserts.pairs some.capacity
+    some.rechained some.made some.settings some.visit_stopped.1 some.stays_valid in
+    record { ran = (gives.iterator, inserts.given, gives.made, into, (gives.gives.0, gives.gives.1)) }

@@ -1,7 +1,0 @@
-use Rattle.linked_hash_map.proofs.pairs.ExtendSteps.{IsExtended}
-use Rattle.linked_hash_map.proofs.collect.traits.LinkedHashMapExtendTuple2.extend.Given as goal
-
-abbrev pub invariant-loop-key : goal.invariant-loop-key
-invariant-loop-key g l =
-    IsExtended g.K.PartialEq.eq (λ pair. pair) g.I.IntoIter.Iterator.remaining l.fn.self l.initial.key-iterator
-    l.key-iterator l.yielded l.self
