@@ -292,6 +292,7 @@ impl<T> Sessions<T> {
         match self.put_planned(plan, id, weight, payload, &mut push) {
             Ok(old) => Ok(Put { old, gone }),
             Err(payload) => {
+                // A put that removes sessions needs no more room, so none was removed.
                 gone.destroy_empty();
                 Err(PutRefused {
                     reason: PutReason::NoRoom,
