@@ -1,10 +1,12 @@
 //! Worked examples.
 
 use super::support::checks::{check_eq, given};
+use super::support::hashers::BuildCounted;
 use super::support::words::arguments;
 use crate::run_in_memory;
 use linked_hash_set::DefaultHashBuilder;
 use std::alloc::Global;
+use std::cell::Cell;
 use std::hash::{BuildHasher, BuildHasherDefault, DefaultHasher};
 use std::process::Abort;
 
@@ -80,6 +82,31 @@ fn check_runs(rt: &impl Abort, alloc: Global) {
 #[test]
 fn runs(rt: HostRuntime) {
     check_runs(&rt, rt.alloc());
+}
+
+/// Checks how often a run over five lines makes a hasher.
+fn check_hashers(rt: &impl Abort, alloc: Global, words: &[&str], wanted: usize) {
+    let words = given!(rt; arguments(alloc, words));
+    let built = Cell::new(0);
+    let mut output = Vec::new(alloc);
+    let mut faults = Vec::new(alloc);
+    let status = run_in_memory(
+        alloc,
+        BuildCounted { built: &built },
+        words.as_slice(),
+        b"a\nb\na\nb\nb\n",
+        &mut output,
+        &mut faults,
+    );
+    check_eq!(rt; (status, built.get()), (0, wanted));
+}
+
+#[test]
+fn lines_are_hashed_once_and_new_lines_twice(rt: HostRuntime) {
+    // A line is looked up, and a new one is inserted: two are new, and in the window four.
+    check_hashers(&rt, rt.alloc(), &[], 7);
+    check_hashers(&rt, rt.alloc(), &["--last"], 7);
+    check_hashers(&rt, rt.alloc(), &["--window", "1"], 9);
 }
 
 /// What `--help` prints.
