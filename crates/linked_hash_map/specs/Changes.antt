@@ -5,7 +5,7 @@ use Rattle.linked_hash_map.specs.LinkedMap.{LinkedMap}
 use Rattle.linked_hash_map.specs.Cursor.{to_visit, without_cursor, IsOutside}
 use Rattle.linked_hash_map.specs.Pairs.{to_back, to_back_by, set_or_push}
 use Rattle.linked_hash_map.specs.Validity.{IsValid}
-use Rattle.lhm_ring.specs.Buckets.{rechained_raised, made_raised}
+use Rattle.linked_hash_map.specs.Counts.{rechained_raised}
 
 module _ {K V S : Type 0} where
   -- with the pair of k and v at the back, and room for it: k is absent
@@ -16,7 +16,6 @@ module _ {K V S : Type 0} where
         pairs = m.pairs ++ (k, v) ∷ [];
         capacity = capacity;
         rechained = rechained_raised m.rechained (length m.pairs) m.capacity capacity;
-        made = made_raised m.made m.capacity capacity;
       }
 
   -- with v as the value of k, in the place of its pair, or at the back if there is none, and room
@@ -28,7 +27,6 @@ module _ {K V S : Type 0} where
         pairs = pairs;
         capacity = capacity;
         rechained = rechained_raised m.rechained (length m.pairs) m.capacity capacity;
-        made = made_raised m.made m.capacity capacity;
       }
 
   -- with the pair of k at the back, and v as its value; nothing is left for a cursor to visit
@@ -55,7 +53,6 @@ module _ {K V S : Type 0} (old new : LinkedMap K V S) where
   pub record Keeps : Type 0 where
     pub capacity : new.capacity ≡ old.capacity
     pub rechained : new.rechained ≡ old.rechained
-    pub made : new.made ≡ old.made
     pub hasher : new.hasher ≡ old.hasher
     pub mode : new.mode ≡ old.mode
 

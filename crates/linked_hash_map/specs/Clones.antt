@@ -20,7 +20,6 @@ pub record IsClone {K V S : Type 0} (eq : K → K → Bool) (IsKeyClone : K → 
       × (n.pairs ≡ insert_each eq Touch [] clones)
   pub capacity : n.capacity ≡ length m.pairs
   pub rechained : n.rechained ≡ 0
-  pub made : n.made ≡ length m.pairs
   pub hasher : IsHasherClone m.hasher n.hasher
   pub mode : n.mode ≡ m.mode
   pub valid : IsValid eq n

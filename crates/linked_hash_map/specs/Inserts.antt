@@ -5,7 +5,7 @@ use Rattle.std.specs.Iterator.SizeHint.{IsWithinCount}
 use Rattle.linked_hash_map.specs.Changes.{KeepsSettings}
 use Rattle.linked_hash_map.specs.LinkedMap.{LinkedMap}
 use Rattle.linked_hash_map.specs.Cursor.{to_visit}
-use Rattle.linked_hash_map.specs.Counts.{rechained_each, made_each}
+use Rattle.linked_hash_map.specs.Counts.{rechained_each}
 use Rattle.linked_hash_map.specs.Validity.{IsValid}
 use Rattle.linked_hash_map.specs.declared.map.TheConstants.{LIMIT}
 use Rattle.linked_hash_map.specs.Pairs.{put}
@@ -31,7 +31,6 @@ pub record IsNew {K V S : Type 0} (eq : K → K → Bool) (m : LinkedMap K V S) 
   pub capacity : m.capacity ≡ 0
   pub mode : m.mode ≡ Touch
   pub rechained : m.rechained ≡ 0
-  pub made : m.made ≡ 0
   pub valid : IsValid eq m
 
 -- a new map has the default hasher of its type
@@ -47,7 +46,6 @@ module _ {K V S : Type 0} (eq : K → K → Bool) where
     pub capacity : new.capacity ≡ max old.capacity (length new.pairs)
     pub rechained : new.rechained
         ≡ rechained_each old.rechained old.capacity (new.capacity - old.capacity)
-    pub made : new.made ≡ made_each old.made old.capacity (new.capacity - old.capacity)
     pub settings : KeepsSettings old new
     pub visit : LeavesVisit (length items) old new
     pub valid : IsValid eq new
@@ -59,7 +57,6 @@ module _ {K V S : Type 0} (eq : K → K → Bool) where
     pub pairs : new.pairs ≡ insert_each eq Touch [] items
     pub capacity : new.capacity ≡ length new.pairs
     pub rechained : new.rechained ≡ rechained_each 0 0 new.capacity
-    pub made : new.made ≡ made_each 0 0 new.capacity
     pub hasher : IsDefault new.hasher
     pub mode : new.mode ≡ Touch
     pub visit : to_visit new ≡ []
@@ -111,7 +108,7 @@ module _ {T I K V : Type 0} (becomes : T → I → Type 0) (steps : I → Option
   -- it becomes one iterator: a new map got room for as many pairs as a lower bound that the hint of
   -- this iterator may return, and then all items of this iterator, one by one
   pub record Collects (eq : K → K → Bool) (contents : List (K × V))
-      (capacity rechained nodes : ℕ) : Type 0 where
+      (capacity rechained : ℕ) : Type 0 where
     pub iterator : I
     pub made : becomes source iterator
     pub lower : ℕ
@@ -122,7 +119,6 @@ module _ {T I K V : Type 0} (becomes : T → I → Type 0) (steps : I → Option
     pub pairs : contents ≡ insert_each eq Touch [] given
     pub capacity_is : capacity ≡ max lower (length contents)
     pub counted : rechained ≡ rechained_each 0 lower (capacity - lower)
-    pub nodes_are : nodes ≡ made_each lower lower (capacity - lower)
 
   -- it becomes an iterator whose hint may be a lower bound above `LIMIT`
   pub record HintsAboveLimit : Type 0 where

@@ -91,7 +91,7 @@ module _ {K V : Type 0} where
   abbrev pub map_of : {S : Type 0} → TableState (K × V) → Beside S → LinkedMap K V S
   map_of s b =
       linked_map (pairs_of s.held) s.capacity b.hasher (cursor_at b.visit (bare s.held))
-      s.rechained s.made b.mode
+      s.rechained b.mode
 
 -- the nodes of a map, without their values: no two keys are the same, each stands with its hash,
 -- they are within the capacity and that within the limit; there is a bookmark as long as pairs are

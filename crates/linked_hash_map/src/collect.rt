@@ -6,7 +6,7 @@ ghost use Rattle.linked_hash_map.specs.Pairs.{find};
 ghost use Rattle.linked_hash_map.specs.Changes.{KeepsSettings};
 ghost use Rattle.linked_hash_map.specs.Cursor.{to_visit};
 ghost use Rattle.linked_hash_map.specs.Validity.{IsValid};
-ghost use Rattle.linked_hash_map.specs.Counts.{rechained_each, made_each};
+ghost use Rattle.linked_hash_map.specs.Counts.{rechained_each};
 ghost use Rattle.linked_hash_map.specs.Inserts.{LeavesVisit, GivesAtMost, InsertsAll, InsertsUntil, Collects, HintsAboveLimit, NeedsRoom};
 
 mod traits;
@@ -43,8 +43,6 @@ impl<K: Eq + Hash, V, S: BuildHasher> LinkedHashMap<K, V, S> {
         ensures rechained { self.new.rechained
             ≡ rechained_each self.old.rechained self.old.capacity
             (self.new.capacity - self.old.capacity) }
-        ensures made { self.new.made
-            ≡ made_each self.old.made self.old.capacity (self.new.capacity - self.old.capacity) }
         ensures settings { KeepsSettings self.old self.new }
         // A present key ends a visit. If each is new, the same is left to visit.
         ensures to_visit { OnOk result
@@ -105,8 +103,6 @@ impl<K: Eq + Hash, V, S: BuildHasher> LinkedHashMap<K, V, S> {
         ensures rechained { self.new.rechained
             ≡ rechained_each self.old.rechained self.old.capacity
             (self.new.capacity - self.old.capacity) }
-        ensures made { self.new.made
-            ≡ made_each self.old.made self.old.capacity (self.new.capacity - self.old.capacity) }
         ensures settings { KeepsSettings self.old self.new }
         // A present key ends a visit. If each is new, the same is left to visit.
         ensures to_visit { OnOk result
@@ -168,7 +164,7 @@ impl<K: Eq + Hash, V, S: BuildHasher> LinkedHashMap<K, V, S> {
             I.IntoIter.remaining items }
         ensures all { IfOk result (λ map.
             Collects I.into_iter_gives I.IntoIter.next_gives items I.IntoIter.remaining K.eq
-            map.pairs map.capacity map.rechained map.made) }
+            map.pairs map.capacity map.rechained) }
         ensures hasher { IfOk result (λ map. S.is_default map.hasher) }
         ensures mode { IfOk result (λ map. map.mode ≡ Mode.Touch) }
         ensures to_visit { IfOk result (λ map. to_visit map ≡ []) }

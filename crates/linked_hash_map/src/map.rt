@@ -3,7 +3,6 @@
 
 ghost use Rattle.std.specs.Prelude.{◌≡◌, ◌==◌, ◌≤◌, [], length};
 ghost use Rattle.linked_hash_map.specs.Validity.{IsValid};
-ghost use Rattle.linked_hash_map.specs.Counts.{buckets};
 
 mod capacity;
 mod create;
@@ -146,7 +145,6 @@ impl<K: Eq + Hash, V, S: BuildHasher> LinkedHashMap<K, V, S> {
         ensures mode { result.mode ≡ Mode.Touch }
         ensures valid { IsValid K.eq result }
         ensures rechained { result.rechained ≡ 0 }
-        ensures made { result.made ≡ table.made }
     {
         LinkedHashMap {
             table,
@@ -218,8 +216,6 @@ impl<K: Eq + Hash, V, S: BuildHasher> LinkedHashMap<K, V, S> {
     /// ```
     pub fn capacity(&self) -> usize
         ensures capacity { result ≡ self.now.capacity }
-        ensures made { self.now.capacity ≤ self.now.made }
-        ensures made_within { self.now.made ≤ buckets self.now.capacity }
         ensures valid { IsValid K.eq self.now }
     {
         self.table.capacity()

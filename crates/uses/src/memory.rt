@@ -64,15 +64,12 @@ pub fn rehashed<K: Eq + Hash, V, S: BuildHasher>(map: &LinkedHashMap<K, V, S>) -
     map.rechained()
 }
 
-/// Makes room for more pairs, and returns for how many there then is room in all. The map has fewer
-/// than two nodes for each of them.
-#[tactic(auto, using(linked_hash_map::proofs::Callers::Counts::buckets_below))]
+/// Makes room for more pairs, and returns for how many there then is room in all.
 pub fn reserve_room<K: Eq + Hash, V, S: BuildHasher>(
     map: &mut LinkedHashMap<K, V, S>,
     additional: usize,
 ) -> Result<usize, ReserveError>
     ensures room { IfOk result (λ room. length map.new.pairs + additional ≤ room) }
-    ensures nodes { IfOk result (λ room. 0 < room → map.new.made < 2 * room) }
     ensures unchanged { OnErr result (map.new ≡ map.old) }
 {
     map.reserve(additional)?;

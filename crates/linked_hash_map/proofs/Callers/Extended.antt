@@ -52,9 +52,9 @@ module _ {T I X K V : Type 0} {becomes : T → I → Type 0} {steps : I → Opti
 
 module _ {T I K V : Type 0} {becomes : T → I → Type 0} {steps : I → Option (K × V) → I → Type 0}
     {source : T} {remaining : I → Count} {eq : K → K → Bool} {pairs : List (K × V)}
-    {capacity rechained made : ℕ} where
+    {capacity rechained : ℕ} where
   -- `from_iter` inserts as `extend` of a new map does
-  InsertsAll-Collects : Collects becomes steps source remaining eq pairs capacity rechained made
+  InsertsAll-Collects : Collects becomes steps source remaining eq pairs capacity rechained
       → InsertsAll becomes steps source eq (λ pair. pair) Touch [] pairs
   InsertsAll-Collects collects = record {
     given = collects.given;
@@ -65,7 +65,7 @@ module _ {T I K V : Type 0} {becomes : T → I → Type 0} {steps : I → Option
   -- if at most n items are left to come, it rehashed what growing to the capacity does, from room
   -- for at most n
   rechained-Collects : (n : ℕ)
-      → Collects becomes steps source remaining eq pairs capacity rechained made
+      → Collects becomes steps source remaining eq pairs capacity rechained
       → GivesAtMost becomes remaining source n
       → (lower : ℕ) × (lower ≤ n) × (rechained ≡ rechained_each 0 lower (capacity - lower))
   rechained-Collects n collects left =
@@ -73,7 +73,7 @@ module _ {T I K V : Type 0} {becomes : T → I → Type 0} {steps : I → Option
       (collects.lower, omega arith, collects.counted)
 
   module _ {all : List (K × V)} (laws : IsEquivalence eq)
-      (collects : Collects becomes steps source remaining eq pairs capacity rechained made) where
+      (collects : Collects becomes steps source remaining eq pairs capacity rechained) where
     -- `from_iter` of any source whose items are known
     pairs-Collects : ((it : I) → becomes source it → YieldsList steps (λ pair. pair) it all)
         → pairs ≡ insert_each eq Touch [] all
@@ -191,9 +191,9 @@ pairs-InsertsUntil_vec {becomes = becomes} {source} vec inserts is =
     (length inserts.given, until.0, until.1)
 
 pub pairs-Collects_vec : {T Z K V : Type 0} {becomes : T → _ → Type 0} {source : T} {eq : K → K → Bool}
-    {pairs : List (K × V)} {capacity rechained made : ℕ} (vec : Vec (K × V) Z)
+    {pairs : List (K × V)} {capacity rechained : ℕ} (vec : Vec (K × V) Z)
     → Collects becomes (into_iter_steps {X = K × V} {Z = Z}) source
-    (λ it. at_most (into_iter_len it)) eq pairs capacity rechained made
+    (λ it. at_most (into_iter_len it)) eq pairs capacity rechained
     → ((it : _) → becomes source it
     → (into_iter_items {X = K × V} {Z = Z} it ≡ vec_items vec) × (into_iter_len it ≡ vec_len vec))
     → pairs ≡ insert_each eq Touch [] (vec_items vec)
@@ -203,9 +203,9 @@ pairs-Collects_vec vec collects is = pairs-InsertsAll_vec vec (InsertsAll-Collec
 -- rehashed what growing to that number does, from room for no more
 pub Collects_distinct_vec : {T Z K V : Type 0} {becomes : T → _ → Type 0} {source : T}
     {eq : K → K → Bool} → IsEquivalence eq
-    → {pairs : List (K × V)} {capacity rechained made : ℕ} (vec : Vec (K × V) Z)
+    → {pairs : List (K × V)} {capacity rechained : ℕ} (vec : Vec (K × V) Z)
     → Collects becomes (into_iter_steps {X = K × V} {Z = Z}) source
-    (λ it. at_most (into_iter_len it)) eq pairs capacity rechained made
+    (λ it. at_most (into_iter_len it)) eq pairs capacity rechained
     → ((it : _) → becomes source it
     → (into_iter_items {X = K × V} {Z = Z} it ≡ vec_items vec) × (into_iter_len it ≡ vec_len vec))
     → IsDistinct eq (keys_of (vec_items vec))

@@ -4,9 +4,10 @@ use Rattle.std.specs.Prelude.{count_by}
 use Rattle.std.specs.List.{AllByRecursion}
 use Rattle.lhm_ring.specs.Index as nodes
 use Rattle.lhm_ring.proofs.lists.RearrangedCounts.{count_by-cons}
-use Rattle.linked_hash_map.specs.Counts.{same, beside}
+use Rattle.linked_hash_map.specs.Counts.{buckets, same, beside}
 use Rattle.linked_hash_map.specs.Nodes.{VisitState, IsKept, pairs_of, bare}
-use Rattle.lhm_ring.specs.Buckets.{buckets}
+use Rattle.lhm_ring.specs.Buckets as table
+use Rattle.linked_hash_map.proofs.pairs.RehashCounts.{buckets-table}
 use Rattle.lhm_ring.specs.Index.{Spot, spot, spots}
 use Rattle.lhm_ring.specs.Ring.{Held}
 
@@ -30,6 +31,6 @@ module _ {K V : Type 0} {eq : K → K → Bool} {hash : K → ℕ} (hs : List (H
   pub count_with_hash-spots : nodes.count_with_hash (spots hs) n ≡ same hash (pairs_of hs) k
   count_with_hash-spots = ap (nodes.count_with_hash (spots hs)) is ∙ count_by-spots hash (λ n. eqb n (hash k)) hs kept.hashed
 
-  pub count_in_bucket-spots : nodes.count_in_bucket (spots hs) (buckets capacity) n ≡ beside hash (pairs_of hs) capacity k
-  count_in_bucket-spots = ap (nodes.count_in_bucket (spots hs) (buckets capacity)) is
+  pub count_in_bucket-spots : nodes.count_in_bucket (spots hs) (table.buckets capacity) n ≡ beside hash (pairs_of hs) capacity k
+  count_in_bucket-spots = (λ i. nodes.count_in_bucket (spots hs) (buckets-table capacity i) (is i))
       ∙ count_by-spots hash (λ m. eqb (m % buckets capacity) (hash k % buckets capacity)) hs kept.hashed

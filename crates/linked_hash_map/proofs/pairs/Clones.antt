@@ -11,10 +11,10 @@ use Rattle.linked_hash_map.specs.LinkedMap.{LinkedMap}
 use Rattle.linked_hash_map.specs.Pairs.{to_back, put}
 use Rattle.linked_hash_map.specs.Inserts.{insert_each}
 use Rattle.linked_hash_map.specs.Validity.{IsValid}
-use Rattle.linked_hash_map.specs.Counts.{rechained_raised, made_raised}
+use Rattle.linked_hash_map.specs.Counts.{rechained_raised}
 use Rattle.linked_hash_map.specs.Clones.{AreClones, IsClone}
-use Rattle.lhm_ring.proofs.indexes.BucketCounts.{rechained_raised-same, made_raised-same}
 use Rattle.linked_hash_map.proofs.pairs.Inserts.{insert_each-last, insert_each-distinct, length-put_most}
+use Rattle.linked_hash_map.proofs.pairs.RehashCounts.{rechained_raised-same}
 use Rattle.lhm_ring.specs.Ring.{IsTripleClone}
 
 -- triples of a hash and a pair, and clones of them: their pairs
@@ -57,7 +57,6 @@ pub record HasCloned {K V S : Type 0} (eq : K → K → Bool) (IsKeyClone : K �
   pub inserted : n.pairs ≡ insert_each eq Touch [] clones
   pub capacity : n.capacity ≡ length m.pairs
   pub rechained : n.rechained ≡ 0
-  pub made : n.made ≡ length m.pairs
   pub hasher : IsHasherClone m.hasher n.hasher
   pub mode : n.mode ≡ Touch
 
@@ -66,9 +65,9 @@ module _ {K V S : Type 0} {eq : K → K → Bool} {IsKeyClone : K → K → Type
   -- at first all pairs are to come
   pub HasCloned-none : {m n : LinkedMap K V S} {others : List (K × V)} → others ≡ m.pairs
       → n.pairs ≡ [] → n.capacity ≡ length m.pairs → n.rechained ≡ 0
-      → n.made ≡ length m.pairs → IsHasherClone m.hasher n.hasher → n.mode ≡ Touch
+      → IsHasherClone m.hasher n.hasher → n.mode ≡ Touch
       → HasCloned eq IsKeyClone IsValueClone IsHasherClone m others n
-  HasCloned-none all empty room uncounted as_many of_hasher touch =
+  HasCloned-none all empty room uncounted of_hasher touch =
       record {
         first = [];
         clones = [];
@@ -77,7 +76,6 @@ module _ {K V S : Type 0} {eq : K → K → Bool} {IsKeyClone : K → K → Type
         inserted = empty;
         capacity = room;
         rechained = uncounted;
-        made = as_many;
         hasher = of_hasher;
         mode = touch;
       }
@@ -90,11 +88,10 @@ module _ {K V S : Type 0} {eq : K → K → Bool} {IsKeyClone : K → K → Type
       → after.capacity ≡ max before.capacity (length after.pairs)
       → after.rechained
       ≡ rechained_raised before.rechained (length before.pairs) before.capacity after.capacity
-      → after.made ≡ made_raised before.made before.capacity after.capacity
       → KeepsSettings before after
       → HasCloned eq IsKeyClone IsValueClone IsHasherClone m others after
   HasCloned-put {m} {before} {after} {these} {others} so_far {pair} next {k} {v} of_key of_value
-      went_in raised counted all_made same =
+      went_in raised counted same =
       let put = went_in ∙ ap (λ mode. put eq mode before.pairs k v) so_far.mode in
       let inserted_is = ap length so_far.inserted in
       let bound = length-insert_each eq [] so_far.clones in
@@ -115,7 +112,6 @@ module _ {K V S : Type 0} {eq : K → K → Bool} {IsKeyClone : K → K → Type
             ∙ ap (rechained_raised before.rechained (length before.pairs) before.capacity) room
             ∙ rechained_raised-same before.rechained (length before.pairs) before.capacity
             ∙ so_far.rechained;
-        made = all_made ∙ ap (made_raised before.made before.capacity) room ∙ made_raised-same before.made before.capacity ∙ so_far.made;
         hasher = subst (IsHasherClone m.hasher) (sym same.hasher) so_far.hasher;
         mode = same.mode ∙ so_far.mode;
       }
@@ -164,7 +160,6 @@ module _ {K V S : Type 0} {eq : K → K → Bool} (laws : IsEquivalence eq)
         pairs = (all.clones, each, ap (λ l. l.pairs) set ∙ all.inserted);
         capacity = ap (λ l. l.capacity) set ∙ all.capacity;
         rechained = ap (λ l. l.rechained) set ∙ all.rechained;
-        made = ap (λ l. l.made) set ∙ all.made;
         hasher = subst (IsHasherClone m.hasher) (sym (ap (λ l. l.hasher) set)) all.hasher;
         mode = ap (λ l. l.mode) set;
         valid = valid;

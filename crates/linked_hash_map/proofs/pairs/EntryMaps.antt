@@ -2,13 +2,13 @@
 -- current one.
 use Rattle.std.proofs.Common.{◌≡◌, ℕ, ◌+◌, ◌≤◌, max, Bool, true, false, cond, List, [], ◌∷◌, ◌++◌, length, take, drop, None}
 use Rattle.std.proofs.Common.{is_some, sym, ap, ◌∙◌, arith, length-append}
-use Rattle.lhm_ring.proofs.indexes.BucketCounts.{rechained_raised-same, made_raised-same}
+use Rattle.linked_hash_map.proofs.pairs.RehashCounts.{rechained_raised-same}
 use Rattle.std.specs.Map.{keys_of}
 use Rattle.std.proofs.lemmas.List.{map-append, length-map}
 use Rattle.linked_hash_map.specs.LinkedMap.{LinkedMap}
 use Rattle.linked_hash_map.specs.Cursor.{to_visit}
 use Rattle.linked_hash_map.specs.Changes.{pushed, set_or_pushed}
-use Rattle.linked_hash_map.specs.Counts.{rechained_raised, made_raised}
+use Rattle.linked_hash_map.specs.Counts.{rechained_raised}
 use Rattle.linked_hash_map.specs.Pairs.{find, set_value, set_or_push}
 use Rattle.linked_hash_map.specs.Validity.{IsValid}
 use Rattle.linked_hash_map.proofs.Callers.Keys.{keys_of-set_value}
@@ -40,8 +40,6 @@ module _ {K V S : Type 0} (eq : K → K → Bool) (m : LinkedMap K V S) (k : K) 
     rechained = (sym (rechained_raised-same m.rechained (length m.pairs) m.capacity)
         ∙ ap (rechained_raised m.rechained (length m.pairs) m.capacity)
         (capacity-present eq m.pairs k v m.capacity there within)) i;
-    made = (sym (made_raised-same m.made m.capacity)
-        ∙ ap (made_raised m.made m.capacity) (capacity-present eq m.pairs k v m.capacity there within)) i;
   }
 
   pub set_or_pushed-absent : find eq m.pairs k ≡ None → pushed m k v ≡ set_or_pushed eq m k v
@@ -49,7 +47,6 @@ module _ {K V S : Type 0} (eq : K → K → Bool) (m : LinkedMap K V S) (k : K) 
     pairs = sym (set_or_push-absent eq m.pairs k v none) i;
     capacity = max-absent eq m.pairs k v m.capacity none i;
     rechained = rechained_raised m.rechained (length m.pairs) m.capacity (max-absent eq m.pairs k v m.capacity none i);
-    made = made_raised m.made m.capacity (max-absent eq m.pairs k v m.capacity none i);
   }
 
 -- those still to be visited stay so as a value is set, or a pair is pushed

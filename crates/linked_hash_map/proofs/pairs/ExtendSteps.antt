@@ -10,7 +10,7 @@ use Rattle.std.specs.Cmp.{IsEquivalence}
 use Rattle.std.proofs.lemmas.List.{map-append, length-map}
 use Rattle.linked_hash_map.specs.LinkedMap.{LinkedMap}
 use Rattle.linked_hash_map.specs.Changes.{KeepsSettings}
-use Rattle.linked_hash_map.specs.Counts.{rechained_each, made_each}
+use Rattle.linked_hash_map.specs.Counts.{rechained_each}
 use Rattle.linked_hash_map.specs.Inserts.{insert_each, InsertsUntil, LeavesVisit, ExtendsWith, CollectsInto, IsNewDefault}
 use Rattle.linked_hash_map.specs.Cursor.{to_visit}
 use Rattle.linked_hash_map.specs.Pairs.{find, value_at}
@@ -130,14 +130,13 @@ pub ExtendsWith-shown : {X K V S : Type 0} {eq : K → K → Bool} {old new : Li
     → new.pairs ≡ insert_each eq old.mode old.pairs (map shows items)
     → new.capacity ≡ max old.capacity (length new.pairs)
     → new.rechained ≡ rechained_each old.rechained old.capacity (new.capacity - old.capacity)
-    → new.made ≡ made_each old.made old.capacity (new.capacity - old.capacity) → KeepsSettings old new
+    → KeepsSettings old new
     → LeavesVisit (length items) old new → IsValid eq new → ExtendsWith eq old shown new
-ExtendsWith-shown {eq = eq} {old} {new} shows items are pairs capacity rechained made settings visit valid =
+ExtendsWith-shown {eq = eq} {old} {new} shows items are pairs capacity rechained settings visit valid =
     subst (λ shown. ExtendsWith eq old shown new) are (record {
       pairs = pairs;
       capacity = capacity;
       rechained = rechained;
-      made = made;
       settings = settings;
       visit = subst (λ n. LeavesVisit n old new) (sym (length-map items shows)) visit;
       valid = valid;
@@ -168,7 +167,6 @@ CollectsInto-ExtendsWith {eq = eq} {IsDefault} laws {old} {new} {items} empty in
       capacity = omega (arith, into.capacity, none);
       rechained = into.rechained
           ∙ (λ i. rechained_each (empty.is_new.rechained i) (none i) (new.capacity - none i)) ∙ ap (rechained_each 0 0) raised;
-      made = into.made ∙ (λ i. made_each (empty.is_new.made i) (none i) (new.capacity - none i)) ∙ ap (made_each 0 0) raised;
       hasher = subst IsDefault (sym into.settings.hasher) empty.hasher;
       mode = into.settings.mode ∙ empty.is_new.mode;
       visit = to_visit-LeavesVisit empty.is_new.pairs (omega (arith, longest, ap length into.pairs)) into.visit;

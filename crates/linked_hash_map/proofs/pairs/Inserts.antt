@@ -8,7 +8,7 @@ use Rattle.std.specs.Cmp.{IsEquivalence}
 use Rattle.std.proofs.lemmas.List.{length-map}
 use Rattle.linked_hash_map.specs.Changes.{KeepsSettings}
 use Rattle.linked_hash_map.specs.LinkedMap.{LinkedMap}
-use Rattle.linked_hash_map.specs.Counts.{rechained_raised, rechained_each, made_raised, made_each}
+use Rattle.linked_hash_map.specs.Counts.{rechained_raised, rechained_each}
 use Rattle.linked_hash_map.specs.Log.{Put}
 use Rattle.linked_hash_map.specs.declared.map.Mode.{Mode}
 use Rattle.linked_hash_map.specs.declared.map.Mode.TheVariants.{Touch, Keep}
@@ -17,7 +17,7 @@ use Rattle.linked_hash_map.specs.Run.{first_log}
 use Rattle.linked_hash_map.specs.Inserts.{insert_each}
 use Rattle.linked_hash_map.specs.Validity.{IsValid}
 use Rattle.linked_hash_map.proofs.log.Bridge.{pairs-put}
-use Rattle.linked_hash_map.proofs.pairs.RehashCounts.{rechained_each-put, made_each-put}
+use Rattle.linked_hash_map.proofs.pairs.RehashCounts.{rechained_each-put}
 use Rattle.linked_hash_map.proofs.log.Distinct.{distinct-pairs}
 use Rattle.linked_hash_map.proofs.lists.Elements.{by_last}
 use Rattle.linked_hash_map.proofs.pairs.Calls.{length-put}
@@ -58,7 +58,6 @@ pub record HasInserted {K V S : Type 0} (eq : K → K → Bool) (old : LinkedMap
   pub pairs : new.pairs ≡ insert_each eq old.mode old.pairs items
   pub capacity : new.capacity ≡ max old.capacity (length new.pairs)
   pub rechained : new.rechained ≡ rechained_each old.rechained old.capacity (new.capacity - old.capacity)
-  pub made : new.made ≡ made_each old.made old.capacity (new.capacity - old.capacity)
   pub settings : KeepsSettings old new
 
 -- one pair went into a map, and left another
@@ -67,7 +66,6 @@ pub record HasPut {K V S : Type 0} (eq : K → K → Bool) (k : K) (v : V) (befo
   pub capacity : after.capacity ≡ max before.capacity (length after.pairs)
   pub rechained : after.rechained
       ≡ rechained_raised before.rechained (length before.pairs) before.capacity after.capacity
-  pub made : after.made ≡ made_raised before.made before.capacity after.capacity
   pub settings : KeepsSettings before after
 
 -- the items that came, and those left to come, are no more than were left at the start
@@ -129,7 +127,6 @@ module _ {K V : Type 0} {eq : K → K → Bool} (laws : IsEquivalence eq) where
         pairs = refl;
         capacity = omega (arith, valid.within);
         rechained = sym (ap (rechained_each start.rechained start.capacity) none);
-        made = sym (ap (made_each start.made start.capacity) none);
         settings = record { hasher = refl; mode = refl };
       }
 
@@ -152,7 +149,6 @@ module _ {K V : Type 0} {eq : K → K → Bool} (laws : IsEquivalence eq) where
             ∙ sym (insert_each-last eq start.mode start.pairs items (k, v));
         capacity = omega arith;
         rechained = rechained_each-put start.rechained start.capacity (omega arith) so_far.rechained (omega arith) one raised counted;
-        made = made_each-put start.made start.capacity (omega arith) so_far.made (omega arith) (omega arith) put_one.made;
         settings = record {
           hasher = put_one.settings.hasher ∙ so_far.settings.hasher;
           mode = put_one.settings.mode ∙ so_far.settings.mode;

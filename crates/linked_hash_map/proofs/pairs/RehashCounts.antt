@@ -1,9 +1,31 @@
--- The counts of rehashed nodes and of all nodes, by the capacities before and after.
-use Rattle.std.proofs.Common.{◌≡◌, ℕ, zero, suc, ◌+◌, ◌-◌, ◌≤◌, max, ⊎_elim, sym, ap, ◌∙◌, arith}
-use Rattle.std.proofs.lemmas.Bool.{cases_lt}
-use Rattle.lhm_ring.proofs.indexes.BucketCounts.{rechained_raised-same, made_raised-same}
-use Rattle.linked_hash_map.specs.Counts.{rechained_each, made_each}
-use Rattle.lhm_ring.specs.Buckets.{rechained_raised, made_raised}
+-- The counts of rehashed nodes, by the capacities before and after.
+use Rattle.std.proofs.Common.{◌≡◌, ℕ, zero, suc, ◌+◌, ◌-◌, ◌*◌, ◌≤◌, max, ⊎_elim, sym, ap, ◌∙◌, arith}
+use Rattle.std.proofs.Common.{refl, cond, eqb, leb}
+use Rattle.std.proofs.lemmas.Bool.{cases_lt, eq-eqb}
+use Rattle.linked_hash_map.specs.Counts.{buckets, rechained_raised, rechained_fitted, rechained_each}
+use Rattle.lhm_ring.specs.Buckets as table
+
+-- a table has as many buckets, and counts the same
+pub buckets-table : (c : ℕ) → table.buckets c ≡ buckets c
+unfolding Rattle.lhm_ring.specs.Buckets.buckets buckets
+buckets-table zero = refl
+buckets-table (suc c) = ap (λ n. cond (leb (suc c) n) n (cond {A = ℕ} (eqb c 0) 1 (2 * n))) (buckets-table c)
+
+pub rechained_raised-table : (rechained len c d : ℕ)
+    → table.rechained_raised rechained len c d ≡ rechained_raised rechained len c d
+rechained_raised-table rechained len c d = λ i. cond (eqb (buckets-table c i) (buckets-table d i)) rechained (rechained + len)
+
+pub rechained_fitted-table : (rechained len c : ℕ) → table.rechained_fitted rechained len c ≡ rechained_fitted rechained len c
+rechained_fitted-table rechained len c =
+    λ i. cond (eqb c len) rechained (cond {A = ℕ} (eqb (buckets-table c i) (buckets-table len i)) 0 len)
+
+-- a capacity that stays counts nothing
+pub rechained_raised-same : (rechained len c : ℕ) → rechained_raised rechained len c c ≡ rechained
+rechained_raised-same rechained len c = ap (λ b. cond b rechained (rechained + len)) (eq-eqb (buckets c) (buckets c) refl)
+
+pub rechained_fitted-same : (rechained len c : ℕ) → c ≡ len → rechained_fitted rechained len c ≡ rechained
+rechained_fitted-same rechained len c same =
+    ap (λ b. cond b rechained (cond {A = ℕ} (eqb (buckets c) (buckets len)) 0 len)) (eq-eqb c len same)
 
 -- one raise more, after n of them
 pub rechained_each-more : (rechained c n : ℕ)
@@ -50,31 +72,3 @@ pub rechained_each-same : (rechained : ℕ) {capacity capacity' then : ℕ} → 
     → then ≡ rechained_each rechained capacity (capacity' - capacity)
 rechained_each-same rechained {capacity} {capacity'} same is =
     let none : capacity' - capacity ≡ 0 = omega (arith, same) in is ∙ sym (ap (rechained_each rechained capacity) none)
-
-made_each-more : (made c n : ℕ)
-    → made_each made c (suc n) ≡ made_raised (made_each made c n) (c + n) (c + n + 1)
-made_each-more made c zero = let here : c ≡ c + 0 = omega arith in ap (λ k. made_raised made k (k + 1)) here
-made_each-more made c (suc n) =
-    let further : c + 1 + n ≡ c + suc n = omega arith in
-    made_each-more (made_raised made c (c + 1)) (c + 1) n
-    ∙ ap (λ k. made_raised (made_each made c (suc n)) k (k + 1)) further
-
-pub made_each-put : (made start : ℕ) {capacity capacity' so_far then : ℕ}
-    → start ≤ capacity → so_far ≡ made_each made start (capacity - start)
-    → capacity ≤ capacity' → capacity' ≤ capacity + 1
-    → then ≡ made_raised so_far capacity capacity'
-    → then ≡ made_each made start (capacity' - start)
-made_each-put made start {capacity} {capacity'} {so_far} {then} above before least most counted =
-    ⊎_elim (λ full.
-    let higher : capacity' ≡ capacity + 1 = omega (arith, full, most) in
-    let n : start + (capacity - start) ≡ capacity = omega (arith, above) in
-    let steps : capacity' - start ≡ suc (capacity - start) = omega (arith, higher, above) in
-    counted ∙ (λ i. made_raised (before i) capacity (higher i))
-    ∙ ap (λ k. made_raised (made_each made start (capacity - start)) k (k + 1)) (sym n)
-    ∙ sym (made_each-more made start (capacity - start)) ∙ ap (made_each made start) (sym steps))
-    (λ room_left.
-    let same : capacity' ≡ capacity = omega (arith, room_left, least) in
-    counted ∙ ap (made_raised so_far capacity) same
-    ∙ made_raised-same so_far capacity ∙ before
-    ∙ ap (λ k. made_each made start (k - start)) (sym same))
-    (cases_lt capacity capacity')

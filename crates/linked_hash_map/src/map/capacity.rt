@@ -3,7 +3,7 @@ ghost use Rattle.std.specs.Prelude.{◌≡◌, ◌+◌, ◌*◌, ◌<◌, ◌≤
 ghost use Rattle.linked_hash_map.specs.Cursor.{to_visit};
 ghost use Rattle.linked_hash_map.specs.Changes.{KeepsSettings};
 ghost use Rattle.linked_hash_map.specs.Validity.{IsValid};
-ghost use Rattle.linked_hash_map.specs.Counts.{buckets, rechained_raised, rechained_fitted, made_raised, made_fitted};
+ghost use Rattle.linked_hash_map.specs.Counts.{buckets, rechained_raised, rechained_fitted};
 
 use super::{LIMIT, LinkedHashMap};
 use crate::error::{NoRoom, ReserveError};
@@ -32,8 +32,6 @@ impl<K: Eq + Hash, V, S: BuildHasher> LinkedHashMap<K, V, S> {
         ensures rechained { OnOk result
             (self.new.rechained ≡ rechained_raised self.old.rechained (length self.old.pairs)
             self.old.capacity self.new.capacity) }
-        ensures made { OnOk result
-            (self.new.made ≡ made_raised self.old.made self.old.capacity self.new.capacity) }
         ensures to_visit { to_visit self.new ≡ to_visit self.old }
         ensures valid { IsValid K.eq self.old }
         ensures stays_valid { IsValid K.eq self.new }
@@ -82,8 +80,6 @@ impl<K: Eq + Hash, V, S: BuildHasher> LinkedHashMap<K, V, S> {
         ensures capacity { OnOk result (self.new.capacity ≡ length self.old.pairs) }
         ensures rechained { OnOk result (self.new.rechained
             ≡ rechained_fitted self.old.rechained (length self.old.pairs) self.old.capacity) }
-        ensures made { OnOk result (self.new.made
-            ≡ made_fitted self.old.made (length self.old.pairs) self.old.capacity) }
         ensures ends_visit { OnOk result (to_visit self.new ≡ []) }
         ensures valid { IsValid K.eq self.old }
         ensures stays_valid { IsValid K.eq self.new }

@@ -25,7 +25,6 @@ impl<K: Eq + Hash, V> LinkedHashMap<K, V> {
         ensures mode { result.mode ≡ Mode.Touch }
         ensures valid { IsValid K.eq result }
         ensures rechained { result.rechained ≡ 0 }
-        ensures made { result.made ≡ 0 }
     {
         Self::with_hasher(alloc, BuildHasherDefault::new())
     }
@@ -48,7 +47,6 @@ impl<K: Eq + Hash, V> LinkedHashMap<K, V> {
         ensures mode { IfOk result (λ map. map.mode ≡ Mode.Touch) }
         ensures valid { IfOk result (IsValid K.eq) }
         ensures rechained { IfOk result (λ map. map.rechained ≡ 0) }
-        ensures made { IfOk result (λ map. map.made ≡ capacity) }
 
         ensures too_large { IsErrOf result ReserveError.TooLarge ↔ (LIMIT < capacity) }
         ensures no_room { IsErrOf result ReserveError.NoRoom → 0 < capacity }
@@ -78,7 +76,6 @@ impl<K: Eq + Hash, V, S: BuildHasher> LinkedHashMap<K, V, S> {
         ensures mode { result.mode ≡ Mode.Touch }
         ensures valid { IsValid K.eq result }
         ensures rechained { result.rechained ≡ 0 }
-        ensures made { result.made ≡ 0 }
     {
         Self::of_empty(Table::new(alloc), hasher)
     }
@@ -109,7 +106,6 @@ impl<K: Eq + Hash, V, S: BuildHasher> LinkedHashMap<K, V, S> {
         ensures mode { IfOk result (λ map. map.mode ≡ Mode.Touch) }
         ensures valid { IfOk result (IsValid K.eq) }
         ensures rechained { IfOk result (λ map. map.rechained ≡ 0) }
-        ensures made { IfOk result (λ map. map.made ≡ capacity) }
 
         ensures too_large { IsErrOf result ReserveError.TooLarge ↔ (LIMIT < capacity) }
         ensures no_room { IsErrOf result ReserveError.NoRoom → 0 < capacity }

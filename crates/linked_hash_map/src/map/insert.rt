@@ -6,7 +6,7 @@ ghost use Rattle.linked_hash_map.specs.Cursor.{to_visit};
 ghost use Rattle.linked_hash_map.specs.Changes.{Keeps, KeepsSettings};
 ghost use Rattle.linked_hash_map.specs.Validity.{IsValid};
 ghost use Rattle.linked_hash_map.specs.Hashers.{hash_by};
-ghost use Rattle.linked_hash_map.specs.Counts.{rechained_raised, made_raised};
+ghost use Rattle.linked_hash_map.specs.Counts.{rechained_raised};
 ghost use Rattle.linked_hash_map.specs.Touches.{IsTouched};
 ghost use Rattle.linked_hash_map.specs.Updates.{Updates};
 ghost use Rattle.lhm_ring.specs.Pointer.{pointer_of};
@@ -64,8 +64,6 @@ impl<K: Eq + Hash, V, S: BuildHasher> LinkedHashMap<K, V, S> {
         ensures rechained { OnOk result
             (self.new.rechained ≡ rechained_raised self.old.rechained (length self.old.pairs)
             self.old.capacity self.new.capacity) }
-        ensures made { OnOk result
-            (self.new.made ≡ made_raised self.old.made self.old.capacity self.new.capacity) }
         ensures settings { KeepsSettings self.old self.new }
         ensures ends_visit { IfOk result (λ old. OnSome old (to_visit self.new ≡ [])) }
         ensures to_visit { IfOk result (λ old. IfNone old (to_visit self.new ≡ to_visit self.old)) }
@@ -153,8 +151,6 @@ impl<K: Eq + Hash, V, S: BuildHasher> LinkedHashMap<K, V, S> {
         ensures rechained { IsTrue result
             → self.new.rechained ≡ rechained_raised self.old.rechained (length self.old.pairs)
             self.old.capacity self.new.capacity }
-        ensures nodes { IsTrue result
-            → self.new.made ≡ made_raised self.old.made self.old.capacity self.new.capacity }
         ensures refused { IsFalse result → self.new ≡ self.old }
         ensures full { IsFalse result → length self.old.pairs ≡ self.old.capacity }
         ensures valid { IsValid K.eq self.old }

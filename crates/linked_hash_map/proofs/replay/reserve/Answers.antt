@@ -1,5 +1,5 @@
 use Rattle.std.proofs.Common.{◌∙◌, length, sym, Err, ap, arith, inr}
-use Rattle.lhm_ring.proofs.indexes.BucketCounts.{rechained_raised-same}
+use Rattle.linked_hash_map.proofs.pairs.RehashCounts.{rechained_raised-same}
 use Rattle.linked_hash_map.specs.Counts.{rechained_raised}
 use Rattle.linked_hash_map.proofs.runs.Effects.{size-contents, Defines-reserve, Defines-nothing}
 use Rattle.linked_hash_map.proofs.replay.reserve.Goals as goal

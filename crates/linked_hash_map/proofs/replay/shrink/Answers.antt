@@ -1,5 +1,5 @@
 use Rattle.std.proofs.Common.{◌∙◌, sym, ap, arith, inl, inr}
-use Rattle.lhm_ring.proofs.indexes.BucketCounts.{rechained_fitted-same}
+use Rattle.linked_hash_map.proofs.pairs.RehashCounts.{rechained_fitted-same}
 use Rattle.linked_hash_map.specs.Counts.{rechained_fitted}
 use Rattle.linked_hash_map.specs.Cursor.{to_visit}
 use Rattle.linked_hash_map.proofs.runs.Effects.{size-contents, Defines-shrink, Defines-nothing}

@@ -12,7 +12,7 @@ loop-key-init g c =
       cloned = HasCloned-none
           (c.into_iter-key-iterator.ensures.into_iter_gives ∙ c.iter-key-items.ensures.pairs)
           made.pairs (made.capacity ∙ c.len.ensures.len) made.rechained
-          (made.made ∙ c.len.ensures.len) of_hasher made.mode;
+          of_hasher made.mode;
       valid = made.valid;
     }
 
@@ -21,7 +21,7 @@ loop-key-preserved-in-Ok-insert g c =
     let put = c.in-Ok-insert.ensures in
     record {
       cloned = HasCloned-put c.loop-key.invariant.cloned c.in-Some.ensures.steps c.in_ok-key.ensures.cases c.in_ok-clone.ensures.cases
-          put.pairs put.capacity put.rechained put.made put.settings;
+          put.pairs put.capacity put.rechained put.settings;
       valid = put.stays_valid;
     }
 
@@ -30,7 +30,7 @@ loop-key-preserved g c =
     let put = c.in-Ok-insert.ensures in
     record {
       cloned = HasCloned-put c.loop-key.invariant.cloned c.in-Some.ensures.steps c.in_ok-key.ensures.cases c.in_ok-clone.ensures.cases
-          put.pairs put.capacity put.rechained put.made put.settings;
+          put.pairs put.capacity put.rechained put.settings;
       valid = put.stays_valid;
     }
 

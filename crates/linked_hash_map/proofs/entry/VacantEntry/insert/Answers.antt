@@ -1,6 +1,6 @@
 use Rattle.std.proofs.Common.{◌≡◌, ◌-◌, ◌∷◌, [], ◌++◌, length, length-append, inl, sym, ap, ◌∙◌, option_map, arith}
 use Rattle.lhm_ring.proofs.lists.Options.{Some-injective}
-use Rattle.linked_hash_map.specs.Counts.{rechained_raised, made_raised}
+use Rattle.linked_hash_map.specs.Counts.{rechained_raised}
 use Rattle.linked_hash_map.proofs.Callers.Keys.{set_or_push-absent}
 use Rattle.linked_hash_map.proofs.Callers.Updates.{Updates-set_or_push}
 use Rattle.linked_hash_map.proofs.pairs.EntryMaps.{to_visit-pushed}
@@ -30,9 +30,6 @@ returns g c =
               (pushed.ensures.keeps.rechained ∙ room.ensures.rechained c.if-not-make_room.false
               ∙ ap (rechained_raised m.rechained (length m.pairs) m.capacity)
               (room.ensures.made c.if-not-make_room.false)) i;
-          made =
-              (pushed.ensures.keeps.made ∙ room.ensures.nodes c.if-not-make_room.false
-              ∙ ap (made_raised m.made m.capacity) (room.ensures.made c.if-not-make_room.false)) i;
           mode = (pushed.ensures.keeps.mode ∙ room.ensures.settings.mode) i;
         },
       )),

@@ -8,7 +8,7 @@ pub loop-key-preserved-in-Ok : goal.loop-key-preserved-in-Ok
 loop-key-preserved-in-Ok g c =
     let put = c.in-Ok.ensures in
     IsExtended-put g.met.K.Eq.laws c.len-len.ensures.valid.distinct c.loop-key.invariant c.in-Some.ensures.goes
-    (record { pairs = put.pairs; capacity = put.capacity; rechained = put.rechained; made = put.made; settings = put.settings })
+    (record { pairs = put.pairs; capacity = put.capacity; rechained = put.rechained; settings = put.settings })
     put.stays_valid
     (record { value = c.in-Ok._old; is = put.old; ends = put.ends_visit; stands = put.to_visit; as_many = put.as_many; more = put.more })
 
@@ -16,7 +16,7 @@ pub loop-key-preserved : goal.loop-key-preserved
 loop-key-preserved g c =
     let put = c.in-Ok.ensures in
     IsExtended-put g.met.K.Eq.laws c.len-len.ensures.valid.distinct c.loop-key.invariant c.in-Some.ensures.goes
-    (record { pairs = put.pairs; capacity = put.capacity; rechained = put.rechained; made = put.made; settings = put.settings })
+    (record { pairs = put.pairs; capacity = put.capacity; rechained = put.rechained; settings = put.settings })
     put.stays_valid
     (record { value = c.in-Ok._old; is = put.old; ends = put.ends_visit; stands = put.to_visit; as_many = put.as_many; more = put.more })
 

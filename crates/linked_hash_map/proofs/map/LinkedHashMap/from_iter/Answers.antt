@@ -2,7 +2,7 @@ use Rattle.std.proofs.Common.{◌∙◌, ◌-◌, ◌≤◌, List, [], ◌∷◌
 use Rattle.std.specs.Iterator.{Drains, YieldsThen}
 use Rattle.std.proofs.lemmas.List.{map-id, length-map}
 use Rattle.std.proofs.lemmas.Result.{err_from_is_err_and}
-use Rattle.linked_hash_map.specs.Counts.{rechained_each, made_each}
+use Rattle.linked_hash_map.specs.Counts.{rechained_each}
 use Rattle.linked_hash_map.specs.Inserts.{insert_each}
 use Rattle.linked_hash_map.specs.declared.map.TheConstants.{LIMIT}
 use Rattle.linked_hash_map.proofs.Callers.Collected.{length-insert_each_most}
@@ -43,7 +43,6 @@ returns-in-Ok-clause-all g c =
       pairs = took.all.pairs ∙ (λ i. insert_each g.K.PartialEq.eq (made.mode i) (made.pairs i) (map-id given i));
       capacity_is = took.capacity ∙ ap (λ room. max room (length c.extend.new.self.pairs)) made.capacity;
       counted = took.rechained ∙ (λ i. rechained_each (made.rechained i) (made.capacity i) (c.extend.new.self.capacity - made.capacity i));
-      nodes_are = took.made ∙ (λ i. made_each (made.made i) (made.capacity i) (c.extend.new.self.capacity - made.capacity i));
     }
 
 pub returns-in-Ok-clause-to_visit : goal.returns-in-Ok-clause-to_visit

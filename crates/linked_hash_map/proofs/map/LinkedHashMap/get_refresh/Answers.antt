@@ -47,7 +47,6 @@ returns-in-Some g c =
               ∙ sym (to_back_by-stored laws respects has distinct as_key w)) i;
           capacity = moved.keeps.capacity i;
           rechained = moved.keeps.rechained i;
-          made = moved.keeps.made i;
         },
       )),
       record {

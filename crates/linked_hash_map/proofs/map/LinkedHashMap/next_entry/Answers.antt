@@ -18,7 +18,6 @@ returns-then-visit_next g c = (
         record {
           capacity = c.if-visit_next.ensures.keeps.capacity;
           rechained = c.if-visit_next.ensures.keeps.rechained;
-          made = c.if-visit_next.ensures.keeps.made;
           hasher = c.if-visit_next.ensures.keeps.hasher;
           mode = c.if-visit_next.ensures.keeps.mode;
         };

@@ -1,6 +1,11 @@
-use Rattle.std.proofs.Common.{arith}
+use Rattle.std.proofs.Common.{◌≤◌, arith, subst}
 use Rattle.lhm_ring.proofs.indexes.BucketCounts.{buckets-below}
+use Rattle.linked_hash_map.proofs.pairs.RehashCounts.{buckets-table}
 use Rattle.linked_hash_map.proofs.map.LinkedHashMap.rechained.Goals as goal
+
+pub returns-clause-few : goal.returns-clause-few
+returns-clause-few g c = rw (← c.self.view_is) (subst (λ n. c.self.inside.table.rechained ≤ n) (buckets-table c.self.inside.table.capacity)
+    c.rechained.ensures.few)
 
 pub returns-clause-below : goal.returns-clause-below
 returns-clause-below g c = rw (← c.self.view_is) (λ some.

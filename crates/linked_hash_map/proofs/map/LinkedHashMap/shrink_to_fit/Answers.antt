@@ -1,6 +1,9 @@
-use Rattle.std.proofs.Common.{refl}
+use Rattle.std.proofs.Common.{refl, sym, ap, ◌∙◌, arith, length}
+use Rattle.linked_hash_map.specs.Counts.{buckets, rechained_fitted}
 use Rattle.linked_hash_map.proofs.nodes.Fitted.{IsKept-fitted, pairs_of-triples}
+use Rattle.linked_hash_map.proofs.nodes.HeldPairs.{length-pairs_of}
 use Rattle.linked_hash_map.proofs.nodes.Kept.{IsValid-kept}
+use Rattle.linked_hash_map.proofs.pairs.RehashCounts.{buckets-table, rechained_fitted-table}
 use Rattle.linked_hash_map.proofs.map.LinkedHashMap.shrink_to_fit.Goals as goal
 
 pub invariant_of-self : goal.invariant_of-self
@@ -13,3 +16,20 @@ returns-in-Ok-clause-pairs g c = rw (← c.self.view_is) (pairs_of-triples c.sel
 
 pub returns-in-Ok-clause-stays_valid : goal.returns-in-Ok-clause-stays_valid
 returns-in-Ok-clause-stays_valid g c = IsValid-kept _ (invariant_of-self g c) refl refl refl
+
+pub returns-in-Ok-clause-rechained : goal.returns-in-Ok-clause-rechained
+returns-in-Ok-clause-rechained g c =
+    let t = c.self.inside.table in
+    rw (← c.self.view_is) (c.in-Ok.ensures.rechained ∙ rechained_fitted-table t.rechained (length t.held) t.capacity
+    ∙ ap (λ n. rechained_fitted t.rechained n t.capacity) (sym (length-pairs_of t.held)))
+
+pub returns-in-Err-clause-falls : goal.returns-in-Err-clause-falls
+returns-in-Err-clause-falls g c =
+    let t = c.self.inside.table in
+    rw (← c.self.view_is) (omega (
+      arith,
+      c.in-Err.ensures.falls,
+      buckets-table (length t.held),
+      buckets-table t.capacity,
+      ap buckets (length-pairs_of t.held),
+    ))

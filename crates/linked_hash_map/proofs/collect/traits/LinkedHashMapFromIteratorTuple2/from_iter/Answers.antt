@@ -18,7 +18,6 @@ returns g c =
                 capacity = empty.capacity;
                 mode = empty.mode;
                 rechained = empty.rechained;
-                made = empty.made;
                 valid = empty.valid;
               };
               hasher = subst g.S.Default.is_default (sym empty.hasher) c.default.ensures;
