@@ -98,7 +98,6 @@ module _ {K V S : Type 0} {eq : K → K → Bool} {hash : K → ℕ} (s t : Tabl
     keeps = record {
       capacity = counts.capacity;
       rechained = counts.rechained;
-      made = counts.made;
       hasher = refl;
       mode = refl;
     };

@@ -103,7 +103,7 @@ impl<K: Eq + Hash, V> Table<K, V> {
         ensures absent { IfNone result (LacksKey (K.eq key.now) hash self.old.held) }
     {
         let _len = self.ring.len();
-        let at = self.index.take_out(&mut self.ring, hash, key).0?;
+        let at = self.index.take_out(&mut self.ring, hash, key)?;
         Some(self.ring.unlink(at))
     }
 }
