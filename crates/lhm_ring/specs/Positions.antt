@@ -15,6 +15,10 @@ module _ {B : Type 0} where
   index_of p [] = 0
   index_of p (t ∷ hs) = cond (same_ptr t.at p) 0 (index_of p hs + 1)
 
--- the list, with the element at an index moved to the back
-abbrev pub to_back_at : {X : Type 0} → List X → ℕ → List X
-to_back_at xs i = remove xs i ++ option_to_list (slice_get xs i)
+-- the list, with the element at an index moved to the back, or to the front
+module _ {X : Type 0} where
+  abbrev pub to_back_at : List X → ℕ → List X
+  to_back_at xs i = remove xs i ++ option_to_list (slice_get xs i)
+
+  abbrev pub to_front_at : List X → ℕ → List X
+  to_front_at xs i = option_to_list (slice_get xs i) ++ remove xs i

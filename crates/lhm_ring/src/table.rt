@@ -3,7 +3,7 @@ ghost use Rattle.std.specs.Prelude.{◌≡◌, ℕ, ◌+◌, ◌-◌, ◌<◌, �
 ghost use Rattle.lhm_ring.specs.Nodes.{IsApart};
 ghost use Rattle.lhm_ring.specs.Ring.{IsHeld, AtHeld, first_at, last_at, held, pair, rekeyed};
 ghost use Rattle.lhm_ring.specs.Pointer.{pointer_of, pointer_of_some};
-ghost use Rattle.lhm_ring.specs.Positions.{IsAt, index_of, to_back_at};
+ghost use Rattle.lhm_ring.specs.Positions.{IsAt, index_of, to_back_at, to_front_at};
 ghost use Rattle.lhm_ring.specs.Index.{spots, entries};
 ghost use Rattle.lhm_ring.specs.Search.{HasKey, LacksKey, CountsSome, CountsAll};
 ghost use Rattle.lhm_ring.specs.Buckets.{buckets};
@@ -205,10 +205,9 @@ impl<K, V> Table<K, V> {
     /// Moves the pair at a position to the front. Positions stay.
     pub fn move_to_front(&mut self, at: Position<K, V>)
         requires { IsHeld self.old.held (pointer_of at) }
-        ensures first { AtHeld self.old.held (pointer_of at) (λ xs t ys.
-            self.new.held ≡ t ∷ (xs ++ ys)) }
+        ensures held { (index : ℕ) → IsAt self.old.held (pointer_of at) index →
+            self.new.held ≡ to_front_at self.old.held index }
         ensures keeps { KeepsCounts self.old self.new }
-        ensures apart { IsApart (map (λ t. t.at) self.old.held) }
     {
         self.ring.move_to_front(at);
     }

@@ -1,10 +1,10 @@
 -- Positions and indexes: what lies at an index, and where a position is once a triple moved.
-use Rattle.std.proofs.Common.{◌≡◌, ℕ, zero, suc, ◌+◌, ◌-◌, ◌<◌, true, false, cond, List, [], ◌∷◌, ◌++◌, map, length, remove, slice_get}
+use Rattle.std.proofs.Common.{◌≡◌, ℕ, zero, suc, ◌+◌, ◌-◌, ◌<◌, ◌≢◌, true, false, cond, List, [], ◌∷◌, ◌++◌, map, length, remove, slice_get}
 use Rattle.std.proofs.Common.{Option, Some, None, option_map, refl, sym, ap, ap₂, ◌∙◌, subst, arith, length-append}
 use Rattle.std.specs.Option.{option_to_list}
 use Rattle.std.specs.List.Sorted.{IsPermutation}
 use Rattle.std.proofs.lemmas.List.{map-append, length-map}
-use Rattle.std.proofs.lemmas.List.Sorted.{IsPermutation-refl, IsPermutation-cons, IsPermutation-append_comm}
+use Rattle.std.proofs.lemmas.List.Sorted.{IsPermutation-refl, IsPermutation-cons, IsPermutation-trans, IsPermutation-append_comm}
 use Rattle.std.proofs.lemmas.Option.{slice_get-map, slice_get_within}
 use denote.RawPtr.{Ptr}
 use Rattle.lhm_ring.proofs.lists.Apart.{IsFresh, same_ptr-equal, same_ptr-reflexive, same_ptr-symmetric, IsFresh-middle}
@@ -12,7 +12,7 @@ use Rattle.lhm_ring.proofs.lists.Options.{Some-injective, none_some}
 use Rattle.lhm_ring.proofs.indexes.Entries.{pointers-entries}
 use Rattle.lhm_ring.specs.Index.{entries}
 use Rattle.lhm_ring.specs.Nodes.{same_ptr, IsApart}
-use Rattle.lhm_ring.specs.Positions.{IsAt, index_of, to_back_at}
+use Rattle.lhm_ring.specs.Positions.{IsAt, index_of, to_back_at, to_front_at}
 use Rattle.lhm_ring.specs.Ring.{Held, IsHeld, AtHeld, first_at, last_at, last_of}
 
 -- the element right after the first ones, and the list without it
@@ -36,10 +36,16 @@ module _ {X Y : Type 0} (f : X → Y) where
   map-option_to_list None = refl
   map-option_to_list (Some x) = refl
 
+  map-at : (xs : List X) (i : ℕ) → map f (option_to_list (slice_get xs i)) ≡ option_to_list (slice_get (map f xs) i)
+  map-at xs i = map-option_to_list (slice_get xs i) ∙ ap option_to_list (sym (slice_get-map f xs i))
+
   pub map-to_back_at : (xs : List X) (i : ℕ) → map f (to_back_at xs i) ≡ to_back_at (map f xs) i
   map-to_back_at xs i = map-append f (remove xs i) (option_to_list (slice_get xs i))
-      ∙ ap₂ (λ ys zs. ys ++ zs) (map-remove xs i)
-      (map-option_to_list (slice_get xs i) ∙ ap option_to_list (sym (slice_get-map f xs i)))
+      ∙ ap₂ (λ ys zs. ys ++ zs) (map-remove xs i) (map-at xs i)
+
+  pub map-to_front_at : (xs : List X) (i : ℕ) → map f (to_front_at xs i) ≡ to_front_at (map f xs) i
+  map-to_front_at xs i = map-append f (option_to_list (slice_get xs i)) (remove xs i)
+      ∙ ap₂ (λ ys zs. ys ++ zs) (map-at xs i) (map-remove xs i)
 
 module _ {X : Type 0} where
   pub IsPermutation-to_back_at : (xs : List X) (i : ℕ) → IsPermutation xs (to_back_at xs i)
@@ -47,6 +53,10 @@ module _ {X : Type 0} where
   IsPermutation-to_back_at [] (suc i) = IsPermutation-refl []
   IsPermutation-to_back_at (x ∷ xs) zero = IsPermutation-append_comm (x ∷ []) xs
   IsPermutation-to_back_at (x ∷ xs) (suc i) = IsPermutation-cons x xs (to_back_at xs i) (IsPermutation-to_back_at xs i)
+
+  pub IsPermutation-to_front_at : (xs : List X) (i : ℕ) → IsPermutation xs (to_front_at xs i)
+  IsPermutation-to_front_at xs i = IsPermutation-trans xs (to_back_at xs i) (to_front_at xs i) (IsPermutation-to_back_at xs i)
+      (IsPermutation-append_comm (remove xs i) (option_to_list (slice_get xs i)))
 
 module _ {B : Type 0} where
   pub IsAt-append : (xs : List (Held B)) (t : Held B) (ys : List (Held B)) → IsAt (xs ++ t ∷ ys) t.at (length xs)
@@ -89,7 +99,8 @@ module _ {B : Type 0} where
       ]) refl h
 
   pub IsAt-within : (hs : List (Held B)) (i : ℕ) {p : Ptr} → IsAt hs p i → i < length hs
-  IsAt-within hs i at = let h = slice_get_within (map (λ t. t.at) hs) i _ at in let long = length-map hs (λ t. t.at) in omega (arith, h, long)
+  IsAt-within hs i at =
+      let h = slice_get_within (map (λ t. t.at) hs) i _ at in let long = length-map hs (λ t. t.at) in omega (arith, h, long)
 
   -- at the ends
   pub IsAt-first_at : (hs : List (Held B)) {p : Ptr} → Some p ≡ first_at hs → IsAt hs p 0
@@ -147,6 +158,32 @@ module _ {B : Type 0} where
         last h.before h.node h.after h.is h.at_is
         ∙ sym (ap₂ (λ xs o. xs ++ option_to_list o)
         ((λ j. remove (h.is j) (sym cut_at.long j)) ∙ remove-append h.before h.node h.after) slice_get-at)
+
+    pub to_front_at-at : {ws : List (Held B)} → AtHeld hs p (λ xs t ys. ws ≡ t ∷ (xs ++ ys)) → ws ≡ to_front_at hs i
+    to_front_at-at first =
+        let h = cut_at.held in
+        first h.before h.node h.after h.is h.at_is
+        ∙ sym (ap₂ (λ o xs. option_to_list o ++ xs) slice_get-at
+        ((λ j. remove (h.is j) (sym cut_at.long j)) ∙ remove-append h.before h.node h.after))
+
+    -- once it moved to the front, it has the first index, and each of another index is behind it
+    pub index_of-front : index_of p (to_front_at hs i) ≡ 0
+    index_of-front =
+        ap (λ o. index_of p (option_to_list o ++ remove hs i)) slice_get-at
+        ∙ ap (λ y. cond y 0 (index_of p (remove hs i) + 1))
+        (subst (λ q. same_ptr cut_at.held.node.at q ≡ true) cut_at.held.at_is (same_ptr-reflexive cut_at.held.node.at))
+
+    pub index_of-behind_front : (q : Ptr) → index_of p hs ≢ index_of q hs
+        → index_of q (to_front_at hs i) ≡ index_of q (remove hs i) + 1
+    index_of-behind_front q others =
+        ap (λ o. index_of q (option_to_list o ++ remove hs i)) slice_get-at
+        ∙ ap (λ y. cond y 0 (index_of q (remove hs i) + 1)) (ap (λ r. same_ptr r q) cut_at.held.at_is ∙ differ)
+      where
+        differ : same_ptr p q ≡ false
+        differ = (elim (same_ptr p q) as (λ y. same_ptr p q ≡ y → y ≡ false) [
+          | true ↦ λ e. absurd (others (ap (λ r. index_of r hs) (same_ptr-equal p q e)))
+          | false ↦ λ e. refl
+        ]) refl
 
   -- among other positions the last has the last index
   pub index_of-last : (p : Ptr) (hs : List (Held B)) (t : Held B) → t.at ≡ p

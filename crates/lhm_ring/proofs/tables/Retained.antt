@@ -102,7 +102,8 @@ module _ {F K V : Type 0} (T : F → K → V → Bool → V → F → Type 0) {f
     value = w;
     called = called;
     new_is = λ xs t ys e at. let is = written ∙ alone xs t ys e at w in
-        others (length xs) (IsAt-split xs (revalued w t) ys is at) ∙ ap (λ hs. remove hs (length xs)) is ∙ remove-append xs (revalued w t) ys
+        others (length xs) (IsAt-split xs (revalued w t) ys is at) ∙ ap (λ hs. remove hs (length xs)) is
+        ∙ remove-append xs (revalued w t) ys
         ∙ ap (λ c. xs ++ cond c (revalued w t ∷ ys) ys) (sym removed);
   }
 

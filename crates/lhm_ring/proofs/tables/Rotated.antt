@@ -1,16 +1,16 @@
 -- The first of some nodes, moved behind the others.
 use Rattle.std.proofs.Common.{◌≡◌, ℕ, ◌+◌, ◌<◌, List, [], ◌∷◌, ◌++◌, length, take, drop, get_or, Option, Some, None}
 use Rattle.std.proofs.Common.{refl, sym, ap, ap₂, ◌∙◌, arith, append-nil, append_assoc}
-use Rattle.std.specs.Option.{IsSome}
+use Rattle.std.specs.Option.{IsSome, option_to_list}
 use Rattle.std.proofs.lemmas.List.{drop_more, take_more}
 use Rattle.std.proofs.Math.Seq.{take-length, drop-length}
 use denote.RawPtr.{Ptr}
 use Rattle.lhm_ring.specs.declared.pointer.Position.{Position}
 use Rattle.lhm_ring.proofs.lists.Options.{none_some, Some-injective}
 use Rattle.lhm_ring.specs.Pointer.{pointer_of, pointer_of_some}
-use Rattle.lhm_ring.proofs.tables.Positions.{IsAt-split}
-use Rattle.lhm_ring.specs.Positions.{IsAt, to_back_at}
-use Rattle.lhm_ring.specs.Ring.{Held, AtHeld, IsHeld, first_at, last_at, last_of}
+use Rattle.lhm_ring.proofs.tables.Positions.{IsAt-split, slice_get-append, remove-append}
+use Rattle.lhm_ring.specs.Positions.{IsAt, to_back_at, to_front_at}
+use Rattle.lhm_ring.specs.Ring.{Held, IsHeld, first_at, last_at, last_of}
 
 -- the first n behind the others
 abbrev pub rotated : {X : Type 0} → ℕ → List X → List X
@@ -103,7 +103,9 @@ module _ {K V : Type 0} {n : ℕ} (xs : List (Held (K × V))) (below : n < lengt
 
       -- it goes to the front
       pub rotated-fewer : {ks : List (Held (K × V))}
-          → AtHeld hs (pointer_of at) (λ xs t ys. ks ≡ t ∷ (xs ++ ys)) → ks ≡ rotated n xs
-      rotated-fewer moved = let t = turn n xs below in
-          moved t.others t.node [] (is ∙ t.last_is) back_is
-          ∙ ap (λ ys. t.node ∷ ys) (append-nil t.others) ∙ sym t.first_is
+          → ((i : ℕ) → IsAt hs (pointer_of at) i → ks ≡ to_front_at hs i) → ks ≡ rotated n xs
+      rotated-fewer moved = let t = turn n xs below in let back = is ∙ t.last_is in
+          moved (length t.others) (IsAt-split t.others t.node [] back back_is)
+          ∙ ap (λ ys. to_front_at ys (length t.others)) back
+          ∙ ap₂ (λ o ys. option_to_list o ++ ys) (slice_get-append t.others t.node [])
+          (remove-append t.others t.node [] ∙ append-nil t.others) ∙ sym t.first_is

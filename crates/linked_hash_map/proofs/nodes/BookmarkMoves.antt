@@ -8,8 +8,8 @@ use Rattle.std.specs.Map.{keys_of}
 use denote.RawPtr.{Ptr}
 use Rattle.linked_hash_map.specs.Nodes.{VisitState, IsKept, Lies, bookmark_at, bare, pairs_of}
 use Rattle.lhm_ring.specs.Positions.{index_of}
-use Rattle.linked_hash_map.proofs.nodes.HeldPairs.{before-bare, length-bare}
-use Rattle.linked_hash_map.proofs.nodes.CutNodes.{CutAt, CutAt-before, before-append}
+use Rattle.linked_hash_map.proofs.nodes.HeldPairs.{index_of-bare, length-bare}
+use Rattle.linked_hash_map.proofs.nodes.CutNodes.{CutAt, CutAt-index_of, index_of-append}
 use Rattle.linked_hash_map.proofs.nodes.Outside.{IsElsewhere, to_visit_of, unvisited_some, bookmark_lies}
 use Rattle.linked_hash_map.proofs.lists.Stretches.{stretch-step, take-none}
 use Rattle.lhm_ring.specs.Nodes.{IsApart}
@@ -18,7 +18,7 @@ use Rattle.lhm_ring.specs.Ring.{Held, AtHeld, first_at}
 module _ {K V : Type 0} where
   pub bookmark-bare : (o : Option Ptr) (hs : List (Held (K × V))) → bookmark_at o (bare hs) ≡ bookmark_at o hs
   bookmark-bare None hs = refl
-  bookmark-bare (Some p) hs = before-bare p hs
+  bookmark-bare (Some p) hs = index_of-bare p hs
 
   -- the node behind one has the next index
   bookmark_at-next : (front : List (Held (K × V))) (t : Held (K × V)) (back : List (Held (K × V)))
@@ -28,7 +28,7 @@ module _ {K V : Type 0} where
   bookmark_at-next front t (u ∷ back) apart some =
       let on : front ++ t ∷ u ∷ back ≡ (front ++ t ∷ []) ++ u ∷ back = sym (append_assoc front (t ∷ []) (u ∷ back)) in
       ap (index_of u.at) on
-      ∙ before-append (front ++ t ∷ []) u back (subst (λ l. IsApart (map (λ v. v.at) l)) on apart)
+      ∙ index_of-append (front ++ t ∷ []) u back (subst (λ l. IsApart (map (λ v. v.at) l)) on apart)
       ∙ length-append front (t ∷ [])
 
 -- a visit goes on from the pair at p: its bookmark is then at the next pair, if one is left
@@ -45,9 +45,9 @@ module _ {K V : Type 0} {eq : K → K → Bool} {hash : K → ℕ} (hs : List (H
     (bookmarked : old.bookmark ≡ Some p) where
   pub bookmarked_cut : CutAt p hs
   bookmarked_cut =
-      let lies = bookmark_lies kept bookmarked in let at = before-bare p hs in
+      let lies = bookmark_lies kept bookmarked in let at = index_of-bare p hs in
       let long = length-bare hs in
-      CutAt-before p hs (omega (arith, lies, at, long))
+      CutAt-index_of p hs (omega (arith, lies, at, long))
 
 module _ {K V : Type 0} {eq : K → K → Bool} {hash : K → ℕ} (hs : List (Held (K × V))) {p : Ptr}
     {capacity : ℕ} {old new : VisitState} (kept : IsKept eq hash (bare hs) capacity old)
@@ -61,7 +61,7 @@ module _ {K V : Type 0} {eq : K → K → Bool} {hash : K → ℕ} (hs : List (H
   next_index : 0 < new.unvisited → bookmark_at new.bookmark nodes ≡ index_of p nodes + 1
   next_index some =
       let cut = bookmarked_cut hs kept goes.bookmarked in let h = cut.held in
-      let at = before-bare p hs in let long = length-bare hs in
+      let at = index_of-bare p hs in let long = length-bare hs in
       let all = ap length h.is ∙ length-append h.before (h.node ∷ h.after) in
       let is = bookmark-bare new.bookmark hs
       ∙ ap (λ o. bookmark_at o hs) (goes.next some h.before h.node h.after h.is h.at_is)

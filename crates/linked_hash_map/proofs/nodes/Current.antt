@@ -10,8 +10,8 @@ use Rattle.linked_hash_map.specs.Nodes.{VisitState, bare, current_at, cursor_at,
 use Rattle.linked_hash_map.proofs.nodes.Kept.{no_visit, IsValid-kept}
 use Rattle.lhm_ring.specs.Positions.{index_of}
 use Rattle.linked_hash_map.specs.Nodes.{Beside, pairs_of, map_of}
-use Rattle.linked_hash_map.proofs.nodes.HeldPairs.{length-bare, before-bare}
-use Rattle.linked_hash_map.proofs.nodes.CutNodes.{CutAt, CutAt-before}
+use Rattle.linked_hash_map.proofs.nodes.HeldPairs.{length-bare, index_of-bare}
+use Rattle.linked_hash_map.proofs.nodes.CutNodes.{CutAt, CutAt-index_of}
 use Rattle.linked_hash_map.proofs.nodes.Outside.{IsElsewhere, to_visit_of}
 use Rattle.lhm_ring.specs.Pointer.{pointer_of, pointer_of_some}
 use Rattle.lhm_ring.specs.Ring.{Held}
@@ -20,7 +20,7 @@ use Rattle.lhm_ring.specs.Table.{TableState, KeepsCounts}
 -- the index is the number of nodes before the pointer
 pub current_at-Some : {K V : Type 0} {o : Option Ptr} {p : Ptr} → o ≡ Some p
     → (hs : List (Held (K × V))) → current_at o (bare hs) ≡ index_of p hs
-current_at-Some {p = p} is hs = ap (λ z. current_at z (bare hs)) is ∙ before-bare p hs
+current_at-Some {p = p} is hs = ap (λ z. current_at z (bare hs)) is ∙ index_of-bare p hs
 
 -- where an entry stands
 pub current_of-Some : {K V : Type 0} {current : Option Ptr} {o : Option (Position K V)}
@@ -30,15 +30,15 @@ current_of-Some of is = sym of ∙ ap pointer_of_some is
 module _ {K V : Type 0} {eq : K → K → Bool} {hash : K → ℕ} (hs : List (Held (K × V)))
     {capacity : ℕ} {visit : VisitState} (kept : IsKept eq hash (bare hs) capacity visit) where
   -- a node lies there
-  pub before-current : {p : Ptr} → visit.current ≡ Some p → index_of p hs < length hs
-  before-current {p} is =
+  pub index_of-current : {p : Ptr} → visit.current ≡ Some p → index_of p hs < length hs
+  index_of-current {p} is =
       let lies : index_of p (bare hs) < length (bare hs) = subst (λ z. Lies z (bare hs)) is kept.current_lies in
-      let of_before = before-bare p hs in let of_bare = length-bare hs in
+      let of_before = index_of-bare p hs in let of_bare = length-bare hs in
       omega (arith, lies, of_before, of_bare)
 
   pub CutAt-current : {o : Option (Position K V)} {at : Position K V} → pointer_of_some o ≡ visit.current
       → o ≡ Some at → CutAt (pointer_of at) hs
-  CutAt-current {o} {at} of is = CutAt-before (pointer_of at) hs (before-current (current_of-Some of is))
+  CutAt-current {o} {at} of is = CutAt-index_of (pointer_of at) hs (index_of-current (current_of-Some of is))
 
   -- if the index is outside the pairs to visit, the node is
   pub IsElsewhere-current : {p : Ptr} → visit.current ≡ Some p → {S : Type 0} (m : LinkedMap K V S)

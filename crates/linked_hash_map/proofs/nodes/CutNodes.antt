@@ -25,12 +25,6 @@ module _ {K V : Type 0} {hs : List (Held (K × V))} {p : Ptr} (held : IsHeld hs 
       (length-pairs_of held.before) (ap (λ ps. slice_get ps (length (pairs_of held.before)))
       pairs_of-held ∙ slice_get-append (pairs_of held.before) held.node.pair (pairs_of held.after))
 
-  pub pairs_of-removed : pairs_of (held.before ++ held.after) ≡ remove (pairs_of hs) (length held.before)
-  pairs_of-removed = subst (λ i. pairs_of (held.before ++ held.after) ≡ remove (pairs_of hs) i)
-      (length-pairs_of held.before) (pairs_of-append held.before held.after
-      ∙ sym (ap (λ ps. remove ps (length (pairs_of held.before))) pairs_of-held
-      ∙ remove-append (pairs_of held.before) held.node.pair (pairs_of held.after)))
-
   pub pairs_of-change_at : WritesOnly hs p → (w : V)
       → pairs_of (change_at p (revalued w) hs) ≡ set_value_at (pairs_of hs) (length held.before) w
   pairs_of-change_at alone w =
@@ -45,16 +39,16 @@ module _ {K V : Type 0} {hs : List (Held (K × V))} {p : Ptr} (held : IsHeld hs 
 abbrev pub CutAt : {B : Type 0} → Ptr → List (Held B) → Type 0
 CutAt p hs = Positions.CutAt hs p (index_of p hs)
 
-pub CutAt-before : {B : Type 0} (p : Ptr) (hs : List (Held B)) → index_of p hs < length hs → CutAt p hs
-CutAt-before p hs h = CutAt-IsAt hs p (index_of p hs) (IsAt-index_of p hs h)
+pub CutAt-index_of : {B : Type 0} (p : Ptr) (hs : List (Held B)) → index_of p hs < length hs → CutAt p hs
+CutAt-index_of p hs h = CutAt-IsAt hs p (index_of p hs) (IsAt-index_of p hs h)
 
 -- nodes at different pointers: each is the first at its own
 module _ {K V : Type 0} where
-  pub before-append : (xs : List (Held (K × V))) (t : Held (K × V)) (ys : List (Held (K × V)))
+  pub index_of-append : (xs : List (Held (K × V))) (t : Held (K × V)) (ys : List (Held (K × V)))
       → IsApart (map (λ u. u.at) (xs ++ t ∷ ys)) → index_of t.at (xs ++ t ∷ ys) ≡ length xs
-  before-append [] t ys d = ap (λ y. cond y 0 (index_of t.at ys + 1)) (same_ptr-reflexive t.at)
-  before-append (x ∷ xs) t ys d =
-      let on = before-append xs t ys (IsApart-tail x.at (map (λ u. u.at) (xs ++ t ∷ ys)) d) in
+  index_of-append [] t ys d = ap (λ y. cond y 0 (index_of t.at ys + 1)) (same_ptr-reflexive t.at)
+  index_of-append (x ∷ xs) t ys d =
+      let on = index_of-append xs t ys (IsApart-tail x.at (map (λ u. u.at) (xs ++ t ∷ ys)) d) in
       let one : index_of t.at (xs ++ t ∷ ys) + 1 ≡ suc (length xs) = omega (arith, on) in
       ap (λ y. cond y 0 (index_of t.at (xs ++ t ∷ ys) + 1))
       (same_ptr-fresh x.at xs t ys (IsFresh-head x.at (map (λ u. u.at) (xs ++ t ∷ ys)) d)) ∙ one

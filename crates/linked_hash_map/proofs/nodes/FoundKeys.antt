@@ -4,8 +4,8 @@ use denote.RawPtr.{Ptr}
 use Rattle.linked_hash_map.specs.Indexes.{IsIndex}
 use Rattle.linked_hash_map.specs.Nodes.{pairs_of, bare}
 use Rattle.lhm_ring.specs.Positions.{index_of}
-use Rattle.linked_hash_map.proofs.nodes.HeldPairs.{length-bare, before-bare}
-use Rattle.linked_hash_map.proofs.nodes.CutNodes.{CutAt-before, slice_get-held}
+use Rattle.linked_hash_map.proofs.nodes.HeldPairs.{length-bare, index_of-bare}
+use Rattle.linked_hash_map.proofs.nodes.CutNodes.{CutAt-index_of, slice_get-held}
 use Rattle.lhm_ring.proofs.tables.Positions.{index_of-held}
 use Rattle.lhm_ring.specs.Ring.{Held}
 use Rattle.lhm_ring.specs.Search.{HasKey}
@@ -21,24 +21,24 @@ IsIndex-HasKey h = let held = h.held in
     }
 
 module _ {K V : Type 0} {is_key : K → Bool} {hash : ℕ} {hs : List (Held (K × V))} {p : Ptr} (h : HasKey is_key hash hs p) where
-  pub before-HasKey : index_of p hs < length hs
-  before-HasKey = index_of-held h.held
+  pub index_of-HasKey : index_of p hs < length hs
+  index_of-HasKey = index_of-held h.held
 
-  pub before-HasKey_bare : index_of p (bare hs) < length (bare hs)
-  before-HasKey_bare =
-      let lies = before-HasKey in let of_before = before-bare p hs in
+  pub index_of-HasKey_bare : index_of p (bare hs) < length (bare hs)
+  index_of-HasKey_bare =
+      let lies = index_of-HasKey in let of_before = index_of-bare p hs in
       let of_bare = length-bare hs in
       omega (arith, lies, of_before, of_bare)
 
 module _ {K V : Type 0} {eq : K → K → Bool} {hash : ℕ} {k : K} {hs : List (Held (K × V))} {p : Ptr} (h : HasKey (eq k) hash hs p) where
-  pub IsIndex-before : IsIndex eq (pairs_of hs) k (index_of p hs)
-  IsIndex-before =
-      let cut = CutAt-before p hs (before-HasKey h) in let at = cut.held in
+  pub IsIndex-index_of : IsIndex eq (pairs_of hs) k (index_of p hs)
+  IsIndex-index_of =
+      let cut = CutAt-index_of p hs (index_of-HasKey h) in let at = cut.held in
       record {
         pair = at.node.pair;
         there = ap (slice_get (pairs_of hs)) (sym cut.long) ∙ slice_get-held at;
         same = h.key_is at.before at.node at.after at.is at.at_is;
       }
 
-  pub IsIndex-before_bare : IsIndex eq (pairs_of hs) k (index_of p (bare hs))
-  IsIndex-before_bare = subst (IsIndex eq (pairs_of hs) k) (sym (before-bare p hs)) IsIndex-before
+  pub IsIndex-index_of_bare : IsIndex eq (pairs_of hs) k (index_of p (bare hs))
+  IsIndex-index_of_bare = subst (IsIndex eq (pairs_of hs) k) (sym (index_of-bare p hs)) IsIndex-index_of

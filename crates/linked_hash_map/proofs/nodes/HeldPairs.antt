@@ -43,9 +43,9 @@ module _ {K V : Type 0} where
   keys-bare [] = refl
   keys-bare (t ∷ hs) = ap (λ ks. t.pair.0 ∷ ks) (keys-bare hs)
 
-  pub before-bare : (p : Ptr) (hs : List (Held (K × V))) → index_of p (bare hs) ≡ index_of p hs
-  before-bare p [] = refl
-  before-bare p (t ∷ hs) = ap (λ n. cond (same_ptr t.at p) 0 (n + 1)) (before-bare p hs)
+  pub index_of-bare : (p : Ptr) (hs : List (Held (K × V))) → index_of p (bare hs) ≡ index_of p hs
+  index_of-bare p [] = refl
+  index_of-bare p (t ∷ hs) = ap (λ n. cond (same_ptr t.at p) 0 (n + 1)) (index_of-bare p hs)
 
   -- with their hashes
   pub pairs-triples : (hs : List (Held (K × V))) → map (λ t. t.1) (triples hs) ≡ pairs_of hs

@@ -10,9 +10,8 @@ use Rattle.std.proofs.lemmas.List.Sorted.{IsPermutation-map, length_permutation,
 use Rattle.std.proofs.lemmas.Map.Keys.{IsDistinct-IsPermutation}
 use denote.RawPtr.{Ptr}
 use Rattle.lhm_ring.proofs.tables.Positions.{map-to_back_at, IsPermutation-to_back_at}
-use Rattle.linked_hash_map.specs.Nodes.{VisitState, Lies, pairs_of, bare, bare_node, bookmark_at, IsKept}
-use Rattle.linked_hash_map.proofs.nodes.Kept.{no_visit, IsKept-same}
-use Rattle.linked_hash_map.proofs.nodes.HeldPairs.{length-bare, before-bare}
+use Rattle.linked_hash_map.specs.Nodes.{VisitState, no_visit, Lies, pairs_of, bare, bare_node, bookmark_at, IsKept}
+use Rattle.linked_hash_map.proofs.nodes.HeldPairs.{length-bare, index_of-bare}
 use Rattle.linked_hash_map.proofs.nodes.Outside.{IsElsewhere, to_visit_at, to_visit_of, to_visit-bare, to_visit-out}
 use Rattle.linked_hash_map.proofs.nodes.TakenNode.{IsKept-out}
 use Rattle.linked_hash_map.proofs.nodes.PushedPair.{bookmark_at-append, to_visit-append}
@@ -76,7 +75,7 @@ module _ {K V : Type 0} (hs : List (Held (K × V))) {ks : List (Held (K × V))} 
     pub IsKept-moved : IsEquivalence eq → {p : Ptr} → visit.current ≡ Some p → index_of p ks + 1 ≡ length hs
         → {n : ℕ} → n ≡ capacity → IsKept eq hash (bare ks) n visit
     IsKept-moved laws {p} is last same =
-        let of_hs = length-bare hs in let of_ks = length-bare ks in let at = before-bare p ks in
+        let of_hs = length-bare hs in let of_ks = length-bare ks in let at = index_of-bare p ks in
         let reach = behind-moved in let long = length-moved in
         IsKept-same refl same (IsKept-permuted laws IsPermutation-moved kept (omega (arith, of_hs, reach))
         (subst (λ o. Lies o (bare ks)) (sym is) (omega (arith, at, of_ks, last, long))))

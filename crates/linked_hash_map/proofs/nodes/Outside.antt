@@ -17,14 +17,14 @@ use Rattle.lhm_ring.specs.Nodes.{same_ptr}
 use Rattle.lhm_ring.specs.Ring.{Held}
 
 -- a node among the first ones is where it was
-pub before_within : {B : Type 0} (p : Ptr) (front back : List (Held B)) → index_of p front < length front
+pub index_of-among_first : {B : Type 0} (p : Ptr) (front back : List (Held B)) → index_of p front < length front
     → index_of p (front ++ back) ≡ index_of p front
-before_within p [] back h = absurd (omega (arith, h))
-before_within p (x ∷ front) back h =
+index_of-among_first p [] back h = absurd (omega (arith, h))
+index_of-among_first p (x ∷ front) back h =
     (elim (same_ptr x.at p) as (λ y. cond y 0 (index_of p front + 1) < suc (length front)
     → cond y 0 (index_of p (front ++ back) + 1) ≡ cond y 0 (index_of p front + 1)) [
       | true ↦ λ k. refl
-      | false ↦ λ k. ap (λ n. n + 1) (before_within p front back (omega (arith, k)))
+      | false ↦ λ k. ap (λ n. n + 1) (index_of-among_first p front back (omega (arith, k)))
     ]) h
 
 -- a stretch that ends before an element is out, and what is behind that element
@@ -85,21 +85,3 @@ module _ {K : Type 0} {eq : K → K → Bool} {hash : K → ℕ} {us : List (Hel
       let long = length-map us (λ u. u.pair) in
       ap (λ ks. take visit.unvisited (drop (bookmark_at visit.bookmark (remove us i)) ks)) (map-remove (λ u. u.pair) us i)
       ∙ stretch-removed (map (λ u. u.pair) us) i visit.unvisited (omega (arith, long, within)) shifts
-
--- nodes with values, cut at the first at a pointer
-module _ {K V : Type 0} {p : Ptr} {hs : List (Held (K × V))} (cut : CutAt p hs) where
-  pub bare-cut : bare hs ≡ bare cut.held.before ++ bare_node cut.held.node ∷ bare cut.held.after
-  bare-cut = let h = cut.held in ap bare h.is ∙ map-append bare_node h.before (h.node ∷ h.after)
-
-  pub IsKept-cut : {eq : K → K → Bool} {hash : K → ℕ} {capacity : ℕ} {visit : VisitState}
-      → IsKept eq hash (bare hs) capacity visit
-      → IsKept eq hash (bare cut.held.before ++ bare_node cut.held.node ∷ bare cut.held.after)
-      capacity visit
-  IsKept-cut {eq} {hash} {capacity} {visit} kept = subst (λ us. IsKept eq hash us capacity visit) bare-cut kept
-
-  pub IsElsewhere-cut : (visit : VisitState) → IsElsewhere (index_of p hs) visit (bare hs)
-      → IsElsewhere (length (bare cut.held.before)) visit
-      (bare cut.held.before ++ bare_node cut.held.node ∷ bare cut.held.after)
-  IsElsewhere-cut visit elsewhere =
-      let index = length-bare cut.held.before ∙ cut.long in
-      subst (λ (x : ℕ × List (Held K)). IsElsewhere x.0 visit x.1) (λ i. (sym index i, bare-cut i)) elsewhere

@@ -12,7 +12,7 @@ use Rattle.linked_hash_map.specs.Pairs.{find}
 use Rattle.linked_hash_map.proofs.nodes.HeldPairs.{length-bare, keys-bare, pairs_of-append}
 use Rattle.linked_hash_map.proofs.pairs.Calls.{list_any-none}
 use Rattle.linked_hash_map.proofs.nodes.Kept.{IsKept-same}
-use Rattle.linked_hash_map.proofs.nodes.Outside.{before_within, bookmark_lies, to_visit_at, to_visit_of, to_visit-bare}
+use Rattle.linked_hash_map.proofs.nodes.Outside.{index_of-among_first, bookmark_lies, to_visit_at, to_visit_of, to_visit-bare}
 use Rattle.linked_hash_map.proofs.lists.Stretches.{stretch-front}
 use Rattle.lhm_ring.specs.Ring.{Held}
 
@@ -21,11 +21,11 @@ module _ {B : Type 0} where
   pub current_at-append : (current : Option Ptr) (us vs : List (Held B)) → Lies current us
       → current_at current (us ++ vs) ≡ current_at current us
   current_at-append None us vs h = refl
-  current_at-append (Some p) us vs h = before_within p us vs h
+  current_at-append (Some p) us vs h = index_of-among_first p us vs h
 
   lies-append : (current : Option Ptr) (us vs : List (Held B)) → Lies current us → Lies current (us ++ vs)
   lies-append None us vs h = tt
-  lies-append (Some p) us vs h = let same = before_within p us vs h in let long = length-append us vs in omega (arith, same, long, h)
+  lies-append (Some p) us vs h = let same = index_of-among_first p us vs h in let long = length-append us vs in omega (arith, same, long, h)
 
 -- one node more, the last
 module _ {K : Type 0} {eq : K → K → Bool} {hash : K → ℕ} {us : List (Held K)} {capacity : ℕ}
@@ -35,7 +35,7 @@ module _ {K : Type 0} {eq : K → K → Bool} {hash : K → ℕ} {us : List (Hel
     where
       by_bookmark : (o : Option Ptr) → visit.bookmark ≡ o → bookmark_at o (us ++ vs) ≡ bookmark_at o us
       by_bookmark None is = refl
-      by_bookmark (Some p) is = before_within p us vs (bookmark_lies k is)
+      by_bookmark (Some p) is = index_of-among_first p us vs (bookmark_lies k is)
 
   -- what is still to be visited ends before it
   pub to_visit-append : (vs : List (Held K)) → to_visit_at visit (us ++ vs) ≡ to_visit_at visit us

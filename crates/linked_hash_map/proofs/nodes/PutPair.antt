@@ -18,8 +18,8 @@ use Rattle.linked_hash_map.specs.Touches.{IsTouched}
 use Rattle.linked_hash_map.proofs.pairs.Indexes.{slice_get-set_value_at, set_value_at-pushed, slice_get-pushed}
 use Rattle.linked_hash_map.proofs.pairs.Indexes.{set_value-index, is_some-index, to_back-index, value_at-slice_get}
 use Rattle.linked_hash_map.proofs.pairs.Calls.{set_or_push-present}
-use Rattle.linked_hash_map.proofs.nodes.HeldPairs.{bare-change, before-bare, length-bare, length-pairs_of, length-same}
-use Rattle.linked_hash_map.proofs.nodes.CutNodes.{CutAt, CutAt-before, slice_get-held, pairs_of-change_at}
+use Rattle.linked_hash_map.proofs.nodes.HeldPairs.{bare-change, index_of-bare, length-bare, length-pairs_of, length-same}
+use Rattle.linked_hash_map.proofs.nodes.CutNodes.{CutAt, CutAt-index_of, slice_get-held, pairs_of-change_at}
 use Rattle.linked_hash_map.proofs.nodes.Current.{IsKept-visited}
 use Rattle.linked_hash_map.proofs.nodes.MovedNode.{pairs-moved, length-moved, IsKept-moved, to_visit-moved, behind-moved}
 use Rattle.linked_hash_map.proofs.nodes.Outside.{IsElsewhere, to_visit_at, to_visit_of, to_visit-bare}
@@ -39,8 +39,8 @@ module _ {K V : Type 0} (hs ks : List (Held (K × V))) (p : Ptr) (lies : index_o
       omega (arith, long, fewer, last)
 
   cut_by : (mode : Mode) → IsTouched mode p hs ks → CutAt p ks
-  cut_by Touch moved = let long = length-moved hs _ moved.0 in CutAt-before p ks (omega (arith, long, moved.1))
-  cut_by Keep same = subst (CutAt p) (sym same) (CutAt-before p hs lies)
+  cut_by Touch moved = let long = length-moved hs _ moved.0 in CutAt-index_of p ks (omega (arith, long, moved.1))
+  cut_by Keep same = subst (CutAt p) (sym same) (CutAt-index_of p hs lies)
 
   length_by : (mode : Mode) → IsTouched mode p hs ks → length ks ≡ length hs
   length_by Touch moved = length-moved hs _ moved.0
@@ -74,7 +74,7 @@ module _ {K V : Type 0} {p : Ptr} {mode : Mode} {hs ks : List (Held (K × V))}
   pub value-touched : {v : V} → AtHeld ks p (λ xs t ys. v ≡ t.pair.1)
       → option_map (λ pair. pair.1) (slice_get (pairs_of hs) (index_of p hs)) ≡ Some v
   value-touched at =
-      let old = CutAt-before p hs moved.lies in let g = old.held in let h = touched_cut.held in
+      let old = CutAt-index_of p hs moved.lies in let g = old.held in let h = touched_cut.held in
       let here = ap (slice_get (pairs_of hs)) (sym old.long) ∙ slice_get-held g in
       let own = ap (slice_get (pairs_of ks)) (sym touched_cut.long) ∙ slice_get-held h in
       ap (option_map (λ pair. pair.1)) (here ∙ sym (slice_get-touched g.node.pair here) ∙ own)
@@ -95,7 +95,7 @@ module _ {K V : Type 0} {p : Ptr} {mode : Mode} {hs ks : List (Held (K × V))}
         (index_of p (change_at p (revalued w) ks)) ≡ Some (pair.0, w)
     pair-touched pair there =
         let ls = change_at p (revalued w) ks in
-        ap (slice_get (pairs_of ls)) (sym (before-bare p ls) ∙ ap (index_of p) (bare-change p w ks) ∙ before-bare p ks)
+        ap (slice_get (pairs_of ls)) (sym (index_of-bare p ls) ∙ ap (index_of p) (bare-change p w ks) ∙ index_of-bare p ks)
         ∙ ap (λ ps. slice_get ps (index_of p ks)) set-touched
         ∙ slice_get-set_value_at (pairs_of ks) (index_of p ks) w pair (slice_get-touched pair there)
 
@@ -162,9 +162,9 @@ module _ {K V : Type 0} {eq : K → K → Bool} (laws : IsEquivalence eq) {hash 
       (bare (change_at p (revalued w) ks))
   elsewhere-put w =
       let ls = change_at p (revalued w) ks in
-      subst (λ k. IsElsewhere k visit (bare ls)) (before-bare p ls)
+      subst (λ k. IsElsewhere k visit (bare ls)) (index_of-bare p ls)
       (subst (λ us. IsElsewhere (index_of p us) visit us) (sym (bare-change p w ks))
-      (subst (λ k. IsElsewhere k visit (bare ks)) (sym (before-bare p ks)) (elsewhere-touched laws kept is elsewhere moved)))
+      (subst (λ k. IsElsewhere k visit (bare ks)) (sym (index_of-bare p ks)) (elsewhere-touched laws kept is elsewhere moved)))
 
 -- with nothing to visit, and no current pair
 pub IsKept-put : {K V : Type 0} {eq : K → K → Bool} → IsEquivalence eq → {hash : K → ℕ} {p : Ptr}
@@ -172,7 +172,7 @@ pub IsKept-put : {K V : Type 0} {eq : K → K → Bool} → IsEquivalence eq →
     {visit : VisitState} → IsKept eq hash (bare hs) capacity visit → {n : ℕ} → n ≡ capacity
     → (w : V) → IsKept eq hash (bare (change_at p (revalued w) ks)) n no_visit
 IsKept-put laws {p = p} {hs = hs} moved kept same w =
-    let at = before-bare p hs in let long = length-bare hs in
+    let at = index_of-bare p hs in let long = length-bare hs in
     IsKept-visited (IsKept-put_current laws moved
     (IsKept-visited kept (Some p) (omega (arith, at, long, moved.lies))) refl
     (inr (omega arith)) same w) None tt

@@ -16,7 +16,7 @@ use Rattle.linked_hash_map.specs.Pairs.{set_key}
 use Rattle.linked_hash_map.proofs.lists.Distinct.{AllByRecursion-replaced, IsDistinct-replaced}
 use Rattle.linked_hash_map.proofs.lists.Stretches.{stretch-set}
 use Rattle.linked_hash_map.proofs.nodes.CutNodes.{slice_get-held, pairs_of-held}
-use Rattle.linked_hash_map.proofs.nodes.HeldPairs.{before-bare, length-pairs_of, pairs_of-append}
+use Rattle.linked_hash_map.proofs.nodes.HeldPairs.{index_of-bare, length-pairs_of, pairs_of-append}
 use Rattle.linked_hash_map.proofs.nodes.Outside.{IsElsewhere, to_visit_of}
 use Rattle.linked_hash_map.proofs.pairs.Indexes.{set_key_by_index}
 use Rattle.lhm_ring.specs.Nodes.{same_ptr}
@@ -27,8 +27,8 @@ module _ {K : Type 0} (front : List (Held K)) (u : Held K) (back : List (Held K)
   abbrev renewed : List (Held K)
   renewed = front ++ record u { pair = k } ∷ back
 
-  before-renewed : (p : Ptr) → index_of p renewed ≡ index_of p (front ++ u ∷ back)
-  before-renewed p = by_front front
+  index_of-renewed : (p : Ptr) → index_of p renewed ≡ index_of p (front ++ u ∷ back)
+  index_of-renewed p = by_front front
     where
       by_front : (ts : List (Held K)) → index_of p (ts ++ record u { pair = k } ∷ back) ≡ index_of p (ts ++ u ∷ back)
       by_front [] = refl
@@ -39,15 +39,15 @@ module _ {K : Type 0} (front : List (Held K)) (u : Held K) (back : List (Held K)
 
   bookmark_at-renewed : (o : Option Ptr) → bookmark_at o renewed ≡ bookmark_at o (front ++ u ∷ back)
   bookmark_at-renewed None = refl
-  bookmark_at-renewed (Some p) = before-renewed p
+  bookmark_at-renewed (Some p) = index_of-renewed p
 
   current_at-renewed : (o : Option Ptr) → current_at o renewed ≡ current_at o (front ++ u ∷ back)
   current_at-renewed None = refl
-  current_at-renewed (Some p) = before-renewed p
+  current_at-renewed (Some p) = index_of-renewed p
 
   Lies-renewed : (o : Option Ptr) → Lies o (front ++ u ∷ back) → Lies o renewed
   Lies-renewed None lies = tt
-  Lies-renewed (Some p) lies = let at = before-renewed p in let long = length-renewed in omega (arith, at, long, lies)
+  Lies-renewed (Some p) lies = let at = index_of-renewed p in let long = length-renewed in omega (arith, at, long, lies)
 
   module _ {eq : K → K → Bool} (laws : IsEquivalence eq) {hash : K → ℕ} {capacity : ℕ} {visit : VisitState}
       (kept : IsKept eq hash (front ++ u ∷ back) capacity visit) (same : IsTrue (eq k u.pair))
@@ -92,9 +92,9 @@ module _ {K V : Type 0} {hs ks : List (Held (K × V))} {p : Ptr} (h : IsHeld hs 
       })
       ∙ sym (ap (cursor_at visit) bare_old)
 
-  pub before-rekeyed : (q : Ptr) → index_of q ks ≡ index_of q hs
-  before-rekeyed q = sym (before-bare q ks)
-      ∙ ap (λ cursor. cursor.current) (cursor_at-rekeyed (record no_visit { current = Some q })) ∙ before-bare q hs
+  pub index_of-rekeyed : (q : Ptr) → index_of q ks ≡ index_of q hs
+  index_of-rekeyed q = sym (index_of-bare q ks)
+      ∙ ap (λ cursor. cursor.current) (cursor_at-rekeyed (record no_visit { current = Some q })) ∙ index_of-bare q hs
 
   pub pairs_of-rekeyed : pairs_of ks ≡ slice_set (pairs_of hs) (length h.before) (k, h.node.pair.1)
   pairs_of-rekeyed =

@@ -1,38 +1,15 @@
 -- The first nodes, moved behind the others.
-use Rattle.std.proofs.Common.{◌≡◌, ℕ, Bool, List, ◌++◌, map, length, take, drop, refl, sym, ap, ap₂, ◌∙◌, subst, arith, length-append}
-use Rattle.std.specs.List.{IsDistinct}
+use Rattle.std.proofs.Common.{◌≡◌, ℕ, Bool, List, ◌++◌, length, None, take, drop, refl, sym, ap, ap₂, ◌∙◌, subst, arith, length-append}
+use Rattle.std.specs.List.Sorted.{IsPermutation}
 use Rattle.std.specs.Cmp.{IsEquivalence}
 use Rattle.std.proofs.lemmas.List.{map-append, take-append-drop, take-map, drop-map}
-use Rattle.std.proofs.lemmas.List.Sorted.{IsPermutation-append_comm}
-use Rattle.std.proofs.lemmas.Map.Keys.{IsDistinct-IsPermutation}
-use Rattle.lhm_ring.proofs.lists.ForAll.{AllByRecursion-append, AllByRecursion-left, AllByRecursion-right}
-use Rattle.linked_hash_map.specs.Nodes.{VisitState, pairs_of, bare, bare_node, IsKept}
-use Rattle.linked_hash_map.proofs.nodes.Kept.{no_visit, IsKept-same}
+use Rattle.std.proofs.lemmas.List.Sorted.{IsPermutation-append_comm, IsPermutation-map}
+use Rattle.linked_hash_map.specs.Nodes.{VisitState, no_visit, pairs_of, bare, bare_node, IsKept}
 use Rattle.linked_hash_map.proofs.nodes.HeldPairs.{length-pairs_of, pairs_of-append}
+use Rattle.linked_hash_map.proofs.nodes.Current.{IsKept-visited}
+use Rattle.linked_hash_map.proofs.nodes.Kept.{IsKept-same}
+use Rattle.linked_hash_map.proofs.nodes.MovedNode.{IsKept-permuted}
 use Rattle.lhm_ring.specs.Ring.{Held}
-
--- two parts of the nodes change places, and nothing is to be visited
-IsKept-swapped : {K : Type 0} {eq : K → K → Bool} {hash : K → ℕ} → IsEquivalence eq
-    → (us vs : List (Held K)) {capacity : ℕ} {visit : VisitState}
-    → IsKept eq hash (us ++ vs) capacity visit → IsKept eq hash (vs ++ us) capacity no_visit
-IsKept-swapped {K} {eq} {hash} laws us vs kept =
-    let keys : List (Held K) → List K = map (λ u. u.pair) in
-    let P : Held K → Type 0 = λ u. u.hash ≡ hash u.pair in
-    let of_all = length-append us vs in let of_swapped = length-append vs us in
-    record {
-      distinct = subst (IsDistinct eq) (sym (map-append (λ (u : Held K). u.pair) vs us))
-          (IsDistinct-IsPermutation eq laws.symm (keys us ++ keys vs) (keys vs ++ keys us)
-          (IsPermutation-append_comm (keys us) (keys vs))
-          (subst (IsDistinct eq) (map-append (λ (u : Held K). u.pair) us vs) kept.distinct));
-      hashed = AllByRecursion-append P vs us (AllByRecursion-right P us vs kept.hashed)
-          (AllByRecursion-left P us vs kept.hashed);
-      within = omega (arith, of_all, of_swapped, kept.within);
-      limit = kept.limit;
-      bookmarked = λ _. refl;
-      ended = λ _. refl;
-      in_reach = omega arith;
-      current_lies = tt;
-    }
 
 -- hs are the nodes before, and ks those where the first are behind the others
 module _ {K V : Type 0} (count : ℕ) (hs ks : List (Held (K × V))) (is : ks ≡ drop count hs ++ take count hs) where
@@ -51,8 +28,7 @@ module _ {K V : Type 0} (count : ℕ) (hs ks : List (Held (K × V))) (is : ks �
 
   pub IsKept-rotated : {eq : K → K → Bool} {hash : K → ℕ} → IsEquivalence eq → {capacity n : ℕ} {visit : VisitState}
       → IsKept eq hash (bare hs) capacity visit → n ≡ capacity → IsKept eq hash (bare ks) n no_visit
-  IsKept-rotated {eq} {hash} laws {capacity} {n} {visit} kept same =
-      IsKept-same (ap bare is ∙ map-append bare_node (drop count hs) (take count hs)) same
-      (IsKept-swapped laws (bare (take count hs)) (bare (drop count hs))
-      (subst (λ us. IsKept eq hash us capacity visit)
-      (ap bare (sym (take-append-drop count hs)) ∙ map-append bare_node (take count hs) (drop count hs)) kept))
+  IsKept-rotated laws kept same =
+      let order = subst (λ us. IsPermutation us ks) (take-append-drop count hs)
+      (subst (IsPermutation (take count hs ++ drop count hs)) (sym is) (IsPermutation-append_comm (take count hs) (drop count hs))) in
+      IsKept-same refl same (IsKept-permuted laws (IsPermutation-map bare_node hs ks order) (IsKept-visited kept None tt) (omega arith) tt)

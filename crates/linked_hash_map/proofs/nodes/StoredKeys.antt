@@ -16,7 +16,7 @@ use Rattle.linked_hash_map.specs.Validity.{IsValid}
 use Rattle.linked_hash_map.proofs.Callers.Keys.{length-to_back_present, length-without_present}
 use Rattle.linked_hash_map.proofs.Callers.Updates.{Updates-put, Updates-set_value, Updates-without}
 use Rattle.linked_hash_map.proofs.nodes.CutNodes.{slice_get-held}
-use Rattle.linked_hash_map.proofs.nodes.FoundKeys.{before-HasKey, IsIndex-before}
+use Rattle.linked_hash_map.proofs.nodes.FoundKeys.{index_of-HasKey, IsIndex-index_of}
 use Rattle.linked_hash_map.proofs.nodes.TakenNode.{pairs-removed}
 use Rattle.linked_hash_map.proofs.pairs.Indexes.{find-index, without-index, set_value-index, is_some-index, slice_get-last}
 use Rattle.linked_hash_map.proofs.pairs.Inserts.{distinct-to_back}
@@ -65,8 +65,8 @@ module _ {K V : Type 0} {eq : K → K → Bool} (laws : IsEquivalence eq) {is_ke
     -- without its pair
     module _ {ws : List (Held (K × V))} (others : AtHeld hs p (λ xs x ys. ws ≡ xs ++ ys)) where
       is_without : pairs_of ws ≡ without eq (pairs_of hs) stored
-      is_without = pairs-removed hs _ (remove-at hs _ (IsAt-index_of p hs (before-HasKey h)) others)
-          ∙ sym (without-index laws distinct (IsIndex-before HasKey-stored))
+      is_without = pairs-removed hs _ (remove-at hs _ (IsAt-index_of p hs (index_of-HasKey h)) others)
+          ∙ sym (without-index laws distinct (IsIndex-index_of HasKey-stored))
 
       pub without-stored : pairs_of ws ≡ filter (λ pair. not (is_key pair.0)) (pairs_of hs)
       without-stored = is_without

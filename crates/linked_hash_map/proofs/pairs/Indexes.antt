@@ -9,7 +9,7 @@ use Rattle.std.specs.Cmp.{IsEquivalence}
 use Rattle.std.proofs.lemmas.Map.Keys.{IsDistinct-head, IsDistinct-tail}
 use Rattle.std.proofs.Math.Nat.{le_of_suc-le-suc}
 use Rattle.lhm_ring.proofs.lists.Options.{Some-injective}
-use Rattle.lhm_ring.specs.Positions.{to_back_at}
+use Rattle.lhm_ring.specs.Positions.{to_back_at, to_front_at}
 use Rattle.linked_hash_map.specs.Pairs.{key_or, find, value_at, without, to_back, to_back_as_is, to_front, set_key, set_value}
 use Rattle.linked_hash_map.specs.Indexes.{IsIndex, pair_at, set_value_at}
 use Rattle.linked_hash_map.proofs.log.LiveKeys.{same_test}
@@ -178,11 +178,11 @@ module _ {K V : Type 0} {eq : K → K → Bool} (laws : IsEquivalence eq) {pairs
     pub to_back-index : (v : V) → to_back eq pairs k v ≡ remove pairs i ++ (pair.0, v) ∷ []
     to_back-index v = ap₂ (λ ps o. ps ++ (key_or k o, v) ∷ []) without-index find-index
 
-    pub to_front-index : to_front eq pairs k ≡ pair ∷ remove pairs i
-    to_front-index = ap₂ (λ ps o. option_to_list o ++ ps) without-index find-index
-
   pub to_back_as_is-index : to_back_as_is eq pairs k ≡ to_back_at pairs i
   to_back_as_is-index = ap₂ (λ ps o. ps ++ option_to_list o) without-index (find-index index.there ∙ sym index.there)
+
+  pub to_front-index : to_front eq pairs k ≡ to_front_at pairs i
+  to_front-index = ap₂ (λ ps o. option_to_list o ++ ps) without-index (find-index index.there ∙ sym index.there)
 
   pub value_at-slice_get : value_at eq pairs k ≡ option_map (λ p. p.1) (slice_get pairs i)
   value_at-slice_get = ap (option_map (λ p. p.1)) (find-index index.there ∙ sym index.there)

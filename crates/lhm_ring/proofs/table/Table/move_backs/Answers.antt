@@ -36,7 +36,7 @@ loop-moved-preserved g c =
     record {
       rotated = rotated-fewer hs (less hs c.loop-moved._moved c.args.count more c.requires)
           (one_more hs c.loop-moved._moved c.args.count more c.requires inv.rotated) c.last.result c.last.ensures.last
-          c.unwrap-back.ensures moved.first;
+          c.unwrap-back.ensures moved.held;
       keeps = record {
         capacity = moved.keeps.capacity ∙ inv.keeps.capacity;
         rechained = moved.keeps.rechained ∙ inv.keeps.rechained;

@@ -1,6 +1,6 @@
-use Rattle.std.proofs.Common.{◌≡◌, ◌++◌, ◌∷◌, None, ap, ◌∙◌, arith}
-use Rattle.lhm_ring.proofs.tables.Tables.{IsHeld-table, AtHeld-table, IsApart-table, length-capacity, IsTable-to_front, length-moved_front}
-use Rattle.lhm_ring.proofs.indexes.Entries.{entries-append}
+use Rattle.std.proofs.Common.{None, refl, ap, ◌∙◌, arith}
+use Rattle.lhm_ring.proofs.tables.Positions.{to_front_at-at, map-to_front_at, IsAt-entries}
+use Rattle.lhm_ring.proofs.tables.Tables.{IsHeld-table, length-capacity, IsTable-to_front, length-moved_front}
 use Rattle.lhm_ring.proofs.table.Table.move_to_front.Goals as goal
 use Rattle.lhm_ring.specs.Pointer.{pointer_of}
 use Rattle.lhm_ring.specs.Ring.{linked_to}
@@ -16,12 +16,11 @@ invariant_of-self g c =
     (IsHeld-table c.self.inside.ring c.self.inside.rechained c.self.view_is (pointer_of c.args.at)
     c.requires) moved.first moved.spares moved.nodes
 
-pub returns-clause-first : goal.returns-clause-first
-returns-clause-first g c =
-    AtHeld-table c.self.inside.ring c.self.inside.rechained c.self.view_is (pointer_of c.args.at)
-    (λ xs t ys. entries c.move_to_front.new.self.held ≡ t ∷ (xs ++ ys))
-    (λ xs t ys e at. ap entries (c.move_to_front.ensures.first xs t ys e at)
-    ∙ ap (λ zs. linked_to None t ∷ zs) (entries-append xs ys))
+pub returns-clause-held : goal.returns-clause-held
+returns-clause-held g c =
+    let hs = c.self.inside.ring.held in
+    rw (← c.self.view_is) (λ i at. ap entries (to_front_at-at hs i (IsAt-entries hs i refl at) c.move_to_front.ensures.first)
+    ∙ map-to_front_at (linked_to None) hs i)
 
 pub returns-clause-keeps : goal.returns-clause-keeps
 returns-clause-keeps g c =
@@ -35,6 +34,3 @@ returns-clause-keeps g c =
       rechained = ap (λ s. s.rechained) c.self.view_is;
       made = moved.nodes ∙ ap (λ s. s.made) c.self.view_is;
     }
-
-pub returns-clause-apart : goal.returns-clause-apart
-returns-clause-apart g c = IsApart-table c.self.inside.ring c.self.inside.rechained c.self.view_is c.move_to_front.ensures.apart

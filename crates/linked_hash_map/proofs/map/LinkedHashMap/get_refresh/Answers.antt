@@ -6,7 +6,7 @@ use Rattle.linked_hash_map.proofs.nodes.Kept.{no_visit, distinct_keys, IsValid-v
 use Rattle.linked_hash_map.proofs.nodes.StoredKeys.{eq-stored, HasKey-stored, to_back_by-stored, UpdatesBy-to_back_by}
 use Rattle.linked_hash_map.proofs.nodes.StoredKeys.{last-to_back_by, length-to_back_by, IsValid-refreshed}
 use Rattle.linked_hash_map.proofs.lists.Options.{of-Some, of-None}
-use Rattle.linked_hash_map.proofs.nodes.FoundKeys.{before-HasKey, IsIndex-before}
+use Rattle.linked_hash_map.proofs.nodes.FoundKeys.{index_of-HasKey, IsIndex-index_of}
 use Rattle.linked_hash_map.proofs.nodes.PutPair.{IsTouchedAt, touched_cut, pairs-put, value_at-touched, IsKept-put}
 use Rattle.linked_hash_map.proofs.map.LinkedHashMap.get_refresh.Goals as goal
 use Rattle.lhm_ring.proofs.tables.Positions.{IsAt-index_of}
@@ -17,7 +17,7 @@ value_mut-requires g c =
     let hs = c.self.inside.table.held in let last = c.move_to_back.ensures in
     let has = (of-Some _ c.in-Some.is c.locate-found.ensures.found).has in
     let moved : IsTouchedAt (pointer_of c.in-Some.at) Touch hs c.move_to_back.new.self.held =
-    record { lies = before-HasKey has; touched = (last.held _ (IsAt-index_of _ hs (before-HasKey has)), last.last) } in
+    record { lies = index_of-HasKey has; touched = (last.held _ (IsAt-index_of _ hs (index_of-HasKey has)), last.last) } in
     (touched_cut moved).held
 
 pub invariant_of-self-lent : goal.invariant_of-self-lent
@@ -25,7 +25,7 @@ invariant_of-self-lent g c w =
     let hs = c.self.inside.table.held in let last = c.move_to_back.ensures in
     let has = (of-Some _ c.in-Some.is c.locate-found.ensures.found).has in
     let moved : IsTouchedAt (pointer_of c.in-Some.at) Touch hs c.move_to_back.new.self.held =
-    record { lies = before-HasKey has; touched = (last.held _ (IsAt-index_of _ hs (before-HasKey has)), last.last) } in
+    record { lies = index_of-HasKey has; touched = (last.held _ (IsAt-index_of _ hs (index_of-HasKey has)), last.last) } in
     IsKept-put g.met.K.Eq.laws moved c.self.invariant last.keeps.capacity w
 
 pub returns-in-Some : goal.returns-in-Some
@@ -36,9 +36,9 @@ returns-in-Some g c =
     let distinct = distinct_keys m.table.held c.self.invariant in
     let valid = IsValid-view m refl c.self.invariant in
     let as_key = g.Q.Equivalent.as_key c.args.key in
-    let index = IsIndex-before (HasKey-stored laws respects has) in
+    let index = IsIndex-index_of (HasKey-stored laws respects has) in
     let at : IsTouchedAt (pointer_of c.in-Some.at) Touch m.table.held c.move_to_back.new.self.held =
-    record { lies = before-HasKey has; touched = (moved.held _ (IsAt-index_of _ m.table.held (before-HasKey has)), moved.last) } in
+    record { lies = index_of-HasKey has; touched = (moved.held _ (IsAt-index_of _ m.table.held (index_of-HasKey has)), moved.last) } in
     rw (← c.self.view_is) (
       (λ i. inl (
         c.value_mut.result.ghost_name,

@@ -7,7 +7,7 @@ use Rattle.linked_hash_map.proofs.Callers.Lookups.{last-put}
 use Rattle.linked_hash_map.proofs.pairs.Calls.{put-absent}
 use Rattle.linked_hash_map.proofs.lists.Options.{of-Some, of-None}
 use Rattle.linked_hash_map.proofs.nodes.Kept.{distinct_keys, IsValid-kept, IsValid-view}
-use Rattle.linked_hash_map.proofs.nodes.FoundKeys.{before-HasKey, IsIndex-before}
+use Rattle.linked_hash_map.proofs.nodes.FoundKeys.{index_of-HasKey, IsIndex-index_of}
 use Rattle.linked_hash_map.proofs.nodes.PutPair.{IsTouchedAt, touched_cut, value_at-touched, pairs-put, length-put, IsKept-put}
 use Rattle.linked_hash_map.proofs.map.LinkedHashMap.insert.Goals as goal
 use Rattle.lhm_ring.specs.Pointer.{pointer_of}
@@ -22,7 +22,7 @@ has g c = (of-Some _ c.in-Some.is c.locate-hash.ensures.found).has
 -- and the node there is moved by the map's mode
 moved : (g : _) (c : goal.After-drop-key g) → IsTouchedAt (pointer_of c.in-Some.at)
     c.self.inside.mode c.self.inside.table.held c.touch.new.table.held
-moved g c = record { lies = before-HasKey (has g c); touched = c.touch.ensures.touched }
+moved g c = record { lies = index_of-HasKey (has g c); touched = c.touch.ensures.touched }
 
 -- a key that is not found is absent
 absent : (g : _) (c : goal.After-push_back g) → find g.K.PartialEq.eq c.args.self.now.pairs c.args.key ≡ None
@@ -33,7 +33,7 @@ value_mut-requires g c =
     let hs = c.self.inside.table.held in
     let there = (of-Some _ c.in-Some.is c.locate-hash.ensures.found).has in
     let moved : IsTouchedAt (pointer_of c.in-Some.at) c.self.inside.mode hs c.touch.new.table.held =
-    record { lies = before-HasKey there; touched = c.touch.ensures.touched } in
+    record { lies = index_of-HasKey there; touched = c.touch.ensures.touched } in
     (touched_cut moved).held
 
 pub invariant_of-self : goal.invariant_of-self
@@ -45,7 +45,7 @@ returns-in-Some-clause-old g c =
     let there = has g c in
     rw (← c.self.view_is) (
     ap Some c.replace.ensures.value
-    ∙ value_at-touched g.met.K.Eq.laws (IsIndex-before there) (distinct_keys c.self.inside.table.held c.self.invariant)
+    ∙ value_at-touched g.met.K.Eq.laws (IsIndex-index_of there) (distinct_keys c.self.inside.table.held c.self.invariant)
     (moved g c) c.value_mut.ensures.value
     )
 
@@ -53,7 +53,7 @@ pub returns-in-Some-clause-pairs : goal.returns-in-Some-clause-pairs
 returns-in-Some-clause-pairs g c =
     let m = c.self.inside in let there = has g c in
     rw (← c.self.view_is) (
-    pairs-put g.met.K.Eq.laws (IsIndex-before there) (distinct_keys c.self.inside.table.held c.self.invariant) (moved g c)
+    pairs-put g.met.K.Eq.laws (IsIndex-index_of there) (distinct_keys c.self.inside.table.held c.self.invariant) (moved g c)
     c.value_mut.ensures.alone c.replace.new.dest
     ∙ ap (put g.K.PartialEq.eq m.mode (pairs_of m.table.held) c.args.key) c.replace.ensures.after
     )

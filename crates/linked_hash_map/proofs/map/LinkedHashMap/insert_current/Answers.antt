@@ -4,7 +4,7 @@ use Rattle.lhm_ring.specs.Positions.{index_of}
 use Rattle.linked_hash_map.specs.Indexes.{IsIndex}
 use Rattle.linked_hash_map.specs.Pairs.{put}
 use Rattle.linked_hash_map.proofs.nodes.Kept.{distinct_keys}
-use Rattle.linked_hash_map.proofs.nodes.Current.{current_of-Some, current_at-Some, before-current, CutAt-current, IsElsewhere-current}
+use Rattle.linked_hash_map.proofs.nodes.Current.{current_of-Some, current_at-Some, index_of-current, CutAt-current, IsElsewhere-current}
 use Rattle.linked_hash_map.proofs.nodes.Current.{MovesCurrent-nodes}
 use Rattle.linked_hash_map.proofs.nodes.Outside.{IsElsewhere}
 use Rattle.linked_hash_map.proofs.nodes.PutPair.{IsTouchedAt, touched_cut, value-touched, pair-touched, pairs-put}
@@ -21,7 +21,7 @@ value_mut-requires g c =
     let is = current_of-Some c.current.ensures c.unwrap-at.ensures in
     let moved : IsTouchedAt (pointer_of c.unwrap-at.result) c.self.inside.mode
     c.self.inside.table.held c.touch.new.table.held =
-    record { lies = before-current c.self.inside.table.held c.self.invariant is; touched = c.touch.ensures.touched } in
+    record { lies = index_of-current c.self.inside.table.held c.self.invariant is; touched = c.touch.ensures.touched } in
     (touched_cut moved).held
 
 -- the current pair's node, which is moved by the map's mode, and is none of those to visit
@@ -30,7 +30,7 @@ is g c = current_of-Some c.current.ensures c.unwrap-at.ensures
 
 moved : (g : _) (c : goal.After-self-1 g) → IsTouchedAt (pointer_of c.unwrap-at.result)
     c.self.inside.mode c.self.inside.table.held c.touch.new.table.held
-moved g c = record { lies = before-current c.self.inside.table.held c.self.invariant (is g c); touched = c.touch.ensures.touched }
+moved g c = record { lies = index_of-current c.self.inside.table.held c.self.invariant (is g c); touched = c.touch.ensures.touched }
 
 elsewhere : (g : _) (c : goal.After-self-1 g)
     → IsElsewhere (index_of (pointer_of c.unwrap-at.result) c.self.inside.table.held)

@@ -5,7 +5,7 @@ use Rattle.lhm_ring.specs.Positions.{index_of}
 use Rattle.linked_hash_map.specs.Indexes.{IsIndex}
 use Rattle.linked_hash_map.proofs.pairs.Indexes.{to_back_as_is-index}
 use Rattle.linked_hash_map.proofs.nodes.Kept.{distinct_keys}
-use Rattle.linked_hash_map.proofs.nodes.Current.{current_of-Some, current_at-Some, before-current, CutAt-current, IsElsewhere-current}
+use Rattle.linked_hash_map.proofs.nodes.Current.{current_of-Some, current_at-Some, index_of-current, CutAt-current, IsElsewhere-current}
 use Rattle.linked_hash_map.proofs.nodes.Current.{MovesCurrent-nodes}
 use Rattle.linked_hash_map.proofs.nodes.MovedNode.{pairs-moved}
 use Rattle.linked_hash_map.proofs.nodes.Outside.{IsElsewhere}
@@ -24,7 +24,7 @@ is g c = current_of-Some c.current.ensures c.unwrap-at.ensures
 moved : (g : _) (c : goal.After-move_to_back g) → IsTouchedAt (pointer_of c.unwrap-at.result)
     Touch c.self.inside.table.held c.move_to_back.new.self.held
 moved g c =
-    let lies = before-current c.self.inside.table.held c.self.invariant (is g c) in
+    let lies = index_of-current c.self.inside.table.held c.self.invariant (is g c) in
     record {
       lies = lies;
       touched = (c.move_to_back.ensures.held _ (IsAt-index_of _ c.self.inside.table.held lies), c.move_to_back.ensures.last);

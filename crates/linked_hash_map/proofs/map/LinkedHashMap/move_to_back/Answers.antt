@@ -4,7 +4,7 @@ use Rattle.linked_hash_map.specs.Nodes.{pairs_of}
 use Rattle.linked_hash_map.specs.Pairs.{find, to_back_as_is}
 use Rattle.linked_hash_map.proofs.Callers.Moves.{find-to_back_as_is, to_back_as_is-absent}
 use Rattle.linked_hash_map.proofs.lists.Options.{of-Some, of-None}
-use Rattle.linked_hash_map.proofs.nodes.FoundKeys.{before-HasKey, IsIndex-before}
+use Rattle.linked_hash_map.proofs.nodes.FoundKeys.{index_of-HasKey, IsIndex-index_of}
 use Rattle.linked_hash_map.proofs.nodes.HeldPairs.{length-pairs_of}
 use Rattle.linked_hash_map.proofs.nodes.Kept.{distinct_keys, IsValid-kept}
 use Rattle.linked_hash_map.proofs.nodes.MovedNode.{pairs-moved, length-moved, IsKept-back}
@@ -25,7 +25,7 @@ has g c = (of-Some _ c.in-Some.is c.locate-found.ensures.found).has
 -- its pair is moved
 held : (g : _) (c : goal.After-move_to_back g) → c.move_to_back.new.self.held
     ≡ to_back_at c.self.inside.table.held (index_of (pointer_of c.in-Some.at) c.self.inside.table.held)
-held g c = c.move_to_back.ensures.held _ (IsAt-index_of _ c.self.inside.table.held (before-HasKey (has g c)))
+held g c = c.move_to_back.ensures.held _ (IsAt-index_of _ c.self.inside.table.held (index_of-HasKey (has g c)))
 
 -- which is that of the stored key
 moved : (g : _) (c : goal.After-move_to_back g) → pairs_of c.move_to_back.new.self.held
@@ -33,7 +33,7 @@ moved : (g : _) (c : goal.After-move_to_back g) → pairs_of c.move_to_back.new.
 moved g c =
     let laws = g.met.K.Eq.laws in
     pairs-moved _ _ (held g c) ∙ sym (to_back_as_is-index laws (distinct_keys c.self.inside.table.held c.self.invariant)
-    (IsIndex-before (HasKey-stored laws (g.met.Q.Equivalent.respects_eq c.args.key) (has g c))))
+    (IsIndex-index_of (HasKey-stored laws (g.met.Q.Equivalent.respects_eq c.args.key) (has g c))))
 
 pub invariant_of-self : goal.invariant_of-self
 invariant_of-self g c = IsKept-back _ _ (held g c) g.met.K.Eq.laws c.self.invariant c.move_to_back.ensures.keeps.capacity

@@ -4,14 +4,16 @@ use Rattle.linked_hash_map.specs.Nodes.{pairs_of}
 use Rattle.linked_hash_map.specs.Pairs.{find, to_front}
 use Rattle.linked_hash_map.proofs.Callers.Moves.{find-to_front, to_front-absent}
 use Rattle.linked_hash_map.proofs.lists.Options.{of-Some, of-None}
-use Rattle.linked_hash_map.proofs.nodes.FoundKeys.{before-HasKey, IsIndex-before}
+use Rattle.linked_hash_map.proofs.nodes.FoundKeys.{index_of-HasKey, IsIndex-index_of}
 use Rattle.linked_hash_map.proofs.nodes.HeldPairs.{length-pairs_of}
 use Rattle.linked_hash_map.proofs.nodes.Kept.{distinct_keys, IsValid-kept}
-use Rattle.linked_hash_map.proofs.nodes.MovedToFront.{IsMovedToFront, pairs-moved, length-to_front, IsKept-front}
+use Rattle.linked_hash_map.proofs.nodes.MovedToFront.{pairs-moved, length-to_front, IsKept-front}
 use Rattle.linked_hash_map.proofs.nodes.StoredKeys.{eq-stored, HasKey-stored}
 use Rattle.linked_hash_map.proofs.pairs.Indexes.{to_front-index}
 use Rattle.linked_hash_map.proofs.map.LinkedHashMap.move_to_front.Goals as goal
+use Rattle.lhm_ring.proofs.tables.Positions.{IsAt-index_of}
 use Rattle.lhm_ring.specs.Pointer.{pointer_of}
+use Rattle.lhm_ring.specs.Positions.{index_of, to_front_at}
 use Rattle.lhm_ring.specs.Search.{HasKey}
 
 -- a position that is found is that of the key
@@ -20,22 +22,21 @@ has : (g : _) (c : goal.After-move_to_front g)
     (pointer_of c.in-Some.at)
 has g c = (of-Some _ c.in-Some.is c.locate-found.ensures.found).has
 
-is_moved : (g : _) (c : goal.After-move_to_front g)
-    → IsMovedToFront (pointer_of c.in-Some.at) c.self.inside.table.held c.move_to_front.new.self.held
-is_moved g c = record { first = c.move_to_front.ensures.first; lies = before-HasKey (has g c) }
+-- its pair is moved
+held : (g : _) (c : goal.After-move_to_front g) → c.move_to_front.new.self.held
+    ≡ to_front_at c.self.inside.table.held (index_of (pointer_of c.in-Some.at) c.self.inside.table.held)
+held g c = c.move_to_front.ensures.held _ (IsAt-index_of _ c.self.inside.table.held (index_of-HasKey (has g c)))
 
--- the pair of the stored key is moved
+-- which is that of the stored key
 moved : (g : _) (c : goal.After-move_to_front g) → pairs_of c.move_to_front.new.self.held
     ≡ to_front g.K.PartialEq.eq (pairs_of c.self.inside.table.held) (has g c).held.node.pair.0
 moved g c =
     let laws = g.met.K.Eq.laws in let hs = c.self.inside.table.held in
-    let index = IsIndex-before (HasKey-stored laws (g.met.Q.Equivalent.respects_eq c.args.key) (has g c)) in
-    pairs-moved (is_moved g c) index.pair index.there
-    ∙ sym (to_front-index laws (distinct_keys hs c.self.invariant) index index.there)
+    pairs-moved hs (pointer_of c.in-Some.at) (held g c) ∙ sym (to_front-index laws (distinct_keys hs c.self.invariant)
+    (IsIndex-index_of (HasKey-stored laws (g.met.Q.Equivalent.respects_eq c.args.key) (has g c))))
 
 pub invariant_of-self : goal.invariant_of-self
-invariant_of-self g c = IsKept-front (is_moved g c) g.met.K.Eq.laws c.self.invariant
-    c.move_to_front.ensures.apart c.move_to_front.ensures.keeps.capacity
+invariant_of-self g c = IsKept-front _ _ (held g c) g.met.K.Eq.laws c.self.invariant c.move_to_front.ensures.keeps.capacity
 
 pub returns-in-Some-clause-found : goal.returns-in-Some-clause-found
 returns-in-Some-clause-found g c =
@@ -56,7 +57,7 @@ pub returns-in-Some-clause-len : goal.returns-in-Some-clause-len
 returns-in-Some-clause-len g c =
     let hs = c.self.inside.table.held in let ks = c.move_to_front.new.self.held in
     rw (← c.self.view_is)
-    (length-pairs_of ks ∙ length-to_front (is_moved g c) ∙ sym (length-pairs_of hs))
+    (length-pairs_of ks ∙ length-to_front _ _ (held g c) ∙ sym (length-pairs_of hs))
 
 pub returns-in-Some-clause-finds : goal.returns-in-Some-clause-finds
 returns-in-Some-clause-finds g c =

@@ -3,7 +3,7 @@ use Rattle.linked_hash_map.specs.Nodes.{pairs_of, bare, visit_of, current_of}
 use Rattle.lhm_ring.specs.Positions.{index_of}
 use Rattle.linked_hash_map.proofs.nodes.Kept.{IsValid-kept}
 use Rattle.linked_hash_map.proofs.nodes.Outside.{IsElsewhere}
-use Rattle.linked_hash_map.proofs.nodes.Current.{current_of-Some, before-current, CutAt-current}
+use Rattle.linked_hash_map.proofs.nodes.Current.{current_of-Some, index_of-current, CutAt-current}
 use Rattle.linked_hash_map.proofs.nodes.Current.{current_at-Some, IsElsewhere-current, IsKept-left}
 use Rattle.linked_hash_map.proofs.nodes.TakenNode.{pairs-removed, to_visit-removed, IsKept-taken}
 use Rattle.linked_hash_map.proofs.map.LinkedHashMap.remove_current.Goals as goal
@@ -19,7 +19,7 @@ is g c = current_of-Some c.current.ensures c.unwrap-at.ensures
 
 lies : (g : _) (c : goal.After-remove_at g)
     → index_of (pointer_of c.unwrap-at.result) c.self.inside.table.held < length c.self.inside.table.held
-lies g c = before-current c.self.inside.table.held c.self.invariant (is g c)
+lies g c = index_of-current c.self.inside.table.held c.self.invariant (is g c)
 
 elsewhere : (g : _) (c : goal.After-remove_at g)
     → IsElsewhere (index_of (pointer_of c.unwrap-at.result) c.self.inside.table.held)

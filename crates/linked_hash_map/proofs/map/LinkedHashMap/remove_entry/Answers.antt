@@ -6,7 +6,7 @@ use Rattle.linked_hash_map.proofs.lists.Options.{of-Some, of-None}
 use Rattle.linked_hash_map.proofs.pairs.Calls.{filter-none}
 use Rattle.linked_hash_map.proofs.nodes.Kept.{distinct_keys, IsValid-kept}
 use Rattle.linked_hash_map.proofs.nodes.AbsentKeys.{hash_by-respects, find-LacksKey}
-use Rattle.linked_hash_map.proofs.nodes.FoundKeys.{before-HasKey}
+use Rattle.linked_hash_map.proofs.nodes.FoundKeys.{index_of-HasKey}
 use Rattle.linked_hash_map.proofs.nodes.StoredKeys.{find-stored, without-stored, UpdatesBy-without, length-without_stored, UpdatesBy-absent}
 use Rattle.linked_hash_map.proofs.nodes.TakenNode.{IsKept-removed}
 use Rattle.linked_hash_map.proofs.map.LinkedHashMap.remove_entry.Goals as goal
@@ -52,7 +52,7 @@ returns-in_err-pair-clause-same g c =
 pub invariant_of-self-2 : goal.invariant_of-self-2
 invariant_of-self-2 g c =
     let removed = of-Some _ c.in_ok-pair.was c.remove.ensures.removed in
-    let lies = before-HasKey removed.has in
+    let lies = index_of-HasKey removed.has in
     IsKept-removed _ _ (remove-at _ _ (IsAt-index_of _ c.self.inside.table.held lies) removed.others) lies
     c.self.invariant c.remove.ensures.keeps.capacity
 

@@ -8,7 +8,7 @@ use Rattle.linked_hash_map.proofs.nodes.CutNodes.{CutAt, slice_get-held}
 use Rattle.linked_hash_map.proofs.nodes.Current.{MovesCurrent-nodes}
 use Rattle.linked_hash_map.proofs.nodes.Kept.{distinct_keys}
 use Rattle.linked_hash_map.proofs.nodes.Outside.{IsElsewhere}
-use Rattle.linked_hash_map.proofs.nodes.ReplacedKey.{before-rekeyed, cursor_at-rekeyed, slice_get-rekeyed}
+use Rattle.linked_hash_map.proofs.nodes.ReplacedKey.{index_of-rekeyed, cursor_at-rekeyed, slice_get-rekeyed}
 use Rattle.linked_hash_map.proofs.nodes.ReplacedKey.{to_visit-rekeyed, set_key-rekeyed, IsKept-rekeyed}
 use Rattle.linked_hash_map.proofs.map.LinkedHashMap.replace_current_key.Goals as goal
 use Rattle.lhm_ring.proofs.lists.Options.{Some-injective}
@@ -63,7 +63,7 @@ returns-clause-moves g c =
     let m = c.self.inside in let hs = m.table.held in let ks = c.replace_key.new.self.held in
     let visit = visit_of m.visit in let h = (cut g c).held in let rekeyed = c.replace_key.ensures.held in
     let is = current_of-Some c.current.ensures c.unwrap-at.ensures in
-    let as_before = before-rekeyed h c.args.key rekeyed (pointer_of c.unwrap-at.result) in
+    let as_before = index_of-rekeyed h c.args.key rekeyed (pointer_of c.unwrap-at.result) in
     let bookmark = ap (λ cursor. cursor.bookmark) (cursor_at-rekeyed h c.args.key rekeyed visit) in
     let elsewhere = IsElsewhere-current hs c.self.invariant is c.args.self.now (ap (λ m. m.cursor) c.self.view_is)
     c.requires.outside in

@@ -1,7 +1,7 @@
 use Rattle.std.proofs.Common.{Some}
 use Rattle.linked_hash_map.proofs.lists.Options.{of-Some, of-None}
 use Rattle.linked_hash_map.proofs.nodes.Current.{IsKept-visited}
-use Rattle.linked_hash_map.proofs.nodes.FoundKeys.{before-HasKey_bare, IsIndex-before_bare}
+use Rattle.linked_hash_map.proofs.nodes.FoundKeys.{index_of-HasKey_bare, IsIndex-index_of_bare}
 use Rattle.linked_hash_map.proofs.map.LinkedHashMap.seek.Goals as goal
 use Rattle.lhm_ring.specs.Pointer.{pointer_of}
 use Rattle.lhm_ring.specs.Search.{HasKey}
@@ -16,10 +16,10 @@ pub invariant_of-self : goal.invariant_of-self
 invariant_of-self g c =
     let at = c.at-self-inside.ensures in
     rw (at.bookmark, at.unvisited, at.current) (IsKept-visited c.self.invariant
-    (Some (pointer_of c.in-Some.at)) (before-HasKey_bare (has g c)))
+    (Some (pointer_of c.in-Some.at)) (index_of-HasKey_bare (has g c)))
 
 pub returns-clause-found : goal.returns-clause-found
-returns-clause-found g c found = rw (← c.self.view_is, c.at-self-inside.ensures.current) (IsIndex-before_bare (has g c))
+returns-clause-found g c found = rw (← c.self.view_is, c.at-self-inside.ensures.current) (IsIndex-index_of_bare (has g c))
 
 pub returns-in_default-clause-absent : goal.returns-in_default-clause-absent
 returns-in_default-clause-absent g c none = rw (← c.self.view_is) (of-None c.in_default.is c.locate-hash.ensures.absent)
