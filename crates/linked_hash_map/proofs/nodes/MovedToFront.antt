@@ -7,12 +7,12 @@ use Rattle.std.proofs.lemmas.List.Sorted.{length_permutation}
 use denote.RawPtr.{Ptr}
 use Rattle.lhm_ring.proofs.tables.Positions.{map-to_front_at, IsPermutation-to_front_at, IsAt-index_of}
 use Rattle.lhm_ring.proofs.tables.Positions.{slice_get-at, index_of-front, index_of-behind_front}
-use Rattle.linked_hash_map.specs.Nodes.{VisitState, no_visit, Lies, pairs_of, bare, bare_node, bookmark_at, IsKept}
+use Rattle.linked_hash_map.specs.Nodes.{VisitState, Lies, pairs_of, bare, bare_node, bookmark_at, IsKept}
+use Rattle.linked_hash_map.proofs.nodes.Kept.{no_visit, IsKept-same}
 use Rattle.linked_hash_map.proofs.nodes.Current.{IsKept-visited}
 use Rattle.linked_hash_map.proofs.nodes.HeldPairs.{index_of-bare, length-bare}
 use Rattle.linked_hash_map.proofs.nodes.MovedNode.{IsKept-permuted}
 use Rattle.linked_hash_map.proofs.nodes.Outside.{IsElsewhere, to_visit_at, to_visit_of, to_visit-bare, to_visit-out, unvisited_some}
-use Rattle.linked_hash_map.proofs.nodes.Kept.{IsKept-same}
 use Rattle.linked_hash_map.proofs.nodes.TakenNode.{IsKept-out}
 use Rattle.linked_hash_map.proofs.lists.Stretches.{take-none}
 use Rattle.std.specs.Option.{option_to_list}
