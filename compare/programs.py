@@ -21,6 +21,8 @@ PACKAGES = {
     "lru-cache-0.1.2": "librust-lru-cache-dev",
     "hashlink-0.8.0": "librust-hashlink-dev",
 }
+# What the peers are built over.
+PEER_PACKAGES = {**PACKAGES, "indexmap-1.9.2": "librust-indexmap-dev"}
 
 # The libraries of the driver and of the benchmark.
 LIBRARIES = ("linked_hash_set", "lru_cache", "linked_hash_map", "lhm_ring", "equivalent")
@@ -28,6 +30,10 @@ LIBRARIES = ("linked_hash_set", "lru_cache", "linked_hash_map", "lhm_ring", "equ
 # The workloads of the cache and the set. The name of the same by a map has an ending.
 PRODUCTS = ("cache_insert", "cache_hit", "set_insert", "set_contains", "set_iterate")
 BY_MAP = "_by_map"
+
+# The workloads of small maps, and the most pairs of one.
+SMALL = ("small_fill", "small_lookup", "small_iterate")
+MOST_PAIRS = 64
 
 
 def stop(message):
@@ -39,7 +45,7 @@ def stop(message):
 def built_by_cargo(folder, crates, registry=REGISTRY):
     """Builds the program in a folder over the crates of a registry, and returns where it is."""
     missing = [] if shutil.which("cargo") else ["cargo", "rustc"]
-    missing += [PACKAGES[crate] for crate in crates if not any(registry.glob(crate + "*"))]
+    missing += [PEER_PACKAGES[crate] for crate in crates if not any(registry.glob(crate + "*"))]
     if missing:
         stop("first apt-get install " + " ".join(missing))
     target = COMPARE / "target"

@@ -2,22 +2,26 @@
 //!
 //! `peers PEER ORDER ROUNDS N ..` prints for each size N a line `workload n ns_per_op check` for
 //! each workload: the nanoseconds of processor time of this thread that the best of the rounds
-//! took, divided by N, and the sum of what the rounds returned. PEER is `original`, which has maps
-//! and, by lru-cache, caches; `hashlink`, which has sets too; or `twin`, which has maps alone. ORDER
-//! is `repeated` or `random`.
+//! took, divided by the number of pairs, and the sum of what the rounds returned. Up to 64 pairs
+//! the workloads are those of small maps, many of N pairs each; with more they are those of one map
+//! of N pairs, of caches and of sets. PEER is `original`, which has maps and, by lru-cache, caches;
+//! `hashlink`, which has sets too; `indexmap`, which has small maps alone; or `twin`, which has
+//! maps alone. ORDER is `repeated` or `random`.
 
 mod clock;
 mod hasher;
 mod order;
 mod peer;
 mod products;
+mod small;
 mod twin;
 mod workloads;
 
 use hasher::Build;
 use order::{Order, Random, Repeated};
-use peer::Peer;
+use peer::{Map, Peer};
 use products::{Cache, Set};
+use small::{MAPS, MOST_PAIRS};
 use std::process::ExitCode;
 use twin::Twin;
 use workloads::Workload;
@@ -30,6 +34,8 @@ type HashlinkCache = hashlink::LruCache<u64, u64, Build>;
 
 type HashlinkSet = hashlink::LinkedHashSet<u64, Build>;
 
+type Indexmap = indexmap::IndexMap<u64, u64, Build>;
+
 type OriginalCache = lru_cache::LruCache<u64, u64, Build>;
 
 /// Returns the nanoseconds that a call takes, and what it returns.
@@ -39,9 +45,15 @@ fn timed(call: impl FnOnce() -> u64) -> (u64, u64) {
     (clock::thread_cpu_time() - start, returned)
 }
 
-/// Does the rounds of a workload, each of which is timed, and prints the best time and the sum of
-/// what they returned.
-fn time(workload: &str, rounds: u64, n: u64, mut round: impl FnMut() -> (u64, u64)) {
+/// Does the rounds of a workload, each of which is timed, and prints the best time, divided by how
+/// many maps of `n` pairs there are, and the sum of what they returned.
+fn time_maps(
+    workload: &str,
+    rounds: u64,
+    n: u64,
+    maps: u64,
+    mut round: impl FnMut() -> (u64, u64),
+) {
     let mut best = u64::MAX;
     let mut check: u64 = 0;
     for _ in 0..rounds {
@@ -49,8 +61,27 @@ fn time(workload: &str, rounds: u64, n: u64, mut round: impl FnMut() -> (u64, u6
         best = best.min(nanoseconds);
         check = check.wrapping_add(returned);
     }
-    let time = best as f64 / n as f64;
+    let time = best as f64 / (n * maps) as f64;
     println!("{workload} {n} {time:.2} {check}");
+}
+
+/// Does the rounds of a workload with one map, cache or set.
+fn time(workload: &str, rounds: u64, n: u64, round: impl FnMut() -> (u64, u64)) {
+    time_maps(workload, rounds, n, 1, round);
+}
+
+/// Times each workload of small maps.
+fn bench_small<M: Map>(order: &mut impl Order, rounds: u64, n: u64) {
+    time_maps("small_fill", rounds, n, MAPS, || {
+        timed(|| small::count(&small::fill_all::<M>(order.start(), n)))
+    });
+    let maps: Vec<M> = small::fill_all(0, n);
+    time_maps("small_lookup", rounds, n, MAPS, || {
+        timed(|| small::lookup(&maps, order, n))
+    });
+    time_maps("small_iterate", rounds, n, MAPS, || {
+        timed(|| small::iterate(&maps))
+    });
 }
 
 /// Times each workload of a map.
@@ -63,7 +94,7 @@ fn bench_map<P: Peer>(order: &mut impl Order, rounds: u64, n: u64) {
         });
         // The others' map is filled only now, so that its nodes lie in memory that was used before.
         if workload == Workload::InsertNew {
-            map = workloads::fill(0, n);
+            map = small::fill(0, n);
         }
     }
 }
@@ -96,6 +127,10 @@ fn bench_set<S: Set>(order: &mut impl Order, rounds: u64, n: u64) {
 /// Times what a peer has at a size, in an order.
 fn bench(peer: &str, order: &mut impl Order, rounds: u64, n: u64) {
     match peer {
+        "original" if n <= MOST_PAIRS => bench_small::<Original>(order, rounds, n),
+        "hashlink" if n <= MOST_PAIRS => bench_small::<Hashlink>(order, rounds, n),
+        "indexmap" if n <= MOST_PAIRS => bench_small::<Indexmap>(order, rounds, n),
+        "twin" if n <= MOST_PAIRS => bench_small::<Twin>(order, rounds, n),
         "original" => {
             bench_map::<Original>(order, rounds, n);
             bench_cache::<OriginalCache>(order, rounds, n);
@@ -105,7 +140,8 @@ fn bench(peer: &str, order: &mut impl Order, rounds: u64, n: u64) {
             bench_cache::<HashlinkCache>(order, rounds, n);
             bench_set::<HashlinkSet>(order, rounds, n);
         }
-        _ => bench_map::<Twin>(order, rounds, n),
+        "twin" => bench_map::<Twin>(order, rounds, n),
+        _ => {}
     }
 }
 
@@ -126,7 +162,7 @@ fn main() -> ExitCode {
     match (words.as_slice(), numbers.as_slice()) {
         ([peer, order, ..], [rounds, sizes @ ..]) => run(peer, order, *rounds, sizes),
         _ => {
-            eprintln!("usage: peers original|hashlink|twin repeated|random ROUNDS N ..");
+            eprintln!("usage: peers original|hashlink|indexmap|twin repeated|random ROUNDS N ..");
             return ExitCode::from(2);
         }
     }
