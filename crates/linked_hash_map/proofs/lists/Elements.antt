@@ -1,6 +1,6 @@
 -- Lists, cut at an element or with one more at the end.
 use Rattle.std.proofs.Common.{◌≡◌, ℕ, ◌+◌, ◌-◌, max, Bool, true, false, cond, not, ◌||◌, List, []}
-use Rattle.std.proofs.Common.{◌∷◌, ◌++◌, map, length, slice_get, remove, Option, Some, None, refl}
+use Rattle.std.proofs.Common.{◌∷◌, ◌++◌, map, length, Option, Some, None, refl}
 use Rattle.std.proofs.Common.{sym, ap, ◌∙◌, arith, append_assoc, append-nil, drop_of_length-le}
 use Rattle.std.proofs.Common.{length-append, true≢false}
 use Rattle.std.specs.List.{after_last, suffix_len, prefix_len, zip}

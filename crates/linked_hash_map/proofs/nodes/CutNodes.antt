@@ -1,17 +1,17 @@
 -- The nodes, cut at one of them: the pair there, and its index.
-use Rattle.std.proofs.Common.{◌≡◌, suc, ◌+◌, ◌<◌, true, false, cond, List, [], ◌∷◌, ◌++◌, map}
-use Rattle.std.proofs.Common.{length, slice_get, remove, Some, refl, sym, ap, ◌∙◌, subst, arith}
+use Rattle.std.proofs.Common.{◌≡◌, suc, ◌+◌, ◌<◌, cond, List, [], ◌∷◌, ◌++◌, map}
+use Rattle.std.proofs.Common.{length, slice_get, Some, sym, ap, ◌∙◌, subst, arith}
 use denote.RawPtr.{Ptr}
-use Rattle.lhm_ring.proofs.lists.Apart.{same_ptr-equal, same_ptr-reflexive, IsFresh-head, IsApart-tail}
+use Rattle.lhm_ring.proofs.lists.Apart.{same_ptr-reflexive, IsFresh-head, IsApart-tail}
 use Rattle.lhm_ring.proofs.rings.HeldPointers.{same_ptr-fresh}
 use Rattle.linked_hash_map.specs.Nodes.{pairs_of}
 use Rattle.lhm_ring.specs.Positions.{index_of}
 use Rattle.linked_hash_map.specs.Indexes.{set_value_at}
 use Rattle.linked_hash_map.proofs.nodes.HeldPairs.{length-pairs_of, pairs_of-append}
 use Rattle.linked_hash_map.proofs.pairs.Indexes.{set_value_at-append}
-use Rattle.lhm_ring.proofs.tables.Positions.{slice_get-append, remove-append, CutAt-IsAt, IsAt-index_of}
+use Rattle.lhm_ring.proofs.tables.Positions.{slice_get-append, CutAt-IsAt, IsAt-index_of}
 use Rattle.lhm_ring.proofs.tables.Positions as Positions
-use Rattle.lhm_ring.specs.Nodes.{same_ptr, IsApart}
+use Rattle.lhm_ring.specs.Nodes.{IsApart}
 use Rattle.lhm_ring.specs.Ring.{Held, change_at, IsHeld, revalued}
 use Rattle.lhm_ring.specs.Table.{WritesOnly}
 

@@ -1,16 +1,12 @@
 -- The node at an end: its pair and its index.
 use Rattle.std.proofs.Common.{◌≡◌, ◌-◌, List, [], ◌∷◌, length, slice_get, Some, refl, sym, ap, ◌∙◌, arith}
-use Rattle.std.proofs.Common.{length-append, suc, ◌+◌, ◌<◌, true, false, cond, map, Option, None, subst}
+use Rattle.std.proofs.Common.{length-append, Option, None}
 use denote.RawPtr.{Ptr}
 use Rattle.lhm_ring.proofs.rings.Ends.{First, Last, last_held}
-use Rattle.lhm_ring.proofs.lists.Apart.{IsFresh, same_ptr-reflexive}
-use Rattle.lhm_ring.proofs.lists.Apart.{IsFresh-head, IsApart-tail}
 use Rattle.linked_hash_map.specs.Nodes.{pairs_of}
-use Rattle.lhm_ring.specs.Positions.{index_of}
 use Rattle.linked_hash_map.specs.Pairs.{first, last}
 use Rattle.linked_hash_map.proofs.nodes.HeldPairs.{length-pairs_of}
 use Rattle.linked_hash_map.proofs.nodes.CutNodes.{slice_get-held}
-use Rattle.lhm_ring.specs.Nodes.{same_ptr, IsApart}
 use Rattle.lhm_ring.specs.Ring.{Held, first_at, last_of, last_at}
 
 -- its pair is the first, or the last

@@ -1,17 +1,16 @@
 -- What a cursor has still to visit, and nodes elsewhere: once one of them is out.
 use Rattle.std.proofs.Common.{◌≡◌, ℕ, suc, ◌+◌, ◌<◌, ◌≤◌, ◌⊎◌, inl, inr, ⊎_elim, Bool, true, false}
 use Rattle.std.proofs.Common.{cond, List, [], ◌∷◌, ◌++◌, map, length, take, drop, remove, Option, Some}
-use Rattle.std.proofs.Common.{None, refl, sym, ap, ◌∙◌, arith, subst, length-append}
+use Rattle.std.proofs.Common.{None, refl, sym, ap, ◌∙◌, arith}
 use Rattle.std.specs.Map.{keys_of}
 use Rattle.std.proofs.Math.Nat.{pos_of_ne-zero}
-use Rattle.std.proofs.lemmas.List.{map-append, length-map}
+use Rattle.std.proofs.lemmas.List.{length-map}
 use denote.RawPtr.{Ptr}
 use Rattle.std.proofs.lemmas.List.Edits.{length-remove}
 use Rattle.lhm_ring.proofs.tables.Positions.{index_of-later, index_of-earlier, map-remove}
-use Rattle.linked_hash_map.specs.Nodes.{VisitState, IsKept, pairs_of, bare, bare_node, bookmark_at}
+use Rattle.linked_hash_map.specs.Nodes.{VisitState, IsKept, pairs_of, bare, bookmark_at}
 use Rattle.lhm_ring.specs.Positions.{index_of}
-use Rattle.linked_hash_map.proofs.nodes.HeldPairs.{keys-bare, length-bare}
-use Rattle.linked_hash_map.proofs.nodes.CutNodes.{CutAt}
+use Rattle.linked_hash_map.proofs.nodes.HeldPairs.{keys-bare}
 use Rattle.linked_hash_map.proofs.lists.Stretches.{stretch-removed}
 use Rattle.lhm_ring.specs.Nodes.{same_ptr}
 use Rattle.lhm_ring.specs.Ring.{Held}

@@ -2,7 +2,7 @@
 use Rattle.std.proofs.Common.{◌≡◌, ℕ, Bool, List, ◌++◌, length, None, take, drop, refl, sym, ap, ap₂, ◌∙◌, subst, arith, length-append}
 use Rattle.std.specs.List.Sorted.{IsPermutation}
 use Rattle.std.specs.Cmp.{IsEquivalence}
-use Rattle.std.proofs.lemmas.List.{map-append, take-append-drop, take-map, drop-map}
+use Rattle.std.proofs.lemmas.List.{take-append-drop, take-map, drop-map}
 use Rattle.std.proofs.lemmas.List.Sorted.{IsPermutation-append_comm, IsPermutation-map}
 use Rattle.linked_hash_map.specs.Nodes.{VisitState, pairs_of, bare, bare_node, IsKept}
 use Rattle.linked_hash_map.proofs.nodes.Kept.{no_visit, IsKept-same}
