@@ -11,7 +11,7 @@ use Rattle.std.proofs.lemmas.Map.Keys.{IsDistinct-IsPermutation}
 use denote.RawPtr.{Ptr}
 use Rattle.lhm_ring.proofs.tables.Positions.{map-to_back_at, IsPermutation-to_back_at}
 use Rattle.linked_hash_map.specs.Nodes.{VisitState, Lies, pairs_of, bare, bare_node, bookmark_at, IsKept}
-use Rattle.linked_hash_map.proofs.nodes.Kept.{no_visit}
+use Rattle.linked_hash_map.proofs.nodes.Kept.{no_visit, IsKept-same}
 use Rattle.linked_hash_map.proofs.nodes.HeldPairs.{length-bare, index_of-bare}
 use Rattle.linked_hash_map.proofs.nodes.Outside.{IsElsewhere, to_visit_at, to_visit_of, to_visit-bare, to_visit-out}
 use Rattle.linked_hash_map.proofs.nodes.TakenNode.{IsKept-out}
