@@ -40,7 +40,7 @@ pub struct Probe {
 }
 
 /// Returns the hash of a key, and the position of its pair, if present. Hashes the key once.
-#[inline]
+#[inline(always)]
 pub(super) fn locate<K: Eq + Hash, V, S: BuildHasher, Q: Equivalent<K>>(
     table: &Table<K, V>,
     hasher: &S,
