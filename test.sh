@@ -82,6 +82,7 @@ run_part refused-growths nice -n 19 scripts/refused-growths &
 run_part wrong-bodies-self-test nice -n 19 scripts/wrong-bodies --self-test &
 run_part doc-tests scripts/doc-tests &
 run_part doc-tests-self-test scripts/doc-tests --self-test &
+run_part vendor-self-test scripts/vendor --self-test &
 
 echo "$(date +%H:%M) gate begins"
 (
@@ -95,6 +96,7 @@ show_part refused-growths '^refused-growths: [1-9].* growths; leaks were looked 
 show_part wrong-bodies-self-test '^wrong-bodies passes good files, and fails on each of [1-9]'
 show_part doc-tests '^doc-tests: [2-9][0-9][0-9] examples of [1-9][0-9]* files passed, '
 show_part doc-tests-self-test '^doc-tests finds each of [1-9][0-9]* planted faults$'
+show_part vendor-self-test '^vendor: [1-9][0-9]* tries end as they must$'
 end_if_failed
 
 run_part wrong-bodies-gate scripts/wrong-bodies --gate
