@@ -289,9 +289,9 @@ impl<K, V> Ring<K, V> {
     {
         let links = *self.nodes.links(at.pointer);
         let moved = Link::to(at.pointer);
+        let place = Link::of(before);
         join(&mut self.nodes, &mut self.ends, links.prev, links.next);
         // Read once the node is out: before itself, these are the two that it was between.
-        let place = Link::of(before);
         let previous = prev_of(&self.nodes, &self.ends, place);
         let next = next_of(&self.nodes, &self.ends, previous);
         join(&mut self.nodes, &mut self.ends, previous, moved);

@@ -25,6 +25,10 @@ module _ {X : Type 0} where
             on.at_is;
       }
 
+  pub AllByRecursion-first : (P : X → Type 0) (x : X) (xs : List X) → P x → AllByRecursion P xs → P (first_from x xs)
+  AllByRecursion-first P x [] h a = h
+  AllByRecursion-first P x (y ∷ ys) h a = a.0
+
   pub AllByRecursion-last : (P : X → Type 0) (x : X) (xs : List X) → P x → AllByRecursion P xs → P (last_from x xs)
   AllByRecursion-last P x [] h a = h
   AllByRecursion-last P x (y ∷ ys) h a = AllByRecursion-last P y ys a.0 a.1

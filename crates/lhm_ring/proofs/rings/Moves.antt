@@ -11,15 +11,15 @@ use Rattle.lhm_ring.proofs.lists.Apart.{IsFresh, IsApart-left, IsFresh-middle, I
 use Rattle.lhm_ring.proofs.lists.Apart.{same_ptr-flip, same_ptr-equal, same_ptr-reflexive}
 use Rattle.lhm_ring.proofs.lists.ForAll.{AllByRecursion-append, AllByRecursion-left, AllByRecursion-right, AllByRecursion-removed}
 use Rattle.lhm_ring.proofs.lists.ForAll.{AllByRecursion-inserted}
-use Rattle.lhm_ring.proofs.lists.Last.{first_from, last_from, AllByRecursion-last}
-use Rattle.lhm_ring.proofs.lists.LinkRows.{RowCut-linked, listed-append}
+use Rattle.lhm_ring.proofs.lists.Last.{first_from, last_from, AllByRecursion-first, AllByRecursion-last}
+use Rattle.lhm_ring.proofs.lists.LinkRows.{RowCut-linked, AreNeighbours-cut, listed-append}
 use Rattle.lhm_ring.proofs.lists.Splits.{SplitAround}
 use Rattle.lhm_ring.proofs.rings.Contents.{at-content}
 use Rattle.lhm_ring.proofs.rings.Joins.{IsSpareList-unchanged, AllByRecursion-content_unchanged}
 use Rattle.lhm_ring.proofs.rings.Joins.{AllByRecursion-there_unchanged, listed-unchanged}
 use Rattle.lhm_ring.proofs.rings.Joins.{AreLinked-removed, AreLinked-inserted, AreLinked-first}
 use Rattle.lhm_ring.proofs.rings.RingCells.{IsJoined-same, led_to-some, led_to-none}
-use Rattle.lhm_ring.proofs.rings.RingNodes.{Found-held, NodeAt-held, ring_list-listed, ring_split}
+use Rattle.lhm_ring.proofs.rings.RingNodes.{Found-held, ListCut-listed, NodeAt-held, ring_list-listed, ring_split}
 use Rattle.lhm_ring.specs.Nodes.{Cell, IsApart, links_at, same_ptr}
 use Rattle.lhm_ring.specs.Links.{next_of, prev_of, next_at, prev_at, content_at, AreLinked, AreNeighbours}
 use Rattle.lhm_ring.specs.Links.{IsSpareList, HasContent, IsRing, listed, one_of, IsJoined}
@@ -49,47 +49,6 @@ module _ {B : Type 0} where
   pub IsJoined-past : {cs ds : List (Cell Links B)} (p : Ptr) {l : Links} → links_at cs p ≡ Some l
       → IsJoined cs ds l.prev.ptr l.next.ptr → IsJoined cs ds (prev_at cs p) (next_at cs p)
   IsJoined-past {cs} {ds} p e = subst (λ (z : Ptr × Ptr). IsJoined cs ds z.0 z.1) (λ i. (sym (ap prev_of e) i, sym (ap next_of e) i))
-
-  -- what comes first behind g is there
-  is_there-behind : (cs : List (Cell Links B)) (g : Ptr) (ys : List Ptr) → IsThere cs null_ptr
-      → AllByRecursion (IsThere cs) ys → AreLinked cs (g ∷ (ys ++ null_ptr ∷ [])) → IsThere cs (next_at cs g)
-  is_there-behind cs g [] n a l = subst (λ q. IsThere cs q) (sym l.0.0) n
-  is_there-behind cs g (y ∷ ys) n a l = subst (λ q. IsThere cs q) (sym l.0.0) a.0
-
-  -- a row through the node g, cut in two
-  pub AreNeighbours-cut : (cs : List (Cell Links B)) (g : Ptr) (xs ys : List Ptr)
-      → AreLinked cs (g ∷ (xs ++ (ys ++ g ∷ []))) → AreNeighbours cs (last_from g xs) (first_from g ys)
-  AreNeighbours-cut cs g xs [] l = (RowCut-linked cs g xs g [] l).edge
-  AreNeighbours-cut cs g xs (y ∷ ys) l = (RowCut-linked cs g xs y (ys ++ g ∷ []) l).edge
-
-  next_at-first : (cs : List (Cell Links B)) (p g : Ptr) (ys : List Ptr) → AreLinked cs (p ∷ (ys ++ g ∷ [])) → next_at cs p ≡ first_from g ys
-  next_at-first cs p g [] l = l.0.0
-  next_at-first cs p g (y ∷ ys) l = l.0.0
-
-  -- pointers, where what they hold is cut
-  pub record ListCut (cs : List (Cell Links B)) (ps : List Ptr) (us vs : List (Held B)) : Type 0 where
-    pub before : List Ptr
-    pub after : List Ptr
-    pub is : ps ≡ before ++ after
-    pub listed_before : listed cs before ≡ us
-    pub listed_after : listed cs after ≡ vs
-
-  pub ListCut-listed : (cs : List (Cell Links B)) (ps : List Ptr) → AllByRecursion (HasContent cs) ps
-      → (us vs : List (Held B)) → listed cs ps ≡ us ++ vs → ListCut cs ps us vs
-  unfolding listed
-  ListCut-listed cs ps h [] vs e = record { before = []; after = ps; is = refl; listed_before = refl; listed_after = e }
-  ListCut-listed cs [] h (u ∷ us) vs e = absurd cc
-  ListCut-listed cs (p ∷ ps) h (u ∷ us) vs e =
-      let e' : h.0.0 ∷ listed cs ps ≡ u ∷ (us ++ vs) = sym (ap (λ o. one_of o ++ listed cs ps) h.0.1) ∙ e in
-      let first : h.0.0 ≡ u = cc in let rest : listed cs ps ≡ us ++ vs = cc in
-      let on = ListCut-listed cs ps h.1 us vs rest in
-      record {
-        before = p ∷ on.before;
-        after = on.after;
-        is = ap (λ qs. p ∷ qs) on.is;
-        listed_before = ap (λ o. one_of o ++ listed cs on.before) h.0.1 ∙ (λ i. first i ∷ on.listed_before i);
-        listed_after = on.listed_after;
-      }
 
   -- the first that is held, or null
   pub first_from-led_to : (cs : List (Cell Links B)) (q : Ptr) (ps : List Ptr) → AllByRecursion (HasContent cs) ps
@@ -124,10 +83,6 @@ module _ {B : Type 0} {cs : List (Cell Links B)} {ps : List Ptr} {spare : Option
   abbrev Free : Ptr → Type 0
   Free q = same_ptr p q ≡ false
 
-  IsFresh-first : (ys : List Ptr) → IsFresh p (null_ptr ∷ ys) → Free (first_from null_ptr ys)
-  IsFresh-first [] f = f.0
-  IsFresh-first (y ∷ ys) f = f.1.0
-
   pub AreLinked-row : AreLinked cs (null_ptr ∷ (us ++ p ∷ (vs ++ null_ptr ∷ [])))
   AreLinked-row = subst (λ qs. AreLinked cs (null_ptr ∷ qs)) (append_assoc us (p ∷ vs) (null_ptr ∷ [])) r.linked
 
@@ -147,8 +102,9 @@ module _ {B : Type 0} {cs : List (Cell Links B)} {ps : List Ptr} {spare : Option
       (AllByRecursion-left There us (p ∷ vs) AllByRecursion-there))
 
   pub There-next : There (next_at cs p)
-  There-next = is_there-behind cs p vs r.there.0 (AllByRecursion-right There us (p ∷ vs) AllByRecursion-there).1
-      (RowCut-linked cs null_ptr us p (vs ++ null_ptr ∷ []) AreLinked-row).after
+  There-next = subst There
+      (sym (AreNeighbours-cut cs p [] null_ptr vs (RowCut-linked cs null_ptr us p (vs ++ null_ptr ∷ []) AreLinked-row).after).0)
+      (AllByRecursion-first There null_ptr vs r.there.0 (AllByRecursion-right There us (p ∷ vs) AllByRecursion-there).1)
 
   -- p behind the other held nodes
   IsApart-whole : IsApart ((null_ptr ∷ us) ++ p ∷ (vs ++ ss))
@@ -164,10 +120,12 @@ module _ {B : Type 0} {cs : List (Cell Links B)} {ps : List Ptr} {spare : Option
   pub IsFresh-spares : IsFresh p ss
   IsFresh-spares = AllByRecursion-right (λ q. same_ptr p q ≡ false) (us ++ vs) ss IsFresh-others.1
 
+  IsApart-others : IsApart (null_ptr ∷ ((us ++ vs) ++ ss))
+  IsApart-others = subst (λ qs. IsApart (null_ptr ∷ qs)) (sym (append_assoc us vs ss))
+      (IsApart-removed (null_ptr ∷ us) p (vs ++ ss) IsApart-whole)
+
   pub IsApart-shifted : IsApart (null_ptr ∷ ((us ++ vs) ++ p ∷ ss))
-  IsApart-shifted =
-      IsApart-inserted (null_ptr ∷ (us ++ vs)) p ss IsFresh-others
-      (subst (λ qs. IsApart (null_ptr ∷ qs)) (sym (append_assoc us vs ss)) (IsApart-removed (null_ptr ∷ us) p (vs ++ ss) IsApart-whole))
+  IsApart-shifted = IsApart-inserted (null_ptr ∷ (us ++ vs)) p ss IsFresh-others IsApart-others
 
   pub AllByRecursion-shifted : AllByRecursion There (null_ptr ∷ ((us ++ vs) ++ p ∷ ss))
   AllByRecursion-shifted = (
@@ -186,9 +144,8 @@ module _ {B : Type 0} {cs : List (Cell Links B)} {ps : List Ptr} {spare : Option
     pub prev_at-own : prev_at ds p ≡ last_from null_ptr us
     prev_at-own =
         let cut = RowCut-linked cs null_ptr us p (vs ++ null_ptr ∷ []) AreLinked-row in
-        let free = IsFresh-first vs (IsFresh-others.0, AllByRecursion-right Free us vs IsFresh-rest) in
-        let other : same_ptr (next_at cs p) p ≡ false =
-        ap (λ q. same_ptr q p) (next_at-first cs p null_ptr vs cut.after) ∙ same_ptr-flip p (first_from null_ptr vs) free in
+        let free = AllByRecursion-first Free null_ptr vs IsFresh-others.0 (AllByRecursion-right Free us vs IsFresh-rest) in
+        let other = ap (λ q. same_ptr q p) (AreNeighbours-cut cs p [] null_ptr vs cut.after).0 ∙ same_ptr-flip p (first_from null_ptr vs) free in
         j.prev p ∙ ap (λ t. cond t (prev_at cs p) (prev_at cs p)) other ∙ cut.edge.1
 
     -- the others, cut in two
@@ -199,7 +156,7 @@ module _ {B : Type 0} {cs : List (Cell Links B)} {ps : List Ptr} {spare : Option
 
       -- the last of those ahead and the first of those behind
       pub AreNeighbours-edge : AreNeighbours ds (last_from null_ptr ahead) (first_from null_ptr behind)
-      AreNeighbours-edge = AreNeighbours-cut ds null_ptr ahead behind row
+      AreNeighbours-edge = AreNeighbours-cut ds null_ptr ahead null_ptr behind row
 
       All-others : (P : Ptr → Type 0) → AllByRecursion P (us ++ p ∷ vs) → AllByRecursion P (ahead ++ behind)
       All-others P a = subst (AllByRecursion P) cut (AllByRecursion-removed P us p vs a)
@@ -207,26 +164,13 @@ module _ {B : Type 0} {cs : List (Cell Links B)} {ps : List Ptr} {spare : Option
       There-others : AllByRecursion There (ahead ++ behind)
       There-others = All-others There AllByRecursion-there
 
-      There-first : (zs : List Ptr) → AllByRecursion There zs → There (first_from null_ptr zs)
-      There-first [] a = r.there.0
-      There-first (z ∷ zs) a = a.0
-
       pub is_there-ahead : IsThere ds (last_from null_ptr ahead)
       is_there-ahead = j.there (last_from null_ptr ahead)
           ∙ AllByRecursion-last There null_ptr ahead r.there.0 (AllByRecursion-left There ahead behind There-others)
 
       pub is_there-behind_cut : IsThere ds (first_from null_ptr behind)
       is_there-behind_cut = j.there (first_from null_ptr behind)
-          ∙ There-first behind (AllByRecursion-right There ahead behind There-others)
-
-      -- what is apart
-      IsApart-all : IsApart (null_ptr ∷ (ahead ++ (behind ++ ss)))
-      IsApart-all = subst (λ qs. IsApart (null_ptr ∷ qs))
-          (sym (append_assoc us vs ss) ∙ ap (λ qs. qs ++ ss) cut ∙ append_assoc ahead behind ss)
-          (IsApart-removed (null_ptr ∷ us) p (vs ++ ss) IsApart-whole)
-
-      IsFresh-placed : IsFresh p (null_ptr ∷ (ahead ++ (behind ++ ss)))
-      IsFresh-placed = subst (λ qs. IsFresh p (null_ptr ∷ qs)) (ap (λ qs. qs ++ ss) cut ∙ append_assoc ahead behind ss) IsFresh-others
+          ∙ AllByRecursion-first There null_ptr behind r.there.0 (AllByRecursion-right There ahead behind There-others)
 
       length-placed : length ps ≡ length (ahead ++ p ∷ behind)
       length-placed = let e = ap length cut in ap length s.is
@@ -237,7 +181,7 @@ module _ {B : Type 0} {cs : List (Cell Links B)} {ps : List Ptr} {spare : Option
       AreLinked-placed {es} {fs} k l =
           subst (λ qs. AreLinked fs (null_ptr ∷ qs)) (sym (append_assoc ahead (p ∷ behind) (null_ptr ∷ [])))
           (AreLinked-inserted null_ptr ahead p behind
-          (subst (λ qs. IsApart (null_ptr ∷ qs)) cut (IsApart-removed (null_ptr ∷ us) p vs IsApart-row))
+          (subst (λ qs. IsApart (null_ptr ∷ qs)) cut (IsApart-left (null_ptr ∷ (us ++ vs)) ss IsApart-others))
           (IsFresh-others.0, subst (IsFresh p) cut IsFresh-rest) row k l)
 
       -- the node is between them, by two more joins
@@ -263,8 +207,10 @@ module _ {B : Type 0} {cs : List (Cell Links B)} {ps : List Ptr} {spare : Option
                     (AllByRecursion-inserted There ahead p behind There-node There-others)
                     (AllByRecursion-right There (us ++ p ∷ vs) ss r.there.1),
               );
-          apart = subst (λ qs. IsApart (null_ptr ∷ qs)) (sym (append_assoc ahead (p ∷ behind) ss))
-              (IsApart-inserted (null_ptr ∷ ahead) p (behind ++ ss) IsFresh-placed IsApart-all);
+          apart = let same = ap (λ qs. qs ++ ss) cut ∙ append_assoc ahead behind ss in
+              subst (λ qs. IsApart (null_ptr ∷ qs)) (sym (append_assoc ahead (p ∷ behind) ss))
+              (IsApart-inserted (null_ptr ∷ ahead) p (behind ++ ss) (subst (λ qs. IsFresh p (null_ptr ∷ qs)) same IsFresh-others)
+              (subst (λ qs. IsApart (null_ptr ∷ qs)) same IsApart-others));
           count = l.count ∙ k.count ∙ j.count ∙ ring.count ∙ ap (λ n. suc (n + length ss)) length-placed;
         }
 

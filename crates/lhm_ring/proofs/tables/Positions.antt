@@ -274,6 +274,20 @@ module _ {B : Type 0} where
     pub cut : h.before ++ h.after ≡ before ++ after
     pub is : ks ≡ before ++ h.node ∷ after
 
+  pub length-moved_to : {hs ks : List (Held B)} {p : Ptr} {h : IsHeld hs p} → MovedTo h ks → length ks ≡ length hs
+  length-moved_to {h = h} m =
+      let a = ap length m.is in let b = ap length h.is in let c = ap length m.cut in
+      omega (
+        arith,
+        a,
+        b,
+        c,
+        length-append m.before (h.node ∷ m.after),
+        length-append m.before m.after,
+        length-append h.before h.after,
+        length-append h.before (h.node ∷ h.after),
+      )
+
   pub MovedTo-back : {hs ks : List (Held B)} {p : Ptr} (h : IsHeld hs p) → AtHeld hs p (λ xs t ys. ks ≡ (xs ++ ys) ++ t ∷ []) → MovedTo h ks
   MovedTo-back h last = let others = h.before ++ h.after in
       record { before = others; after = []; cut = sym (append-nil others); is = last h.before h.node h.after h.is h.at_is }

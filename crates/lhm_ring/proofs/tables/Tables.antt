@@ -13,7 +13,7 @@ use Rattle.lhm_ring.proofs.indexes.Entries.{length-same_entries, pointers-entrie
 use Rattle.lhm_ring.proofs.indexes.IndexMoves.{spots-value, spots-rekeyed}
 use Rattle.lhm_ring.proofs.indexes.Spots.{PutsIn-spots}
 use Rattle.lhm_ring.proofs.tables.IndexedRing.{IsIndexed-value, IsIndexed-same_spots, IsIndexed-moved}
-use Rattle.lhm_ring.proofs.tables.Positions.{MovedTo}
+use Rattle.lhm_ring.proofs.tables.Positions.{MovedTo, length-moved_to}
 use Rattle.lhm_ring.specs.declared.pointer.Position.{Position}
 use Rattle.lhm_ring.specs.Nodes.{IsApart}
 use Rattle.lhm_ring.specs.Pointer.{pointer_of}
@@ -23,7 +23,7 @@ use Rattle.lhm_ring.specs.Index.{Indexes, PutsIn, spot, spots, entries, HoldsOth
 use Rattle.lhm_ring.specs.Buckets.{BucketState, buckets, rechained_raised, made_raised}
 use Rattle.lhm_ring.specs.Links.{nodes_grown, least_more}
 use Rattle.lhm_ring.specs.TableAfterLoan.{with_value as write}
-use Rattle.lhm_ring.specs.Table.{IsTable, TableState, WritesOnly, table_of}
+use Rattle.lhm_ring.specs.Table.{IsTable, KeepsCounts, TableState, WritesOnly, table_of}
 
 -- a table that is seen as m
 module _ {K V : Type 0} (s : State (K × V)) (r : ℕ) {m : TableState (K × V)} (seen : table_of s r ≡ m) where
@@ -64,6 +64,17 @@ module _ {K V : Type 0} (s : State (K × V)) (r : ℕ) {m : TableState (K × V)}
 
   pub spares-table : length m.held < m.capacity → 0 < s.spares
   spares-table room = let l = length-table in let c = length-capacity in omega (arith, l, c, room)
+
+  -- a pair was moved
+  pub KeepsCounts-moved : {t : State (K × V)} {p : Ptr} {h : IsHeld s.held p} → MovedTo h t.held
+      → t.spares ≡ s.spares → t.nodes ≡ s.nodes → KeepsCounts m (table_of t r)
+  KeepsCounts-moved moved spares made =
+      let long = length-moved_to moved in let all = length-capacity in
+      record {
+        capacity = omega (arith, long, spares, all);
+        rechained = ap (λ (z : TableState (K × V)). z.rechained) seen;
+        made = made ∙ ap (λ (z : TableState (K × V)). z.made) seen;
+      }
 
   -- a value was written at p
   pub table_of-value : (p : Ptr) (w : V) → table_of (with_value s p w) r ≡ write m p w
@@ -148,32 +159,18 @@ module _ {K V : Type 0} {i : BucketState} {s : State (K × V)} {r : ℕ} (table 
         }
 
   -- a pair was moved
-  module _ (t : State (K × V)) {p : Ptr} (h : IsHeld s.held p) (m : MovedTo h t.held) where
-    pub length-moved : length t.held ≡ length s.held
-    length-moved =
-        let a = ap length m.is in let b = ap length h.is in let c = ap length m.cut in
-        omega (
-          arith,
-          a,
-          b,
-          c,
-          length-append m.before (h.node ∷ m.after),
-          length-append m.before m.after,
-          length-append h.before h.after,
-          length-append h.before (h.node ∷ h.after),
-        )
-
-    pub IsTable-moved : t.spares ≡ s.spares → t.nodes ≡ s.nodes → IsTable i t r
-    IsTable-moved spares made =
-        let long = length-moved in
-        let puts = subst (λ (v : List (Held (K × V)) × List (Held (K × V))). PutsIn (spot h.node) (spots v.0) (spots v.1))
-        (λ j. (sym m.cut j, sym m.is j)) (PutsIn-spots m.before h.node m.after) in
-        record {
-          indexed = IsIndexed-moved i s t table.indexed spares h puts long;
-          few = table.few;
-          limit = omega (arith, long, spares, table.limit);
-          nodes_within = omega (arith, made, table.nodes_within);
-        }
+  pub IsTable-moved : {t : State (K × V)} {p : Ptr} {h : IsHeld s.held p} (m : MovedTo h t.held)
+      → t.spares ≡ s.spares → t.nodes ≡ s.nodes → IsTable i t r
+  IsTable-moved {t} {h = h} m spares made =
+      let long = length-moved_to m in
+      let puts = subst (λ (v : List (Held (K × V)) × List (Held (K × V))). PutsIn (spot h.node) (spots v.0) (spots v.1))
+      (λ j. (sym m.cut j, sym m.is j)) (PutsIn-spots m.before h.node m.after) in
+      record {
+        indexed = IsIndexed-moved i s t table.indexed spares h puts long;
+        few = table.few;
+        limit = omega (arith, long, spares, table.limit);
+        nodes_within = omega (arith, made, table.nodes_within);
+      }
 
   -- the node at p was removed from its chain, and then from the ring
   module _ {i' : BucketState} {t w : State (K × V)} {p : Ptr}

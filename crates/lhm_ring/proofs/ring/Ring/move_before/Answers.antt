@@ -1,4 +1,4 @@
-use Rattle.std.proofs.Common.{◌∙◌, ap}
+use Rattle.std.proofs.Common.{◌∙◌}
 use Rattle.lhm_ring.proofs.rings.Moves.{is_there-neighbours, is_there-moved, is_there-before, is_there-previous, is_there-next}
 use Rattle.lhm_ring.proofs.rings.Moves.{IsOwned-before, AtHeld-before, ring_list-own, IfSome-pointer}
 use Rattle.lhm_ring.proofs.rings.RingCells.{links_at-ring_cells}
@@ -69,17 +69,21 @@ invariant_of-self g c =
           ∙ c.join.ensures.land.1);
     }
 
-pub returns : goal.returns
-returns g c =
+pub returns-clause-moved : goal.returns-clause-moved
+returns-clause-moved g c =
     let i = c.self.inside in let p = c.args.at.pointer.ptr in
     let e = links_at-ring_cells i.ends i.nodes.cells p c.args.at.block ∙ c.links-links.ensures in
     let there = IfSome-pointer (IsHeld c.args.self.now.held) c.args.before c.requires.before in
-    record {
-      moved = AtHeld-before c.self.invariant.ring c.self.view_is p e c.join.ensures.joined c.requires.at c.of-place.result.ptr c.of-place.ensures
-          there c.prev_of-previous.ensures c.next_of-next.ensures c.to-moved.ensures c.join-2.ensures.joined c.join-3.ensures.joined;
-      stays = ring_list-own c.self.invariant.ring c.self.view_is p e c.join.ensures.joined c.requires.at c.of-place.result.ptr c.of-place.ensures
-          there c.prev_of-previous.ensures c.next_of-next.ensures c.to-moved.ensures c.join-2.ensures.joined c.join-3.ensures.joined;
-      spares = ap (λ z. z.spares) c.self.view_is;
-      nodes = ap (λ z. z.nodes) c.self.view_is;
-      apart = IsApart-held c.self.invariant.ring c.self.view_is;
-    }
+    AtHeld-before c.self.invariant.ring c.self.view_is p e c.join.ensures.joined c.requires.at c.of-place.result.ptr c.of-place.ensures
+    there c.prev_of-previous.ensures c.next_of-next.ensures c.to-moved.ensures c.join-2.ensures.joined c.join-3.ensures.joined
+
+pub returns-clause-stays : goal.returns-clause-stays
+returns-clause-stays g c =
+    let i = c.self.inside in let p = c.args.at.pointer.ptr in
+    let e = links_at-ring_cells i.ends i.nodes.cells p c.args.at.block ∙ c.links-links.ensures in
+    let there = IfSome-pointer (IsHeld c.args.self.now.held) c.args.before c.requires.before in
+    ring_list-own c.self.invariant.ring c.self.view_is p e c.join.ensures.joined c.requires.at c.of-place.result.ptr c.of-place.ensures
+    there c.prev_of-previous.ensures c.next_of-next.ensures c.to-moved.ensures c.join-2.ensures.joined c.join-3.ensures.joined
+
+pub returns-clause-apart : goal.returns-clause-apart
+returns-clause-apart g c = IsApart-held c.self.invariant.ring c.self.view_is

@@ -1,7 +1,7 @@
-use Rattle.std.proofs.Common.{None, refl, ap, ◌∙◌, arith}
+use Rattle.std.proofs.Common.{None, refl, ap, ◌∙◌}
 use Rattle.lhm_ring.proofs.rings.Moves.{IfSome-pointer}
 use Rattle.lhm_ring.proofs.tables.Positions.{to_before_at-at, map-to_before_at, IsAt-entries, PlaceAt-entries, moved_to}
-use Rattle.lhm_ring.proofs.tables.Tables.{IsHeld-table, IfSome-table, length-capacity, IsTable-moved, length-moved}
+use Rattle.lhm_ring.proofs.tables.Tables.{IsHeld-table, IfSome-table, IsTable-moved, KeepsCounts-moved}
 use Rattle.lhm_ring.proofs.table.Table.move_before.Goals as goal
 use Rattle.lhm_ring.specs.Pointer.{pointer_of}
 use Rattle.lhm_ring.specs.Ring.{IsHeld, linked_to}
@@ -18,7 +18,7 @@ invariant_of-self g c =
     let s = c.self.inside.ring in let r = c.self.inside.rechained in let done = c.move_before.ensures in
     let h = IsHeld-table s r c.self.view_is (pointer_of c.args.at) c.requires.at in
     let there = IfSome-pointer (IsHeld s.held) c.args.before (IfSome-table s r c.self.view_is c.args.before c.requires.before) in
-    IsTable-moved c.self.invariant c.move_before.new.self h (moved_to h there done.moved done.stays) done.spares done.nodes
+    IsTable-moved c.self.invariant (moved_to h there done.moved done.stays) done.spares done.nodes
 
 pub returns-clause-held : goal.returns-clause-held
 returns-clause-held g c =
@@ -31,10 +31,4 @@ returns-clause-keeps g c =
     let s = c.self.inside.ring in let r = c.self.inside.rechained in let done = c.move_before.ensures in
     let h = IsHeld-table s r c.self.view_is (pointer_of c.args.at) c.requires.at in
     let there = IfSome-pointer (IsHeld s.held) c.args.before (IfSome-table s r c.self.view_is c.args.before c.requires.before) in
-    let long = length-moved c.self.invariant c.move_before.new.self h (moved_to h there done.moved done.stays) in
-    let all = length-capacity s r c.self.view_is in
-    record {
-      capacity = omega (arith, long, done.spares, all);
-      rechained = ap (λ z. z.rechained) c.self.view_is;
-      made = done.nodes ∙ ap (λ z. z.made) c.self.view_is;
-    }
+    KeepsCounts-moved s r c.self.view_is (moved_to h there done.moved done.stays) done.spares done.nodes
