@@ -7,6 +7,8 @@ use Rattle.std.specs.Map.{keys_of}
 use Rattle.std.proofs.lemmas.List.{reverse-reverse}
 use denote.RawPtr.{Ptr}
 use Rattle.lhm_ring.specs.Nodes.{same_ptr, IsApart}
+use Rattle.lhm_ring.specs.declared.pointer.Position.{Position}
+use Rattle.lhm_ring.specs.Pointer.{pointer_of, pointer_of_some}
 use Rattle.lhm_ring.specs.Positions.{index_of}
 use Rattle.lhm_ring.specs.Ring.{Held, IsHeld, AtHeld, first_at, last_at, last_of}
 use Rattle.lhm_ring.proofs.lists.Apart.{same_ptr-equal, same_ptr-reflexive, same_ptr-symmetric}
@@ -25,8 +27,12 @@ module _ {K V : Type 0} where
       (FirstPasses-append (λ (t : Held (K × V)). same_ptr p t.at) h.before h.node h.after
       (ap (same_ptr p) h.at_is ∙ same_ptr-reflexive p))
 
-  pub IsHeld-Lies : {hs : List (Held (K × V))} {p : Ptr} → Lies (Some p) hs → IsHeld hs p
+  IsHeld-Lies : {hs : List (Held (K × V))} {p : Ptr} → Lies (Some p) hs → IsHeld hs p
   IsHeld-Lies {hs} {p} lies = (CutAt-index_of p hs lies).held
+
+  pub IsHeld-some : (hs : List (Held (K × V))) {o : Option (Position K V)} {at : Position K V} → o ≡ Some at
+      → Lies (pointer_of_some o) hs → IsHeld hs (pointer_of at)
+  IsHeld-some hs some lies = IsHeld-Lies (subst (λ q. Lies (pointer_of_some q) hs) some lies)
 
   -- the nodes behind others, each at a pointer of its own
   pairs_from-behind : (xs ys : List (Held (K × V))) → IsApart (map (λ t. t.at) (xs ++ ys))
@@ -84,9 +90,9 @@ module _ {K V : Type 0} where
   IsHeld-unreversed : {hs : List (Held (K × V))} {p : Ptr} → IsHeld (reverse hs) p → IsHeld hs p
   IsHeld-unreversed {hs} {p} h = subst (λ (ks : List (Held (K × V))). IsHeld ks p) (reverse-reverse hs) (IsHeld-reverse h)
 
-  pub Lies-unreversed : {hs : List (Held (K × V))} (o : Option Ptr) → Lies o (reverse hs) → Lies o hs
-  Lies-unreversed None lies = tt
-  Lies-unreversed (Some p) lies = index_of-held (IsHeld-unreversed (IsHeld-Lies lies))
+  pub Lies-unreversed : (hs : List (Held (K × V))) (o : Option Ptr) → Lies o (reverse hs) → Lies o hs
+  Lies-unreversed hs None lies = tt
+  Lies-unreversed hs (Some p) lies = index_of-held (IsHeld-unreversed (IsHeld-Lies lies))
 
   last_of-append : (t : Held (K × V)) (hs : List (Held (K × V))) (u : Held (K × V)) → last_of t (hs ++ u ∷ []) ≡ u.at
   last_of-append t [] u = refl

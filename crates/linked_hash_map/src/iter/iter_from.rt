@@ -2,8 +2,8 @@
 ghost use Rattle.std.specs.Prelude.{◌≡◌, Some, length, reverse, ⊤};
 ghost use Rattle.std.specs.Iterator.{at_most};
 ghost use Rattle.std.specs.Map.Iter.{TakesFirst, deref_pair};
-ghost use Rattle.linked_hash_map.specs.Nodes.{Lies, pairs_from};
-ghost use Rattle.lhm_ring.specs.Pointer.{pointer_of, pointer_of_some};
+ghost use Rattle.linked_hash_map.specs.Nodes.{pairs_from};
+ghost use Rattle.lhm_ring.specs.Pointer.{pointer_of};
 ghost use Rattle.lhm_ring.specs.Ring.{IsHeld};
 
 use lhm_ring::table::{Position, Table};
@@ -22,6 +22,8 @@ pub struct IterFrom<'a, K, V> {
 
 impl<'a, K, V> Model for IterFrom<'a, K, V> {
     ghost use Rattle.std.specs.Prelude.{List};
+    ghost use Rattle.linked_hash_map.specs.Nodes.{Lies, pairs_from};
+    ghost use Rattle.lhm_ring.specs.Pointer.{pointer_of_some};
 
     ghost Value = { List (K × V) };
 
@@ -95,7 +97,9 @@ pub struct IterBackFrom<'a, K, V> {
 }
 
 impl<'a, K, V> Model for IterBackFrom<'a, K, V> {
-    ghost use Rattle.std.specs.Prelude.{List};
+    ghost use Rattle.std.specs.Prelude.{List, reverse};
+    ghost use Rattle.linked_hash_map.specs.Nodes.{Lies, pairs_from};
+    ghost use Rattle.lhm_ring.specs.Pointer.{pointer_of_some};
 
     ghost Value = { List (K × V) };
 
