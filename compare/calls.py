@@ -84,6 +84,8 @@ RARE_MAP_CALLS = (
 OWN_MAP_CALLS = (
     ("retain", 3, "value"),
     ("get_key_value", 2, "key"),
+    ("iter_from", 2, "key steps steps"),
+    ("iter_back_from", 2, "key steps steps"),
     ("remove_entry", 3, "key"),
     ("replace_key", 4, "key"),
     ("insert_within_capacity", 6, "key value"),

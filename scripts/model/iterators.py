@@ -88,6 +88,39 @@ def iter_values(call, map_):
     iterate_and_clone(call, map_, lambda pair: pair.value)
 
 
+def advance(call, pairs, letters, most):
+    """Makes a step for each letter by an iterator with one end, and shows what each gives and the
+    hint of what is left. Returns the pairs left."""
+    for _ in letters:
+        call.show(some(pair_text(pairs[0]) if pairs else None))
+        pairs = pairs[1:]
+        call.show(f"(1, Some({most}))" if pairs else "(0, Some(0))")
+    return pairs
+
+
+def iterate_from(call, map_, in_order):
+    """Iterates from the pair of a key on, and then by a clone and by the iterator itself."""
+    key, letters, again = call.key(), call.word(), call.word()
+    own = map_.find(key, call.effects)
+    if own is None:
+        call.show("absent")
+        return
+    others = itertools.dropwhile(lambda pair: pair is not own, in_order(map_.pairs.values()))
+    pairs = list(itertools.islice(others, len(letters) + len(again) + 1))
+    rest = advance(call, pairs, letters, len(map_))
+    advance(call, rest, again, len(map_))
+    call.show("/")
+    advance(call, rest, again, len(map_))
+
+
+def iter_from(call, map_):
+    iterate_from(call, map_, iter)
+
+
+def iter_back_from(call, map_):
+    iterate_from(call, map_, reversed)
+
+
 def write_each(call, map_, show):
     """Makes steps, and writes another value in place of each that is lent."""
     letters, given = call.word(), call.values()
@@ -210,5 +243,5 @@ LINES = {
     "iter": iter_pairs, "keys": iter_keys, "values": iter_values, "iter_mut": iter_mut,
     "values_mut": values_mut, "into_iter": into_iter, "into_iter_forget": into_iter_forget,
     "into_keys": into_keys, "into_values": into_values, "drain": drain, "loop": loop,
-    "loop_mut": loop_mut,
+    "loop_mut": loop_mut, "iter_from": iter_from, "iter_back_from": iter_back_from,
 }

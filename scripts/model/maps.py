@@ -273,5 +273,5 @@ READING = {
     "hasher", "mode", "set_mode", "capacity", "rechained", "reserve", "shrink_to_fit", "eq", "cmp",
     "partial_cmp", "hash", "debug", "debug_pretty", "new", "entry_key", "visit", "unvisited",
     "iter", "keys", "values", "loop", "new_with_capacity", "refuse_clone", "refused_texts",
-    "pair_lists", "extend_copied_refs", "extend_trait_refs",
+    "pair_lists", "extend_copied_refs", "extend_trait_refs", "iter_from", "iter_back_from",
 }

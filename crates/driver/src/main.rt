@@ -27,6 +27,7 @@ mod guard;
 mod hasher;
 mod insertions;
 mod iterators;
+mod iterators_from;
 mod key;
 mod line;
 mod list;
@@ -146,6 +147,7 @@ fn run_on_map<'a>(
         || copied::run(alloc, name, map, other, output)
         || run_on_entries(alloc, name, line, map, output)
         || iterators::run(alloc, name, line, map, output)
+        || iterators_from::run(name, line, map, output)
         || comparisons::run(alloc, name, line, map, other, output)
         || run_on_many(alloc, name, line, map, output);
     if is_known {

@@ -250,8 +250,9 @@ impl<K, V> Ring<K, V> {
     /// Returns the position before one, if any.
     pub fn previous(&self, at: Position<K, V>) -> Option<Position<K, V>>
         requires { IsHeld self.now.held (pointer_of at) }
-        ensures { AtHeld self.now.held (pointer_of at) (λ xs t ys.
+        ensures previous { AtHeld self.now.held (pointer_of at) (λ xs t ys.
             pointer_of_some result ≡ last_at xs) }
+        ensures apart { IsApart (map (λ t. t.at) self.now.held) }
     {
         self.nodes.links(at.pointer).prev.get()
     }

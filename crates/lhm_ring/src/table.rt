@@ -153,6 +153,16 @@ impl<K, V> Table<K, V> {
         self.ring.next(at)
     }
 
+    /// Returns the position of the pair before one, if any.
+    pub fn previous(&self, at: Position<K, V>) -> Option<Position<K, V>>
+        requires { IsHeld self.now.held (pointer_of at) }
+        ensures previous { AtHeld self.now.held (pointer_of at) (λ xs t ys.
+            pointer_of_some result ≡ last_at xs) }
+        ensures apart { IsApart (map (λ t. t.at) self.now.held) }
+    {
+        self.ring.previous(at)
+    }
+
     /// Returns the key at a position.
     pub fn key(&self, at: Position<K, V>) -> &K
         requires { IsHeld self.now.held (pointer_of at) }

@@ -12,6 +12,7 @@ pub mod Kept
 pub mod LookupCounts
 pub mod MovedNode
 pub mod MovedToFront
+pub mod NodesFrom
 pub mod Outside
 pub mod PushedPair
 pub mod PutPair

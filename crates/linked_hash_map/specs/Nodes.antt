@@ -1,5 +1,5 @@
 -- How a map keeps its pairs: in a table, each with the hash of its key.
-use Rattle.std.specs.Prelude.{◌≡◌, ℕ, ◌+◌, ◌<◌, ◌≤◌, Bool, cond, List, map, length, Option, Some, None, ⊤}
+use Rattle.std.specs.Prelude.{◌≡◌, ℕ, ◌+◌, ◌<◌, ◌≤◌, Bool, cond, List, [], map, length, Option, Some, None, ⊤}
 use Rattle.std.specs.List.{IsDistinct, AllByRecursion}
 use denote.RawPtr.{Ptr}
 use Rattle.linked_hash_map.specs.LinkedMap.{LinkedMap, CursorState, linked_map, cursor_state, nowhere}
@@ -8,7 +8,8 @@ use Rattle.linked_hash_map.specs.declared.map.TheConstants.{LIMIT}
 use Rattle.linked_hash_map.specs.declared.map.cursor.Visit.{Visit}
 use Rattle.linked_hash_map.specs.declared.map.LinkedHashMap.TheInside.{Inside}
 use Rattle.lhm_ring.specs.Pointer.{pointer_of_some}
-use Rattle.linked_hash_map.specs.Pairs.{find}
+use Rattle.linked_hash_map.specs.Pairs.{find, from_first}
+use Rattle.lhm_ring.specs.Nodes.{same_ptr}
 use Rattle.lhm_ring.specs.Positions.{index_of}
 use Rattle.lhm_ring.specs.Ring.{Held, held}
 use Rattle.lhm_ring.specs.Search.{HasKey}
@@ -70,6 +71,11 @@ module _ {K V : Type 0} where
   -- the pairs in the nodes, in order
   abbrev pub pairs_of : List (Held (K × V)) → List (K × V)
   pairs_of = map (λ t. t.pair)
+
+  -- the pairs in the nodes from the one at a pointer on, nothing if there is no pointer
+  abbrev pub pairs_from : Option Ptr → List (Held (K × V)) → List (K × V)
+  pairs_from None hs = []
+  pairs_from (Some p) hs = pairs_of (from_first (λ t. same_ptr p t.at) hs)
 
   -- a node without its link and its value
   abbrev pub bare_node : Held (K × V) → Held K

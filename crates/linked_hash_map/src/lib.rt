@@ -72,5 +72,7 @@ pub use drain::Drain;
 pub use entry::{Entries, Entry, OccupiedEntry, VacantEntry};
 pub use equivalent::Equivalent;
 pub use error::{NoRoom, Refused, ReserveError};
-pub use iter::{IntoIter, IntoKeys, IntoValues, Iter, IterMut, Keys, Values, ValuesMut};
+pub use iter::{
+    IntoIter, IntoKeys, IntoValues, Iter, IterBackFrom, IterFrom, IterMut, Keys, Values, ValuesMut,
+};
 pub use map::{DefaultHashBuilder, LIMIT, LinkedHashMap, Mode, Probe};

@@ -10,6 +10,7 @@ mod cursor;
 mod get;
 mod insert;
 mod iter;
+mod iter_from;
 mod order;
 mod remove;
 mod replace;

@@ -8,7 +8,7 @@ use Rattle.std.proofs.lemmas.List.{length-map}
 use denote.RawPtr.{Ptr}
 use Rattle.lhm_ring.proofs.indexes.BucketCounts.{buckets-raised, buckets-below, buckets-at_least, rechained-within, made_raised-higher}
 use Rattle.lhm_ring.proofs.indexes.Entries.{AtHeld-entries, IsHeld-entries, entries-append}
-use Rattle.lhm_ring.proofs.indexes.Entries.{entries-change_at, first_at-entries, length-entries}
+use Rattle.lhm_ring.proofs.indexes.Entries.{entries-change_at, first_at-entries, last_at-entries, length-entries}
 use Rattle.lhm_ring.proofs.indexes.Entries.{length-same_entries, pointers-entries, triples-entries}
 use Rattle.lhm_ring.proofs.indexes.IndexMoves.{spots-value, spots-rekeyed}
 use Rattle.lhm_ring.proofs.indexes.Spots.{PutsIn-spots}
@@ -17,7 +17,7 @@ use Rattle.lhm_ring.proofs.tables.Positions.{MovedTo, length-moved_to}
 use Rattle.lhm_ring.specs.declared.pointer.Position.{Position}
 use Rattle.lhm_ring.specs.Nodes.{IsApart}
 use Rattle.lhm_ring.specs.Pointer.{pointer_of}
-use Rattle.lhm_ring.specs.Ring.{Held, State, state, IsHeld, AtHeld, ChangesOnly, linked_to, first_at, change_at, triples, revalued, rekeyed}
+use Rattle.lhm_ring.specs.Ring.{Held, State, state, IsHeld, AtHeld, ChangesOnly, linked_to, first_at, last_at, change_at, triples, revalued, rekeyed}
 use Rattle.lhm_ring.specs.RingAfterLoan.{with_value}
 use Rattle.lhm_ring.specs.Index.{Indexes, PutsIn, spot, spots, entries, HoldsOthers}
 use Rattle.lhm_ring.specs.Buckets.{BucketState, buckets, rechained_raised, made_raised}
@@ -49,6 +49,10 @@ module _ {K V : Type 0} (s : State (K × V)) (r : ℕ) {m : TableState (K × V)}
   pub AtHeld-table_next : (p : Ptr) (o : Option Ptr) → AtHeld s.held p (λ xs t ys. o ≡ first_at ys)
       → AtHeld m.held p (λ xs t ys. o ≡ first_at ys)
   AtHeld-table_next p o next = AtHeld-table p (λ xs t ys. o ≡ first_at ys) (λ xs t ys e at. next xs t ys e at ∙ sym (first_at-entries ys))
+
+  pub AtHeld-table_previous : (p : Ptr) (o : Option Ptr) → AtHeld s.held p (λ xs t ys. o ≡ last_at xs)
+      → AtHeld m.held p (λ xs t ys. o ≡ last_at xs)
+  AtHeld-table_previous p o before = AtHeld-table p (λ xs t ys. o ≡ last_at xs) (λ xs t ys e at. before xs t ys e at ∙ sym (last_at-entries xs))
 
   pub IsApart-table : IsApart (map (λ t. t.at) s.held) → IsApart (map (λ t. t.at) m.held)
   IsApart-table h = subst IsApart (sym (pointers-entries s.held) ∙ ap (λ (z : TableState (K × V)). map (λ t. t.at) z.held) seen) h

@@ -1,0 +1,81 @@
+-- A list from its first element that passes a test on.
+use Rattle.std.proofs.Common.{◌≡◌, ℕ, suc, ◌≤◌, Bool, true, false, cond, List, [], ◌∷◌, ◌++◌, map, length, reverse}
+use Rattle.std.proofs.Common.{refl, sym, ap, ◌∙◌, subst, arith, append_assoc}
+use Rattle.std.specs.List.{IsDistinct, AllByRecursion}
+use Rattle.std.proofs.lemmas.List.{map-append, reverse-append}
+use Rattle.std.proofs.lemmas.List.Sorted.{IsPermutation-map, IsPermutation-reverse}
+use Rattle.std.proofs.lemmas.Map.Keys.{IsDistinct-head, IsDistinct-tail, IsDistinct-IsPermutation}
+use Rattle.lhm_ring.proofs.lists.ForAll.{AllByRecursion-right}
+use Rattle.linked_hash_map.specs.Pairs.{from_first}
+
+-- the list, cut at that element
+pub record FirstPasses {X : Type 0} (test : X → Bool) (xs : List X) : Type 0 where
+  pub before : List X
+  pub node : X
+  pub after : List X
+  pub is : xs ≡ before ++ node ∷ after
+  pub passes : test node ≡ true
+  pub from : from_first test xs ≡ node ∷ after
+
+module _ {X : Type 0} (test : X → Bool) where
+  pub FirstPasses-append : (xs : List X) (x : X) (ys : List X) → test x ≡ true → FirstPasses test (xs ++ x ∷ ys)
+  FirstPasses-append [] x ys passes = record {
+    before = [];
+    node = x;
+    after = ys;
+    is = refl;
+    passes = passes;
+    from = ap (λ b. cond b (x ∷ ys) (from_first test ys)) passes;
+  }
+  FirstPasses-append (z ∷ xs) x ys passes = by_test (test z) refl (FirstPasses-append xs x ys passes)
+    where
+      by_test : (b : Bool) → test z ≡ b → FirstPasses test (xs ++ x ∷ ys) → FirstPasses test (z ∷ xs ++ x ∷ ys)
+      by_test true is rest = record {
+        before = [];
+        node = z;
+        after = xs ++ x ∷ ys;
+        is = refl;
+        passes = is;
+        from = ap (λ b. cond b (z ∷ xs ++ x ∷ ys) (from_first test (xs ++ x ∷ ys))) is;
+      }
+      by_test false is rest = record {
+        before = z ∷ rest.before;
+        node = rest.node;
+        after = rest.after;
+        is = ap (λ zs. z ∷ zs) rest.is;
+        passes = rest.passes;
+        from = ap (λ b. cond b (z ∷ xs ++ x ∷ ys) (from_first test (xs ++ x ∷ ys))) is ∙ rest.from;
+      }
+
+  pub length-from_first : (xs : List X) → length (from_first test xs) ≤ length xs
+  length-from_first [] = omega arith
+  length-from_first (x ∷ xs) =
+      let rest = length-from_first xs in
+      elim (test x) as (λ b. length (cond b (x ∷ xs) (from_first test xs)) ≤ suc (length xs)) [ true ↦ omega arith | false ↦ omega (arith, rest) ]
+
+-- an element that differs from all others in what f has of it
+module _ {X K : Type 0} {eq : K → K → Bool} (reflexive : (k : K) → eq k k ≡ true) (symmetric : (k q : K) → eq k q ≡ eq q k) (f : X → K) where
+  pub from_first-own : (xs : List X) (x : X) (ys : List X) → IsDistinct eq (map f (xs ++ x ∷ ys))
+      → from_first (λ z. eq (f x) (f z)) (xs ++ x ∷ ys) ≡ x ∷ ys
+  from_first-own [] x ys distinct = ap (λ b. cond b (x ∷ ys) (from_first (λ z. eq (f x) (f z)) ys)) (reflexive (f x))
+  from_first-own (z ∷ xs) x ys distinct =
+      let others = IsDistinct-head eq (f z) (map f (xs ++ x ∷ ys)) distinct in
+      let apart = (AllByRecursion-right (λ k. eq (f z) k ≡ false) (map f xs) (f x ∷ map f ys)
+      (subst (AllByRecursion (λ k. eq (f z) k ≡ false)) (map-append f xs (x ∷ ys)) others)).0 in
+      ap (λ b. cond b (z ∷ xs ++ x ∷ ys) (from_first (λ z. eq (f x) (f z)) (xs ++ x ∷ ys))) (symmetric (f x) (f z) ∙ apart)
+      ∙ from_first-own xs x ys (IsDistinct-tail eq (f z) (map f (xs ++ x ∷ ys)) distinct)
+
+  -- they differ in the reverse list too
+  pub IsDistinct-reverse : (xs : List X) → IsDistinct eq (map f xs) → IsDistinct eq (map f (reverse xs))
+  IsDistinct-reverse xs = IsDistinct-IsPermutation eq symmetric (map f xs) (map f (reverse xs)) (IsPermutation-map f xs (reverse xs) (IsPermutation-reverse xs))
+
+-- the reverse of a list that is cut at an element
+pub reverse-middle : {X : Type 0} (xs : List X) (x : X) (ys : List X) → reverse (xs ++ x ∷ ys) ≡ reverse ys ++ x ∷ reverse xs
+reverse-middle xs x ys =
+    reverse-append xs (x ∷ ys) ∙ ap (λ zs. zs ++ reverse xs) (reverse-append (x ∷ []) ys) ∙ append_assoc (reverse ys) (x ∷ []) (reverse xs)
+
+pub map-reverse : {X Y : Type 0} (f : X → Y) (xs : List X) → map f (reverse xs) ≡ reverse (map f xs)
+map-reverse f [] = refl
+map-reverse f (x ∷ xs) =
+    ap (map f) (reverse-append (x ∷ []) xs) ∙ map-append f (reverse xs) (x ∷ []) ∙ ap (λ ys. ys ++ f x ∷ []) (map-reverse f xs)
+    ∙ sym (reverse-append (f x ∷ []) (map f xs))
