@@ -41,7 +41,8 @@
 //! - Remove: `remove`, `remove_entry`, `pop_front`, `pop_back`, `retain`, `clear`, `drain`.
 //! - Reorder: `move_to_back`, `move_to_front`, `rotate_left`.
 //! - Iterate: `iter`, `iter_mut`, `keys`, `values`, `values_mut`, `into_iter`, `into_keys`,
-//!   `into_values`; `entries` or `visit` to remove or move pairs on the way.
+//!   `into_values`; `iter_from` or `iter_back_from` from the pair of a key on; `entries` or `visit`
+//!   to remove or move pairs on the way.
 //! - Memory: `capacity`, `reserve`, `shrink_to_fit`.
 //! - Besides: [`replay`] runs commands, and [`sessions`] has a table with a limit on weights.
 //!
