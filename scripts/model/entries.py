@@ -115,7 +115,11 @@ def entry_replace_key(call, map_):
 
 def edit_next(call, map_, edit, values):
     """Makes an edit by the next entry of a visit."""
-    pair = map_.next_to_visit()
+    edit_if_some(call, map_, map_.next_to_visit(), edit, values)
+
+
+def edit_if_some(call, map_, pair, edit, values):
+    """Makes an edit by the entry of a pair, if there is one."""
     if pair is None:
         call.show("end")
     else:
@@ -140,6 +144,24 @@ def next_entry(call, map_):
     """Makes an edit by the next entry of the map's visit."""
     edit = call.word()[:1]
     edit_next(call, map_, edit, call.values())
+
+
+def edit_end(call, map_, last):
+    """Makes an edit by the entry of the pair at an end, which ends a visit."""
+    edit = call.word()[:1]
+    values = call.values()
+    pair = map_.end(last)
+    if pair is not None:
+        map_.end_visit()
+    edit_if_some(call, map_, pair, edit, values)
+
+
+def front_entry(call, map_):
+    edit_end(call, map_, last=False)
+
+
+def back_entry(call, map_):
+    edit_end(call, map_, last=True)
 
 
 def unvisited(call, map_):
@@ -211,6 +233,7 @@ def and_modify(call, map_):
 LINES = {
     "entry": entry, "entry_key": entry_key, "entries": entries, "visit": visit,
     "next_entry": next_entry, "unvisited": unvisited, "or_insert": or_insert,
+    "front_entry": front_entry, "back_entry": back_entry,
     "or_insert_with": or_insert_with, "or_insert_with_key": or_insert_with,
     "or_insert_with_box": or_insert_with_box, "entry_replace_key": entry_replace_key,
     "or_default": or_default, "and_modify": and_modify,

@@ -100,6 +100,17 @@ class Linked:
         effects.drop_key(key)
         return pair.replace(value)
 
+    def insert_front(self, key, value, effects):
+        """Does so, with the pair at the front in place of the back, and ends a visit also if the
+        key is new."""
+        stays = self.keeps and key.folded in self.pairs
+        old = self.insert(key, value, effects)
+        if not isinstance(old, Refused):
+            self.end_visit()
+            if not stays:
+                self.pairs.move_to_end(key.folded, last=False)
+        return old
+
     def extend(self, pairs, effects):
         """Inserts each pair up to one that is refused, which is returned."""
         for key, value in pairs:

@@ -124,6 +124,10 @@ def insert(call, map_):
     show_old(call, map_.insert(call.key(), call.value(), call.effects))
 
 
+def insert_front(call, map_):
+    show_old(call, map_.insert_front(call.key(), call.value(), call.effects))
+
+
 def insert_within_capacity(call, map_):
     """The call is made if the key is present or there is room."""
     key, value = call.key(), call.value()
@@ -262,6 +266,7 @@ LINES = {
     "remove_entry": remove_entry, "replace_key": replace_key, "pop_front": pop_front,
     "pop_back": pop_back, "clear": clear, "retain": retain, "drop": drop,
     "move_to_back": move_to_back, "move_to_front": move_to_front, "rotate_left": rotate_left,
+    "insert_front": insert_front,
     "mode": mode, "set_mode": set_mode, "capacity": capacity, "rechained": rechained,
     "reserve": reserve, "shrink_to_fit": shrink_to_fit, "fill": fills.fill,
     "refuse_clone": refuse_clone, **making.LINES, **comparing.LINES, **entries.LINES,

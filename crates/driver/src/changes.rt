@@ -33,6 +33,7 @@ fn run_by_key<'a>(
 ) -> bool {
     match name {
         "insert" => output.show_result(map.insert(line.key(), line.value())),
+        "insert_front" => output.show_result(map.insert_front(line.key(), line.value())),
         "insert_within_capacity" => insert_within_capacity(map, line, output),
         "replace_key" => output.show_key(map.replace_key(line.key())),
         "remove" => output.show(&map.remove(&line.key())),

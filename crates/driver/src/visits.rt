@@ -42,16 +42,33 @@ fn edit_each<'a>(map: &mut Map<'a>, line: &mut Line<'a>, output: &mut Output<'a>
     }
 }
 
+/// Makes an edit by an entry, if there is one.
+macro_rules! edit_if_some {
+    ($entry:expr, $line:ident, $output:ident) => {
+        let letter = first_byte($line.word());
+        let mut edit = Edit::new("", $line);
+        edit.letter = letter;
+        let Some(mut entry) = $entry else {
+            $output.push_str("end ");
+            return;
+        };
+        edit_occupied!(entry, &mut edit, $output);
+    };
+}
+
 /// Makes an edit by the next entry of a visit.
 fn edit_next_entry<'a>(map: &mut Map<'a>, line: &mut Line<'a>, output: &mut Output<'a>) {
-    let letter = first_byte(line.word());
-    let mut edit = Edit::new("", line);
-    edit.letter = letter;
-    let Some(mut entry) = map.next_entry() else {
-        output.push_str("end ");
-        return;
-    };
-    edit_occupied!(entry, &mut edit, output);
+    edit_if_some!(map.next_entry(), line, output);
+}
+
+/// Makes an edit by the entry of the front pair.
+fn edit_front<'a>(map: &mut Map<'a>, line: &mut Line<'a>, output: &mut Output<'a>) {
+    edit_if_some!(map.front_entry(), line, output);
+}
+
+/// Makes an edit by the entry of the back pair.
+fn edit_back<'a>(map: &mut Map<'a>, line: &mut Line<'a>, output: &mut Output<'a>) {
+    edit_if_some!(map.back_entry(), line, output);
 }
 
 /// Begins a visit.
@@ -70,6 +87,8 @@ pub fn run<'a>(
         "entries" => edit_each(map, line, output),
         "visit" => visit(map),
         "next_entry" => edit_next_entry(map, line, output),
+        "front_entry" => edit_front(map, line, output),
+        "back_entry" => edit_back(map, line, output),
         "unvisited" => output.show(&map.unvisited()),
         _ => return false,
     }

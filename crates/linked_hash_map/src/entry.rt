@@ -5,6 +5,7 @@ ghost use Rattle.linked_hash_map.specs.Cursor.{IsOutside, IsOutside-prop};
 ghost use Rattle.linked_hash_map.specs.Hashers.{hash_by};
 
 mod cursor;
+mod ends;
 mod methods;
 mod occupied;
 mod vacant;

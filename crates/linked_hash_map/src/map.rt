@@ -7,6 +7,7 @@ ghost use Rattle.linked_hash_map.specs.Validity.{IsValid};
 mod capacity;
 mod create;
 mod cursor;
+mod ends;
 mod get;
 mod insert;
 mod iter;

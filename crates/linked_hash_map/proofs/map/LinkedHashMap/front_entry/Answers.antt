@@ -1,0 +1,27 @@
+use Rattle.std.proofs.Common.{slice_get, refl, sym, ap, ◌∙◌}
+use Rattle.linked_hash_map.specs.LinkedMap.{nowhere, cursor_state}
+use Rattle.linked_hash_map.proofs.pairs.OccupiedEntries.{slice_get-occupied}
+use Rattle.linked_hash_map.proofs.map.LinkedHashMap.front_entry.Goals as goal
+
+pub returns-then-seek_front : goal.returns-then-seek_front
+returns-then-seek_front g c =
+    let seek = c.if-seek_front.ensures in let same = seek.ends_visit refl in (
+      refl,
+      record {
+        lends = tt;
+        same_map = refl;
+        pair = sym (slice_get-occupied _) ∙ (λ i. slice_get (same i).pairs (seek.front refl i));
+        pairs = ap (λ m. m.pairs) same;
+        keeps =
+            record {
+              capacity = ap (λ m. m.capacity) same;
+              rechained = ap (λ m. m.rechained) same;
+              hasher = ap (λ m. m.hasher) same;
+              mode = ap (λ m. m.mode) same;
+            };
+        ends_visit =
+            (λ i. record c.seek_front.new.self { cursor = cursor_state (seek.bookmark refl i) (seek.visited refl i) nowhere })
+            ∙ same;
+        valid = seek.valid;
+      },
+    )
