@@ -7,6 +7,7 @@ pub mod Counts
 pub mod Dense
 pub mod Equality
 pub mod Extended
+pub mod FromKeys
 pub mod Insertions
 pub mod Iterators
 pub mod Keys
