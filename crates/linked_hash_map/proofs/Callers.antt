@@ -8,6 +8,7 @@ pub mod Dense
 pub mod Equality
 pub mod Extended
 pub mod Fronts
+pub mod FromKeys
 pub mod Insertions
 pub mod Iterators
 pub mod Keys
