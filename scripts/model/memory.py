@@ -4,12 +4,13 @@ The capacity is the number of pairs that fit. There are as many buckets as the c
 to a power of two, or none at 0. Each bucket has a head and a word of the filter.
 
 A growth asks, in this order, for
-- heads and then filter words, if it needs more buckets than there are;
+- heads and then filter words, if it needs more buckets than there is room for: each has as much
+  room as there are buckets when it is asked for, but room for 8 if these are fewer, and none for 0;
 - a longer list of chunks, if all its places are taken: the list has 4 places at first, then 8, 16,
   and so on;
 - a chunk, if there are fewer nodes than the new capacity. It has the nodes that are missing. A
-  growth by one makes it at least as many as there are nodes, at most 64, and at most as many as
-  there are then buckets beyond the nodes.
+  growth by one makes it at least two nodes, or from 16 nodes on half as many as there are, at most
+  64, and at most as many as there are then buckets beyond the nodes, or with one bucket two.
 
 If one is refused, the growth gives back the buckets and the filter, and the capacity stays. A list
 that was made longer stays so, since it belongs to the map and not to the growth. What is made anew
@@ -21,9 +22,13 @@ without pairs it frees all. No other call asks for memory for pairs.
 """
 
 LIMIT = 2**59
-# A chunk that a growth by one makes has no more nodes beyond those that are missing.
+# A chunk that a growth by one makes has this many nodes until there are enough for half as many.
+FIRST_AHEAD, ENOUGH = 2, 16
+# It has no more nodes beyond those that are missing.
 MOST_AHEAD = 64
 FIRST_LIST = 4
+# How many buckets the first heads and words have room for.
+FIRST_ROOM = 8
 # A request for so many bytes is refused on any machine.
 NO_MACHINE = 2**47
 
@@ -75,14 +80,16 @@ class Memory:
             return True
         ahead = 0
         if capacity == self.capacity + 1:
-            ahead = min(self.nodes, buckets - self.nodes, MOST_AHEAD)
+            ahead = FIRST_AHEAD if self.nodes < ENOUGH else self.nodes // 2
+            ahead = min(ahead, max(FIRST_AHEAD, buckets) - self.nodes, MOST_AHEAD)
         return self.is_given_chunk(max(missing, ahead), effects)
 
     def is_raised(self, capacity, length, effects):
         """Raises the capacity of a map of so many pairs, if memory is given."""
         buckets = buckets_for(capacity)
         rehashes = buckets > self.buckets
-        if rehashes and not is_given_buckets(buckets, effects):
+        has_room = self.buckets > 0 and buckets <= FIRST_ROOM
+        if rehashes and not has_room and not is_given_buckets(buckets, effects):
             return False
         if not self.is_given_nodes(capacity, max(buckets, self.buckets), effects):
             return False
@@ -90,6 +97,15 @@ class Memory:
             self.buckets = buckets
             self.rechained += length
         self.capacity = capacity
+        return True
+
+    def is_made(self, capacity, length, effects):
+        """Gives a new map its capacity, which is not 0, with exactly as many nodes, if memory is
+        given."""
+        buckets = buckets_for(capacity)
+        if not is_given_buckets(buckets, effects) or not self.is_given_chunk(capacity, effects):
+            return False
+        self.capacity, self.buckets, self.rechained = capacity, buckets, length
         return True
 
     def has_room(self, length, effects):
@@ -123,7 +139,7 @@ class Memory:
             self.rechained = 0
             return True
         fresh = Memory()
-        if not fresh.is_raised(length, length, effects):
+        if not fresh.is_made(length, length, effects):
             return False
         for name in Memory.__slots__:
             setattr(self, name, getattr(fresh, name))
@@ -135,7 +151,7 @@ def made(capacity, effects):
     memory = Memory()
     if capacity > LIMIT:
         return None
-    if capacity and not memory.is_raised(capacity, 0, effects):
+    if capacity and not memory.is_made(capacity, 0, effects):
         return None
     return memory
 

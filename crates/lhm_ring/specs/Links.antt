@@ -2,7 +2,7 @@
 -- ring with one more at null, which holds nothing: the first node comes right after it, and it
 -- right after the last.
 use Rattle.std.specs.Prelude.{◌≡◌, ℕ, suc, zero, ◌+◌, ◌≤◌, ◌^◌, Bool, true, false, cond, List, []}
-use Rattle.std.specs.Prelude.{◌∷◌, ◌++◌, length, Option, Some, None, ◌-◌, min, max, nat_le, ◌==◌}
+use Rattle.std.specs.Prelude.{◌∷◌, ◌++◌, length, Option, Some, None, ◌-◌, ◌*◌, ◌/◌, min, max, nat_le, ◌==◌}
 use Rattle.std.specs.Prelude.{if◌then◌else◌, map}
 use Rattle.std.proofs.Common.{refl}
 use Rattle.std.specs.List.{AllByRecursion}
@@ -228,7 +228,17 @@ pub record IsLaid (unused : List Ptr) (chunks : List (Ptr × ℕ)) (recorded : L
 abbrev pub nodes_grown : ℕ → ℕ → ℕ → ℕ
 nodes_grown nodes needed least = if nat_le needed nodes then nodes else max needed (nodes + least)
 
--- how many more nodes a growth by one makes at least: as many as there are, at most 64, and so
+-- how many nodes the next chunk has, if one is missing: two, or from 16 nodes on half as many as
+-- there are
+abbrev pub next_chunk : ℕ → ℕ
+next_chunk nodes = if nat_le 16 nodes then nodes / 2 else 2
+
+-- how many more nodes a growth by one makes at least: those of the next chunk, at most 64, and so
 -- that there are at most `most`
 abbrev pub least_more : ℕ → ℕ → ℕ → ℕ
-least_more count nodes most = if count == 1 then min nodes (min (most - nodes) 64) else 0
+least_more count nodes most =
+    if count == 1 then min (next_chunk nodes) (min (most - nodes) 64) else 0
+
+-- how many nodes the chunks of a table with n buckets have at most: as many, but two with one
+abbrev pub most_nodes : ℕ → ℕ
+most_nodes n = min (2 * n) (max 2 n)

@@ -5,6 +5,7 @@ use Rattle.lhm_ring.specs.Ring.{State, Held, AtHeld, change_at, revalued, IsHeld
 use Rattle.lhm_ring.specs.Search.{HasKey}
 use Rattle.lhm_ring.specs.Index.{entries, IsIndexed}
 use Rattle.lhm_ring.specs.Buckets.{BucketState}
+use Rattle.lhm_ring.specs.Links.{most_nodes}
 
 -- the pairs in order, each with its position and its hash and with no chain link; the capacity; how
 -- many nodes rehashes have moved; and how many nodes the chunks have
@@ -31,12 +32,12 @@ table_of s rechained =
     }
 
 -- the index is that of the ring, the count is at most the number of buckets, the capacity is at most
--- that of a ring, and the chunks have at most as many nodes as there are buckets
+-- that of a ring, and the chunks have at most as many nodes as there are buckets, but two with one
 pub record IsTable {K V : Type 0} (i : BucketState) (s : State (K × V)) (rechained : ℕ) : Type 0 where
   pub indexed : IsIndexed i s
   pub few : rechained ≤ length i.heads
   pub limit : length s.held + s.spares ≤ 2 ^ 59
-  pub nodes_within : s.nodes ≤ length i.heads
+  pub nodes_within : s.nodes ≤ most_nodes (length i.heads)
 
 -- a value written at p changes one pair, and no other
 abbrev pub WritesOnly : {K V : Type 0} → List (Held (K × V)) → Ptr → Type 0

@@ -2,7 +2,7 @@
 ghost use Rattle.std.specs.Prelude.{◌≡◌, ◌+◌, ◌-◌, ◌<◌, ◌≤◌, ◌^◌, [], ◌∷◌, ◌++◌, None, Some, map, min, max, length, IfOk, OnOk, OnErr, IsTrue, true};
 ghost use Rattle.std.specs.Allocator.{FitsBlock};
 ghost use Rattle.lhm_ring.specs.Nodes.{row};
-ghost use Rattle.lhm_ring.specs.Links.{extent, nodes_grown, least_more, IsStacked};
+ghost use Rattle.lhm_ring.specs.Links.{extent, nodes_grown, next_chunk, least_more, IsStacked};
 
 use crate::nodes::{Chunk, Node, Nodes, allocate, deallocate, size};
 use crate::pointer::{Link, NodePointer};
@@ -23,7 +23,15 @@ fn fits<T>(count: usize) -> bool
     }
 }
 
-/// Returns the least size of a new chunk: for one more node as many as are `made`, at most 64 and
+/// Returns how many nodes the next chunk has, if one is missing: two, or from 16 nodes on half as
+/// many as are `made`.
+fn next_chunk(made: usize) -> usize
+    ensures { result ≡ next_chunk made }
+{
+    if 16 <= made { made / 2 } else { 2 }
+}
+
+/// Returns the least size of a new chunk: for one more node that of the next chunk, at most 64 and
 /// at most `most - made`; otherwise 0.
 fn chunk_size(count: usize, made: usize, most: usize) -> usize
     ensures few { result ≤ 64 }
@@ -32,7 +40,7 @@ fn chunk_size(count: usize, made: usize, most: usize) -> usize
     if count != 1 || most < made {
         return 0;
     }
-    made.min((most - made).min(64))
+    next_chunk(made).min((most - made).min(64))
 }
 
 /// Makes the `count` unused places from `start` on spare nodes, and returns the first spare one.
@@ -156,8 +164,8 @@ impl<K, V> Ring<K, V> {
         self.grow_within(count, 0)
     }
 
-    /// Makes `count` more nodes spare, as `grow` does. For one it allocates as many as there are,
-    /// at most 64, and at most `most` in all.
+    /// Makes `count` more nodes spare, as `grow` does. For one it allocates two, or from 16 nodes
+    /// on half as many as there are, at most 64, and at most `most` in all.
     pub fn grow_within(&mut self, count: usize, most: usize) -> Result<(), AllocError>
         ensures held { OnOk result (self.new.held ≡ self.old.held) }
         ensures spares { OnOk result (self.new.spares ≡ self.old.spares + count) }

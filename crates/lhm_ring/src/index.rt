@@ -1,6 +1,6 @@
 //! The position of each key, by its hash: chains through the nodes.
 ghost use Rattle.std.specs.Prelude.{◌≡◌, ◌%◌, ◌<◌, ◌≤◌, ◌^◌, [], length, None, IfOk, IsOk, IfSome, IfNone, slice_index_or};
-ghost use Rattle.std.specs.Int.{IsNextPowerOfTwo};
+ghost use Rattle.std.specs.Int.{IsNextPowerOfTwo, IsPowerOfTwo};
 ghost use Rattle.lhm_ring.specs.Ring.{IsHeld};
 ghost use Rattle.lhm_ring.specs.Pointer.{pointer_of, pointer_of_some};
 ghost use Rattle.lhm_ring.specs.Buckets.{buckets, HasNoChain};
@@ -34,7 +34,7 @@ pub struct Index<K, V> {
 }
 
 impl<K, V> Model for Index<K, V> {
-    ghost use Rattle.std.specs.Prelude.{◌≡◌, map, length};
+    ghost use Rattle.std.specs.Prelude.{◌≡◌, ◌<◌, ◌≤◌, map, length, vec_capacity};
     ghost use Rattle.lhm_ring.specs.Buckets.{BucketState, IsBucketCount, leads_to, bits_of};
 
     ghost Value = { BucketState };
@@ -47,6 +47,9 @@ impl<K, V> Model for Index<K, V> {
     ghost invariant = { λ i. record {
       same_count : length i.words.items ≡ length i.heads.items;
       power : IsBucketCount (length i.heads.items);
+      -- one bucket comes with room for eight
+      heads_room : 0 < length i.heads.items → 8 ≤ vec_capacity i.heads;
+      words_room : 0 < length i.heads.items → 8 ≤ vec_capacity i.words;
     } };
 }
 
@@ -177,6 +180,41 @@ impl<K, V> Index<K, V> {
         ensures buckets { length self.new.heads ≡ length fresh.heads }
     {
         mem::replace(self, fresh).free();
+        self.put_in_all(ring)
+    }
+
+    /// Makes `count` buckets within the room, rehashes all held nodes, and returns how many, in
+    /// O(n).
+    pub(crate) fn spread(&mut self, count: usize, ring: &mut Ring<K, V>) -> usize
+        requires buckets { 0 < length self.old.heads }
+        requires some { 0 < count }
+        requires few { count ≤ 8 }
+        requires power { IsPowerOfTwo count }
+        requires small { length ring.old.held < 2 ^ 64 }
+        ensures indexed { Indexes self.new (spots ring.new.held) }
+        ensures count { result ≡ length ring.old.held }
+        ensures held { entries ring.new.held ≡ entries ring.old.held }
+        ensures spares { ring.new.spares ≡ ring.old.spares }
+        ensures nodes { ring.new.nodes ≡ ring.old.nodes }
+        ensures buckets { length self.new.heads ≡ count }
+    {
+        self.make_empty(count);
+        self.put_in_all(ring)
+    }
+
+    /// Puts all held nodes into empty buckets, and returns how many, in O(n).
+    fn put_in_all(&mut self, ring: &mut Ring<K, V>) -> usize
+        requires empty { HasNoChain self.old }
+        requires words { length self.old.words ≡ length self.old.heads }
+        requires some { length self.old.heads ≡ 0 → ring.old.held ≡ [] }
+        requires small { length ring.old.held < 2 ^ 64 }
+        ensures indexed { Indexes self.new (spots ring.new.held) }
+        ensures count { result ≡ length ring.old.held }
+        ensures held { entries ring.new.held ≡ entries ring.old.held }
+        ensures spares { ring.new.spares ≡ ring.old.spares }
+        ensures nodes { ring.new.nodes ≡ ring.old.nodes }
+        ensures buckets { length self.new.heads ≡ length self.old.heads }
+    {
         let mut count = 0;
         let mut pointer = ring.first();
         while let Some(at) = pointer {

@@ -1,5 +1,5 @@
 //! Raises and lowers the capacity, and moves all triples side by side.
-ghost use Rattle.std.specs.Prelude.{◌≡◌, ◌+◌, ◌<◌, ◌≤◌, ◌^◌, [], length, OnOk, OnErr, ◌++◌};
+ghost use Rattle.std.specs.Prelude.{◌≡◌, ◌+◌, ◌<◌, ◌≤◌, ◌^◌, [], length, max, OnOk, OnErr, ◌++◌};
 ghost use Rattle.lhm_ring.specs.Ring.{triples};
 ghost use Rattle.lhm_ring.specs.Buckets.{buckets, rechained_raised, rechained_lowered, rechained_fitted, made_raised, made_fitted};
 ghost use Rattle.lhm_ring.specs.Links.{nodes_grown, least_more};
@@ -28,8 +28,9 @@ impl<K, V> Table<K, V> {
         ensures refused { OnErr result (self.new ≡ self.old) }
     {
         let additional = capacity - self.capacity();
-        if capacity <= self.index.buckets() {
-            return self.ring.grow_within(additional, self.index.buckets());
+        let buckets = self.index.buckets();
+        if capacity <= buckets {
+            return self.ring.grow_within(additional, buckets.max(2));
         }
         self.raise_buckets(capacity, additional)
     }
@@ -48,11 +49,15 @@ impl<K, V> Table<K, V> {
         ensures rechained { OnOk result
             (self.new.rechained ≡ self.old.rechained + length self.old.held) }
         ensures made { OnOk result (self.new.made ≡ nodes_grown self.old.made capacity
-            (least_more additional self.old.made (buckets capacity))) }
+            (least_more additional self.old.made (max 2 (buckets capacity)))) }
         ensures refused { OnErr result (self.new ≡ self.old) }
     {
+        let count = buckets_for(capacity);
+        if self.index.has_room(count) {
+            return self.raise_within_room(capacity, additional, count);
+        }
         let fresh = Index::with_buckets(self.ring.allocator(), capacity)?;
-        match self.ring.grow_within(additional, fresh.buckets()) {
+        match self.ring.grow_within(additional, fresh.buckets().max(2)) {
             Ok(()) => {
                 self.rechained += self.index.take_over(fresh, &mut self.ring);
                 Ok(())
@@ -62,6 +67,34 @@ impl<K, V> Table<K, V> {
                 Err(refused)
             }
         }
+    }
+
+    /// Does what `raise_buckets` does, to so many buckets as there is room for, without memory for
+    /// buckets.
+    fn raise_within_room(
+        &mut self,
+        capacity: usize,
+        additional: usize,
+        count: usize,
+    ) -> Result<(), AllocError>
+        requires sum { self.old.capacity + additional ≡ capacity }
+        requires more { buckets self.old.capacity < capacity }
+        requires higher { self.old.capacity < capacity }
+        requires limit { capacity ≤ 2 ^ 59 }
+        requires some { 0 < buckets self.old.capacity }
+        requires count { count ≡ buckets capacity }
+        requires few { count ≤ 8 }
+        ensures held { self.new.held ≡ self.old.held }
+        ensures capacity { OnOk result (self.new.capacity ≡ capacity) }
+        ensures rechained { OnOk result
+            (self.new.rechained ≡ self.old.rechained + length self.old.held) }
+        ensures made { OnOk result (self.new.made ≡ nodes_grown self.old.made capacity
+            (least_more additional self.old.made (max 2 (buckets capacity)))) }
+        ensures refused { OnErr result (self.new ≡ self.old) }
+    {
+        self.ring.grow_within(additional, count.max(2))?;
+        self.rechained += self.index.spread(count, &mut self.ring);
+        Ok(())
     }
 
     /// Lowers the capacity to the number of pairs, in O(n), or changes nothing if an allocation

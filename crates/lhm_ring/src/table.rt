@@ -1,5 +1,5 @@
 //! Pairs in insertion order with a hash index of their keys.
-ghost use Rattle.std.specs.Prelude.{◌≡◌, ℕ, ◌+◌, ◌-◌, ◌<◌, ◌≤◌, ◌^◌, ◌++◌, ◌∷◌, [], length, take, drop, map, remove, slice_get, Some, None, IfOk, IsOk, IfSome, IfNone, OnSome, IsTrue, IsFalse};
+ghost use Rattle.std.specs.Prelude.{◌≡◌, ℕ, ◌+◌, ◌-◌, ◌*◌, ◌<◌, ◌≤◌, max, ◌^◌, ◌++◌, ◌∷◌, [], length, take, drop, map, remove, slice_get, Some, None, IfOk, IsOk, IfSome, IfNone, OnSome, IsTrue, IsFalse};
 ghost use Rattle.lhm_ring.specs.Nodes.{IsApart};
 ghost use Rattle.lhm_ring.specs.Ring.{IsHeld, AtHeld, first_at, last_at, held, pair, rekeyed};
 ghost use Rattle.lhm_ring.specs.Pointer.{pointer_of, pointer_of_some};
@@ -106,7 +106,8 @@ impl<K, V> Table<K, V> {
         ensures within { length self.now.held ≤ self.now.capacity }
         ensures limit { self.now.capacity ≤ 2 ^ 59 }
         ensures made { self.now.capacity ≤ self.now.made }
-        ensures made_within { self.now.made ≤ buckets self.now.capacity }
+        ensures made_within { self.now.made ≤ max 2 (buckets self.now.capacity) }
+        ensures made_twice { self.now.made ≤ 2 * self.now.capacity }
     {
         self.ring.len() + self.ring.spares()
     }

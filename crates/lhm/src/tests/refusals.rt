@@ -76,28 +76,28 @@ fn refused_growth_before_a_line_that_is_no_command(rt: HostRuntime) {
 fn refused_growth_of_a_run(rt: HostRuntime) {
     let ways = [
         OUT_OF_MEMORY,
-        // The map's own growth is refused at the first insertion, or at the second, or nothing is
+        // The map's own growth is refused at the first insertion, or at the third, or nothing is
         // refused.
         (
             0,
-            "refused 1 10 len=0 cap=0\nnew len=1 cap=1\nnew len=2 cap=2\nold 11 len=1 cap=2\nold 20 len=1 cap=2\nlist 2:21\n",
+            "refused 1 10 len=0 cap=0\nnew len=1 cap=1\nnew len=2 cap=2\nnew len=3 cap=3\nold 11 len=2 cap=3\nlist 2:20 3:30\n",
             "",
         ),
         (
             0,
-            "new len=1 cap=1\nrefused 2 20 len=1 cap=1\nold 10 len=1 cap=1\nold 11 len=0 cap=1\nnew len=1 cap=1\nlist 2:21\n",
+            "new len=1 cap=1\nnew len=2 cap=2\nrefused 3 30 len=2 cap=2\nold 10 len=2 cap=2\nold 11 len=1 cap=2\nlist 2:20\n",
             "",
         ),
         (
             0,
-            "new len=1 cap=1\nnew len=2 cap=2\nold 10 len=2 cap=2\nold 11 len=1 cap=2\nold 20 len=1 cap=2\nlist 2:21\n",
+            "new len=1 cap=1\nnew len=2 cap=2\nnew len=3 cap=3\nold 10 len=3 cap=3\nold 11 len=2 cap=3\nlist 2:20 3:30\n",
             "",
         ),
     ];
-    let input = b"insert 1 10\ninsert 2 20\ninsert 1 11\nremove 1\ninsert 2 21\n";
-    // 57 bytes of input, to 64, five commands, to 8, the replies, two pairs of the map, and 99
-    // bytes of output, to 128.
-    check_ways(&rt, rt.alloc(), input, &ways, 19);
+    let input = b"insert 1 10\ninsert 2 20\ninsert 3 30\ninsert 1 11\nremove 1\n";
+    // 57 bytes of input, to 64, five commands, to 8, the replies, the first and the third pair of
+    // the map, and 101 bytes of output, to 128.
+    check_ways(&rt, rt.alloc(), input, &ways, 17);
 }
 
 #[test]
@@ -105,12 +105,12 @@ fn refused_growth_of_an_extension(rt: HostRuntime) {
     let ways = [
         OUT_OF_MEMORY,
         (0, "stopped 0 1 10 len=0 cap=0\nlist\n", ""),
-        (0, "stopped 1 2 20 len=1 cap=1\nlist 1:10\n", ""),
-        (0, "done len=2 cap=2\nlist 1:10 2:20\n", ""),
+        (0, "stopped 2 3 30 len=2 cap=2\nlist 1:10 2:20\n", ""),
+        (0, "done len=3 cap=3\nlist 1:10 2:20 3:30\n", ""),
     ];
-    // 17 bytes of input, to 32, the pairs, a command, the replies, two pairs of the map, and 32
-    // bytes of output.
-    check_ways(&rt, rt.alloc(), b"extend 1 10 2 20\n", &ways, 16);
+    // 22 bytes of input, to 32, the pairs, a command, the replies, the first and the third pair of
+    // the map, and 37 bytes of output, to 64.
+    check_ways(&rt, rt.alloc(), b"extend 1 10 2 20 3 30\n", &ways, 15);
 }
 
 #[test]

@@ -2,7 +2,7 @@
 use Rattle.std.proofs.Common.{◌≡◌, ℕ, ◌+◌, ◌≤◌, ◌<◌, cond, true, false, refl, inl, inr, ap, ◌∙◌, arith}
 use Rattle.std.specs.Prelude.{max, min, ◌-◌, ◌==◌, if◌then◌else◌}
 use Rattle.std.proofs.lemmas.Bool.Decides.{leb_tells}
-use Rattle.lhm_ring.specs.Links.{nodes_grown, least_more}
+use Rattle.lhm_ring.specs.Links.{nodes_grown, next_chunk, least_more}
 
 -- as many as are needed were there
 pub nodes_grown-enough : (nodes needed least : ℕ) → needed ≤ nodes → nodes_grown nodes needed least ≡ nodes
@@ -23,7 +23,7 @@ pub nodes_grown-exact : (nodes needed count : ℕ)
     → nodes_grown nodes needed (least_more count nodes 0) ≡ max nodes needed
 nodes_grown-exact nodes needed count =
     let none : least_more count nodes 0 ≡ 0 =
-    elim (count == 1) as (λ b. (if b then min nodes (min (0 - nodes) 64) else 0) ≡ 0)
+    elim (count == 1) as (λ b. (if b then min (next_chunk nodes) (min (0 - nodes) 64) else 0) ≡ 0)
     [ true ↦ omega arith | false ↦ refl ] in
     ap (nodes_grown nodes needed) none ∙ elim (leb_tells needed nodes) [
       | inl fits ↦ let enough = fits.1 in let same = nodes_grown-enough nodes needed 0 enough in omega arith

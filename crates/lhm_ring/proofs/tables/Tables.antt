@@ -2,7 +2,7 @@
 use Rattle.std.proofs.Common.{◌≡◌, ℕ, ◌+◌, ◌-◌, ◌^◌, ◌<◌, ◌≤◌, ◌≢◌, cond, List, [], ◌∷◌, ◌++◌, length}
 use Rattle.std.proofs.Common.{length-append, map, Option, Some, None, refl, sym, ap, ◌∙◌, subst, inl, inr}
 use Rattle.std.proofs.Common.{arith}
-use Rattle.std.specs.Prelude.{Result, Ok, Err, OnOk, OnErr, IfSome}
+use Rattle.std.specs.Prelude.{max, Result, Ok, Err, OnOk, OnErr, IfSome}
 use Rattle.std.proofs.lemmas.Bool.{eq-eqb, ne_eqb}
 use Rattle.std.proofs.lemmas.List.{length-map}
 use denote.RawPtr.{Ptr}
@@ -21,7 +21,7 @@ use Rattle.lhm_ring.specs.Ring.{Held, State, state, IsHeld, AtHeld, ChangesOnly,
 use Rattle.lhm_ring.specs.RingAfterLoan.{with_value}
 use Rattle.lhm_ring.specs.Index.{Indexes, PutsIn, spot, spots, entries, HoldsOthers}
 use Rattle.lhm_ring.specs.Buckets.{BucketState, buckets, rechained_raised, made_raised}
-use Rattle.lhm_ring.specs.Links.{nodes_grown, least_more}
+use Rattle.lhm_ring.specs.Links.{nodes_grown, least_more, most_nodes}
 use Rattle.lhm_ring.specs.TableAfterLoan.{with_value as write}
 use Rattle.lhm_ring.specs.Table.{IsTable, KeepsCounts, TableState, WritesOnly, table_of}
 
@@ -120,7 +120,7 @@ module _ {K V : Type 0} {i : BucketState} {s : State (K × V)} {r : ℕ} (table 
   -- the same pairs in order, except for chain links
   pub IsTable-rechained : {i' : BucketState} {t : State (K × V)} {q : ℕ}
       → entries t.held ≡ entries s.held → length s.held + t.spares ≤ 2 ^ 59
-      → Indexes i' (spots t.held) → length i'.heads ≡ buckets (length s.held + t.spares) → q ≤ length i'.heads → t.nodes ≤ length i'.heads
+      → Indexes i' (spots t.held) → length i'.heads ≡ buckets (length s.held + t.spares) → q ≤ length i'.heads → t.nodes ≤ most_nodes (length i'.heads)
       → IsTable i' t q
   IsTable-rechained {t = t} same within indexes count few made =
       let long = length-same_entries t.held s.held same in
@@ -216,19 +216,20 @@ module _ {K V : Type 0} {i : BucketState} {s : State (K × V)} {r : ℕ} (table 
     rechained_raised-stays len = ap (λ b. cond b r (r + len)) (eq-eqb (buckets (length s.held + s.spares)) (buckets d) buckets-same)
 
     pub made_raised-stays : made_raised s.nodes (length s.held + s.spares) d
-        ≡ nodes_grown s.nodes d (least_more (d - (length s.held + s.spares)) s.nodes (length i.heads))
+        ≡ nodes_grown s.nodes d (least_more (d - (length s.held + s.spares)) s.nodes (max 2 (length i.heads)))
     made_raised-stays = made_raised-higher s.nodes (length s.held + s.spares) d up
-        ∙ ap (λ most. nodes_grown s.nodes d (least_more (d - (length s.held + s.spares)) s.nodes most))
+        ∙ ap (λ n. nodes_grown s.nodes d (least_more (d - (length s.held + s.spares)) s.nodes (max 2 n)))
         (sym (table.indexed.count ∙ buckets-same))
 
     pub IsTable-grown : {E : Type 0} {t : State (K × V)} {more most : ℕ} (result : Result (Unit {0}) E)
-        → most ≡ length i.heads → IsRingGrown s t more most result → d ≡ length s.held + s.spares + more → d ≤ 2 ^ 59 → IsTable i t r
+        → most ≡ max 2 (length i.heads) → IsRingGrown s t more most result → d ≡ length s.held + s.spares + more → d ≤ 2 ^ 59 → IsTable i t r
     IsTable-grown {t = t} (Ok _) wide grown all within =
         let few = grown.nodes (omega (arith, wide, table.nodes_within)) (omega (arith, wide, enough, all)) in
+        let some : 0 < length i.heads = omega (arith, up, enough) in
         let sum : length s.held + t.spares ≡ d = omega (arith, grown.spares, all) in
         IsTable-rechained (ap entries grown.held) (omega (arith, sum, within))
         (subst (λ hs. Indexes i (spots hs)) (sym grown.held) table.indexed.indexes)
-        (table.indexed.count ∙ buckets-same ∙ ap buckets (sym sum)) table.few (omega (arith, wide, few))
+        (table.indexed.count ∙ buckets-same ∙ ap buckets (sym sum)) table.few (omega (arith, wide, few, some))
     IsTable-grown (Err _) wide grown all within = subst (λ u. IsTable i u r) (sym grown.refused) table
 
   -- it rises above the number of buckets: each node can be rehashed

@@ -24,7 +24,7 @@ const FIVE: [(u64, char, u64); 5] = [
     (5, 'e', 50),
 ];
 
-/// Puts in `FIVE`, each into a node of its own, which are made in chunks of four at most.
+/// Puts in `FIVE`, each into a node of its own, which are made in two chunks of two and one of one.
 fn put_five(rt: &impl Abort, ring: &mut Ring<char, u64>) {
     for (hash, key, value) in FIVE {
         check_eq!(rt; ring.grow_within(1, 4), Ok(()));

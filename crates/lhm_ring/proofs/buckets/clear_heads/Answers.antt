@@ -6,6 +6,7 @@ pub heads-preserved : goal.heads-preserved
 heads-preserved c = record {
   cleared = get_or-cleared c.heads.heads.items c.heads.next (record { link = c.none.result }) c.none.ensures c.heads.invariant.cleared;
   buckets = c.heads.invariant.buckets;
+  capacity = c.heads.invariant.capacity;
 }
 
 pub returns-clause-empty : goal.returns-clause-empty

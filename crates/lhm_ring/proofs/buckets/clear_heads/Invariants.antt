@@ -1,4 +1,5 @@
 use Rattle.std.proofs.Common.{◌≡◌, ℕ, ◌<◌, ◌-◌, get_or, map, None, vec_len}
+use Rattle.std.specs.Vec.{vec_capacity}
 use Rattle.lhm_ring.proofs.buckets.clear_heads.Given as goal
 use Rattle.lhm_ring.specs.Buckets.{leads_to}
 
@@ -6,6 +7,7 @@ abbrev pub invariant-heads : goal.invariant-heads
 invariant-heads l = record {
   cleared : (b : ℕ) → b < l.next → get_or (map leads_to l.heads.items) b None ≡ None;
   buckets : vec_len l.heads ≡ vec_len l.fn.heads;
+  capacity : vec_capacity l.heads ≡ vec_capacity l.fn.heads;
 }
 
 abbrev pub decreases-heads : goal.decreases-heads

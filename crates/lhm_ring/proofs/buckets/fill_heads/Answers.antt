@@ -1,7 +1,7 @@
 use Rattle.std.proofs.Common.{◌≡◌, ◌∙◌, ℕ, List, arith, get_or, map, None, sym, subst}
 use Rattle.lhm_ring.specs.declared.buckets.Head.{Head}
 use Rattle.lhm_ring.proofs.indexes.BucketHeads.{get_or-pushed}
-use Rattle.lhm_ring.proofs.buckets.new_heads.Goals as goal
+use Rattle.lhm_ring.proofs.buckets.fill_heads.Goals as goal
 use Rattle.lhm_ring.specs.Buckets.{leads_to}
 
 pub heads-preserved : goal.heads-preserved

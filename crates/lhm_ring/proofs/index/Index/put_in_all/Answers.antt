@@ -1,7 +1,6 @@
-use Rattle.std.proofs.Common.{arith, ap, sym, ◌∙◌, length}
+use Rattle.std.proofs.Common.{arith, ap, ◌∙◌}
 use Rattle.lhm_ring.proofs.indexes.IndexPuts.{IsHeld-rehashing, count-rehashing, length-rehashing, IsRehashing-step}
-use Rattle.lhm_ring.proofs.index.Index.take_over.Goals as goal
-use Rattle.lhm_ring.specs.Buckets.{BucketState}
+use Rattle.lhm_ring.proofs.index.Index.put_in_all.Goals as goal
 use Rattle.lhm_ring.specs.Pointer.{pointer_of, pointer_of_some}
 
 pub next-pointer-requires : goal.next-pointer-requires
@@ -40,8 +39,7 @@ loop-pointer-preserved g c =
       rehashing = IsRehashing-step i.rehashing p at c.put_in_by_hash.new.self c.put_in_by_hash.new.ring.held
           (pointer_of_some c.next-pointer.result)
           (length-rehashing i.rehashing p at
-          (λ e. c.requires.some (ap (λ (z : BucketState). length z.heads)
-          (sym c.replace.ensures.after) ∙ e))) c.put_in_by_hash.ensures.first c.next-pointer.ensures.next;
+          c.requires.some) c.put_in_by_hash.ensures.first c.next-pointer.ensures.next;
       spares = c.put_in_by_hash.ensures.spares ∙ i.spares;
       nodes = c.put_in_by_hash.ensures.nodes ∙ i.nodes;
     }

@@ -1,8 +1,0 @@
-use Rattle.std.proofs.Common.{vec_len}
-use Rattle.lhm_ring.proofs.buckets.free_words.Given as goal
-
-abbrev pub invariant-words : goal.invariant-words
-invariant-words l = Unit {0}
-
-abbrev pub decreases-words : goal.decreases-words
-decreases-words l = vec_len l.words
