@@ -1,5 +1,5 @@
 -- The last element of a list, and the first, or another one if it is empty.
-use Rattle.std.proofs.Common.{◌≡◌, List, [], ◌∷◌, ◌++◌, refl, ap}
+use Rattle.std.proofs.Common.{List, [], ◌∷◌, refl, ap}
 use Rattle.std.specs.List.{AllByRecursion}
 use Rattle.lhm_ring.specs.Ring.{SplitLast}
 
