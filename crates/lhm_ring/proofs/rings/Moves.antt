@@ -145,7 +145,8 @@ module _ {B : Type 0} {cs : List (Cell Links B)} {ps : List Ptr} {spare : Option
     prev_at-own =
         let cut = RowCut-linked cs null_ptr us p (vs ++ null_ptr ∷ []) AreLinked-row in
         let free = AllByRecursion-first Free null_ptr vs IsFresh-others.0 (AllByRecursion-right Free us vs IsFresh-rest) in
-        let other = ap (λ q. same_ptr q p) (AreNeighbours-cut cs p [] null_ptr vs cut.after).0 ∙ same_ptr-flip p (first_from null_ptr vs) free in
+        let other = ap (λ q. same_ptr q p) (AreNeighbours-cut cs p [] null_ptr vs cut.after).0
+        ∙ same_ptr-flip p (first_from null_ptr vs) free in
         j.prev p ∙ ap (λ t. cond t (prev_at cs p) (prev_at cs p)) other ∙ cut.edge.1
 
     -- the others, cut in two
@@ -214,7 +215,8 @@ module _ {B : Type 0} {cs : List (Cell Links B)} {ps : List Ptr} {spare : Option
           count = l.count ∙ k.count ∙ j.count ∙ ring.count ∙ ap (λ n. suc (n + length ss)) length-placed;
         }
 
-        pub listed-placed : (t : Held B) → content_at cs p ≡ Some t → listed fs (ahead ++ p ∷ behind) ≡ listed cs ahead ++ t ∷ listed cs behind
+        pub listed-placed : (t : Held B) → content_at cs p ≡ Some t
+            → listed fs (ahead ++ p ∷ behind) ≡ listed cs ahead ++ t ∷ listed cs behind
         listed-placed t e =
             let qs = ahead ++ p ∷ behind in
             listed-unchanged l qs ∙ listed-unchanged k qs ∙ listed-unchanged j qs ∙ listed-append cs ahead (p ∷ behind)
@@ -344,14 +346,16 @@ module _ {B : Type 0} {cs : List (Cell Links B)} {spare : Link} {n m : ℕ} {v :
       -- between the one before that and the one behind
       module _ {q : Ptr} (q_is : q ≡ prev_at ds b) where
         pub is_there-previous : IsThere ds q
-        is_there-previous = subst (λ z. IsThere ds z) (sym (q_is ∙ place.prev_is)) (is_there-ahead ok.ring node past place.before place.after place.is)
+        is_there-previous = subst (λ z. IsThere ds z) (sym (q_is ∙ place.prev_is))
+            (is_there-ahead ok.ring node past place.before place.after place.is)
 
         module _ {z : Ptr} (z_is : z ≡ next_at ds q) where
           pub is_there-next : IsThere ds z
           is_there-next = subst (λ x. IsThere ds x) (sym (z_is ∙ ap (next_at ds) q_is ∙ next_at-place node place))
               (is_there-behind_cut ok.ring node past place.before place.after place.is)
 
-          module _ {x : Ptr} (x_is : led_to x ≡ Some p) {es fs : List (Cell Links B)} (k : IsJoined ds es q x) (l : IsJoined es fs x z) where
+          module _ {x : Ptr} (x_is : led_to x ≡ Some p) {es fs : List (Cell Links B)} (k : IsJoined ds es q x)
+              (l : IsJoined es fs x z) where
             linked_at : (s : SplitAround ok.held_pointers p) (at : PlaceIn ds (s.before ++ s.after) b)
                 → AreLinked fs (null_ptr ∷ ((at.before ++ p ∷ at.after) ++ null_ptr ∷ []))
             linked_at s at = let moved = led_to-some x p x_is in
@@ -388,6 +392,7 @@ module _ {B : Type 0} {cs : List (Cell Links B)} {spare : Link} {n m : ℕ} {v :
                 ∙ (λ i. f.listed_before i ++ h.node ∷ f.listed_after i) ∙ sym h.is
 
 -- what is asked of a place that may be none
-pub IfSome-pointer : {K V : Type 0} (P : Ptr → Type 0) (o : Option (Position K V)) → IfSome o (λ at. P (pointer_of at)) → IfSome (pointer_of_some o) P
+pub IfSome-pointer : {K V : Type 0} (P : Ptr → Type 0) (o : Option (Position K V)) → IfSome o (λ at. P (pointer_of at))
+    → IfSome (pointer_of_some o) P
 IfSome-pointer P None h = tt
 IfSome-pointer P (Some at) h = h

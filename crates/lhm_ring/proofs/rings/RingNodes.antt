@@ -68,7 +68,8 @@ module _ {B : Type 0} where
   CutAt-listed cs ps h us t vs e =
       let c = ListCut-listed cs ps h us (t ∷ vs) e in
       CutAt-cut cs t vs c.before c.after
-      (AllByRecursion-right (HasContent cs) c.before c.after (subst (AllByRecursion (HasContent cs)) c.is h)) c.is c.listed_before c.listed_after
+      (AllByRecursion-right (HasContent cs) c.before c.after (subst (AllByRecursion (HasContent cs)) c.is h)) c.is c.listed_before
+      c.listed_after
 
 -- what a ring lists
 module _ {B : Type 0} where

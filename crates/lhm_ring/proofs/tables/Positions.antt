@@ -1,6 +1,8 @@
 -- Positions and indexes: what lies at an index, and where a position is once a triple moved.
-use Rattle.std.proofs.Common.{◌≡◌, ℕ, zero, suc, ◌+◌, ◌-◌, ◌<◌, ◌≤◌, ◌≢◌, Bool, true, false, cond, List, [], ◌∷◌, ◌++◌, map, length, take, drop}
-use Rattle.std.proofs.Common.{remove, slice_get, Option, Some, None, option_map, refl, sym, ap, ap₂, ◌∙◌, subst, arith, length-append, append-nil}
+use Rattle.std.proofs.Common.{◌≡◌, ℕ, zero, suc, ◌+◌, ◌-◌, ◌<◌, ◌≤◌, ◌≢◌, Bool, true, false, cond, List, [], ◌∷◌, ◌++◌}
+use Rattle.std.proofs.Common.{map, length, take, drop}
+use Rattle.std.proofs.Common.{remove, slice_get, Option, Some, None, option_map, refl, sym, ap, ap₂, ◌∙◌, subst, arith}
+use Rattle.std.proofs.Common.{length-append, append-nil}
 use Rattle.std.specs.Prelude.{IfSome, nat_lt}
 use Rattle.std.specs.Option.{option_to_list}
 use Rattle.std.specs.List.Sorted.{IsPermutation}
@@ -295,7 +297,8 @@ module _ {B : Type 0} where
   pub MovedTo-front : {hs ks : List (Held B)} {p : Ptr} (h : IsHeld hs p) → AtHeld hs p (λ xs t ys. ks ≡ t ∷ (xs ++ ys)) → MovedTo h ks
   MovedTo-front h first = record { before = []; after = h.before ++ h.after; cut = refl; is = first h.before h.node h.after h.is h.at_is }
 
-  pub MovedTo-to_before_at : {hs ks : List (Held B)} {p : Ptr} (h : IsHeld hs p) (j : ℕ) → ks ≡ to_before_at hs (length h.before) j → MovedTo h ks
+  pub MovedTo-to_before_at : {hs ks : List (Held B)} {p : Ptr} (h : IsHeld hs p) (j : ℕ) → ks ≡ to_before_at hs (length h.before) j
+      → MovedTo h ks
   MovedTo-to_before_at {hs} h j is =
       let k = j - cond (nat_lt (length h.before) j) 1 0 in let others = h.before ++ h.after in record {
         before = take k others;

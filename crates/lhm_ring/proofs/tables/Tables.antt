@@ -17,7 +17,8 @@ use Rattle.lhm_ring.proofs.tables.Positions.{MovedTo, length-moved_to}
 use Rattle.lhm_ring.specs.declared.pointer.Position.{Position}
 use Rattle.lhm_ring.specs.Nodes.{IsApart}
 use Rattle.lhm_ring.specs.Pointer.{pointer_of}
-use Rattle.lhm_ring.specs.Ring.{Held, State, state, IsHeld, AtHeld, ChangesOnly, linked_to, first_at, last_at, change_at, triples, revalued, rekeyed}
+use Rattle.lhm_ring.specs.Ring.{Held, State, state, IsHeld, AtHeld, ChangesOnly, linked_to, first_at, last_at}
+use Rattle.lhm_ring.specs.Ring.{change_at, triples, revalued, rekeyed}
 use Rattle.lhm_ring.specs.RingAfterLoan.{with_value}
 use Rattle.lhm_ring.specs.Index.{Indexes, PutsIn, spot, spots, entries, HoldsOthers}
 use Rattle.lhm_ring.specs.Buckets.{BucketState, buckets, rechained_raised, made_raised}
@@ -30,7 +31,8 @@ module _ {K V : Type 0} (s : State (K × V)) (r : ℕ) {m : TableState (K × V)}
   pub IsHeld-table : (p : Ptr) → IsHeld m.held p → IsHeld s.held p
   IsHeld-table p h = IsHeld-entries s.held p (subst (λ (z : TableState (K × V)). IsHeld z.held p) (sym seen) h)
 
-  pub IfSome-table : (o : Option (Position K V)) → IfSome o (λ at. IsHeld m.held (pointer_of at)) → IfSome o (λ at. IsHeld s.held (pointer_of at))
+  pub IfSome-table : (o : Option (Position K V)) → IfSome o (λ at. IsHeld m.held (pointer_of at))
+      → IfSome o (λ at. IsHeld s.held (pointer_of at))
   IfSome-table None h = tt
   IfSome-table (Some at) h = IsHeld-table (pointer_of at) h
 
@@ -52,7 +54,8 @@ module _ {K V : Type 0} (s : State (K × V)) (r : ℕ) {m : TableState (K × V)}
 
   pub AtHeld-table_previous : (p : Ptr) (o : Option Ptr) → AtHeld s.held p (λ xs t ys. o ≡ last_at xs)
       → AtHeld m.held p (λ xs t ys. o ≡ last_at xs)
-  AtHeld-table_previous p o before = AtHeld-table p (λ xs t ys. o ≡ last_at xs) (λ xs t ys e at. before xs t ys e at ∙ sym (last_at-entries xs))
+  AtHeld-table_previous p o before = AtHeld-table p (λ xs t ys. o ≡ last_at xs)
+      (λ xs t ys e at. before xs t ys e at ∙ sym (last_at-entries xs))
 
   pub IsApart-table : IsApart (map (λ t. t.at) s.held) → IsApart (map (λ t. t.at) m.held)
   IsApart-table h = subst IsApart (sym (pointers-entries s.held) ∙ ap (λ (z : TableState (K × V)). map (λ t. t.at) z.held) seen) h
@@ -120,7 +123,8 @@ module _ {K V : Type 0} {i : BucketState} {s : State (K × V)} {r : ℕ} (table 
   -- the same pairs in order, except for chain links
   pub IsTable-rechained : {i' : BucketState} {t : State (K × V)} {q : ℕ}
       → entries t.held ≡ entries s.held → length s.held + t.spares ≤ 2 ^ 59
-      → Indexes i' (spots t.held) → length i'.heads ≡ buckets (length s.held + t.spares) → q ≤ length i'.heads → t.nodes ≤ most_nodes (length i'.heads)
+      → Indexes i' (spots t.held) → length i'.heads ≡ buckets (length s.held + t.spares) → q ≤ length i'.heads
+      → t.nodes ≤ most_nodes (length i'.heads)
       → IsTable i' t q
   IsTable-rechained {t = t} same within indexes count few made =
       let long = length-same_entries t.held s.held same in
@@ -222,7 +226,8 @@ module _ {K V : Type 0} {i : BucketState} {s : State (K × V)} {r : ℕ} (table 
         (sym (table.indexed.count ∙ buckets-same))
 
     pub IsTable-grown : {E : Type 0} {t : State (K × V)} {more most : ℕ} (result : Result (Unit {0}) E)
-        → most ≡ max 2 (length i.heads) → IsRingGrown s t more most result → d ≡ length s.held + s.spares + more → d ≤ 2 ^ 59 → IsTable i t r
+        → most ≡ max 2 (length i.heads) → IsRingGrown s t more most result → d ≡ length s.held + s.spares + more → d ≤ 2 ^ 59
+        → IsTable i t r
     IsTable-grown {t = t} (Ok _) wide grown all within =
         let few = grown.nodes (omega (arith, wide, table.nodes_within)) (omega (arith, wide, enough, all)) in
         let some : 0 < length i.heads = omega (arith, up, enough) in

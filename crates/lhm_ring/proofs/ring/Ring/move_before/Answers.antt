@@ -22,14 +22,16 @@ prev_of-previous-requires g c =
     let i = c.self.inside in let p = c.args.at.pointer.ptr in
     let e = links_at-ring_cells i.ends i.nodes.cells p c.args.at.block ∙ c.links-links.ensures in
     let there = IfSome-pointer (IsHeld c.args.self.now.held) c.args.before c.requires.before in
-    is_there-before c.self.invariant.ring c.self.view_is p e c.join.ensures.joined c.requires.at c.of-place.result.ptr c.of-place.ensures there
+    is_there-before c.self.invariant.ring c.self.view_is p e c.join.ensures.joined c.requires.at c.of-place.result.ptr
+    c.of-place.ensures there
 
 pub next_of-next-requires : goal.next_of-next-requires
 next_of-next-requires g c =
     let i = c.self.inside in let p = c.args.at.pointer.ptr in
     let e = links_at-ring_cells i.ends i.nodes.cells p c.args.at.block ∙ c.links-links.ensures in
     let there = IfSome-pointer (IsHeld c.args.self.now.held) c.args.before c.requires.before in
-    is_there-previous c.self.invariant.ring c.self.view_is p e c.join.ensures.joined c.requires.at c.of-place.result.ptr c.of-place.ensures there
+    is_there-previous c.self.invariant.ring c.self.view_is p e c.join.ensures.joined c.requires.at c.of-place.result.ptr
+    c.of-place.ensures there
     c.prev_of-previous.ensures
 
 pub join-requires-2 : goal.join-requires-2
@@ -62,7 +64,8 @@ invariant_of-self g c =
     let e = links_at-ring_cells i.ends i.nodes.cells p c.args.at.block ∙ c.links-links.ensures in
     let there = IfSome-pointer (IsHeld c.args.self.now.held) c.args.before c.requires.before in
     record {
-      ring = IsOwned-before c.self.invariant.ring c.self.view_is p e c.join.ensures.joined c.requires.at c.of-place.result.ptr c.of-place.ensures
+      ring = IsOwned-before c.self.invariant.ring c.self.view_is p e c.join.ensures.joined c.requires.at c.of-place.result.ptr
+          c.of-place.ensures
           there c.prev_of-previous.ensures c.next_of-next.ensures c.to-moved.ensures c.join-2.ensures.joined c.join-3.ensures.joined;
       laid = IsLaid-same c.self.invariant.laid (c.join-3.ensures.land.0 ∙ c.join-2.ensures.land.0
           ∙ c.join.ensures.land.0) (c.join-3.ensures.land.1 ∙ c.join-2.ensures.land.1

@@ -31,7 +31,8 @@ join-requires-3 g c =
     let i = c.self.inside in let p = c.args.at.pointer.ptr in
     let e = links_at-ring_cells i.ends i.nodes.cells p c.args.at.block ∙ c.links-links.ensures in (
       c.join-2.ensures.joined.there c.to-moved.result.ptr
-          ∙ is_there-moved c.self.invariant.ring c.self.view_is p e c.join.ensures.joined c.requires c.to-moved.result.ptr c.to-moved.ensures,
+          ∙ is_there-moved c.self.invariant.ring c.self.view_is p e c.join.ensures.joined c.requires c.to-moved.result.ptr
+          c.to-moved.ensures,
       is_there-nowhere c.join-2.new.ends c.join-2.new.nodes.cells c.none.result.ptr c.none.ensures,
     )
 

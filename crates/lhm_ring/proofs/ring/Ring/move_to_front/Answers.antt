@@ -30,7 +30,8 @@ join-requires-3 g c =
     let e = links_at-ring_cells i.ends i.nodes.cells p c.args.at.block ∙ c.links-links.ensures in (
       is_there-nowhere c.join-2.new.ends c.join-2.new.nodes.cells c.none.result.ptr c.none.ensures,
       c.join-2.ensures.joined.there c.to-moved.result.ptr
-          ∙ is_there-moved c.self.invariant.ring c.self.view_is p e c.join.ensures.joined c.requires c.to-moved.result.ptr c.to-moved.ensures,
+          ∙ is_there-moved c.self.invariant.ring c.self.view_is p e c.join.ensures.joined c.requires c.to-moved.result.ptr
+          c.to-moved.ensures,
     )
 
 pub invariant_of-self : goal.invariant_of-self

@@ -8,10 +8,12 @@ use Rattle.lhm_ring.specs.Ring.{IsHeld, linked_to}
 use Rattle.lhm_ring.specs.Index.{entries}
 
 pub move_before-requires-clause-at : goal.move_before-requires-clause-at
-move_before-requires-clause-at g c = IsHeld-table c.self.inside.ring c.self.inside.rechained c.self.view_is (pointer_of c.args.at) c.requires.at
+move_before-requires-clause-at g c = IsHeld-table c.self.inside.ring c.self.inside.rechained c.self.view_is
+    (pointer_of c.args.at) c.requires.at
 
 pub move_before-requires-clause-before : goal.move_before-requires-clause-before
-move_before-requires-clause-before g c = IfSome-table c.self.inside.ring c.self.inside.rechained c.self.view_is c.args.before c.requires.before
+move_before-requires-clause-before g c = IfSome-table c.self.inside.ring c.self.inside.rechained c.self.view_is c.args.before
+    c.requires.before
 
 pub invariant_of-self : goal.invariant_of-self
 invariant_of-self g c =

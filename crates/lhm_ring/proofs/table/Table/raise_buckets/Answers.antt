@@ -30,7 +30,8 @@ invariant_of-self g c =
     let fits = rechained-fits c.self.invariant c.args.capacity up few in
     IsTable-rechained c.self.invariant {t = c.take_over.new.ring} (taken.held ∙ ap entries grown.held)
     (omega (arith, sum, c.requires.limit)) taken.indexed
-    (wide ∙ ap buckets (sym sum)) (omega (arith, fits, count, wide)) (omega (arith, made, most, wide, taken.nodes, fresh.enough, fresh.buckets, up))
+    (wide ∙ ap buckets (sym sum)) (omega (arith, fits, count, wide))
+    (omega (arith, made, most, wide, taken.nodes, fresh.enough, fresh.buckets, up))
 
 pub returns-in-Ok-clause-made : goal.returns-in-Ok-clause-made
 returns-in-Ok-clause-made g c =
