@@ -14,7 +14,8 @@ pub returns-in_err-first-clause-absent : goal.returns-in_err-first-clause-absent
 returns-in_err-first-clause-absent g c =
     let heads = c.args.self.now.heads in
     let bucket = c.bucket_of-bucket.ensures in
-    let none = sym (ap pointer_of_some c.in_err-first.was) ∙ c.get.ensures ∙ c.head.ensures ∙ ap (λ b. get_or heads b None) bucket.of_hash in
+    let none = sym (ap pointer_of_some c.in_err-first.was) ∙ c.get.ensures ∙ c.head.ensures
+    ∙ ap (λ b. get_or heads b None) bucket.of_hash in
     let nothing = FindsNone-part (IsPart-first {is_key = g.Q.Equivalent.equivalent c.args.key} {before = None}
     {pointer = None} {visited = 0} {compared = 0}
     refl none refl refl (subst (λ (b : ℕ). b < length heads) bucket.of_hash bucket.within) c.requires.indexed.chains) refl in

@@ -4,23 +4,15 @@ use Rattle.lhm_ring.proofs.indexes.Entries.{HasKey-entries, LacksKey-entries, Co
 use Rattle.lhm_ring.proofs.table.Table.find.Goals as goal
 use Rattle.lhm_ring.specs.Pointer.{pointer_of}
 
-pub returns-clause-found : goal.returns-clause-found
-returns-clause-found g c = rw (← c.self.view_is) (IfSome_then c.find.result.0 c.find.ensures.found
-    (λ p h. HasKey-entries (g.K.PartialEq.eq c.args.key.now) c.args.hash c.self.inside.ring.held
-    (pointer_of p) h))
-
-pub returns-clause-absent : goal.returns-clause-absent
-returns-clause-absent g c = rw (← c.self.view_is) (IfNone-then c.find.result.0 c.find.ensures.absent
-    (λ h. LacksKey-entries (g.K.PartialEq.eq c.args.key.now) c.args.hash c.self.inside.ring.held h))
-
-pub returns-clause-counts_found : goal.returns-clause-counts_found
-returns-clause-counts_found g c = rw (← c.self.view_is)
-    (OnSome-then c.find.result.0 c.find.ensures.counts_found
-    (λ h. CountsSome-entries c.self.inside.ring.held _ _ c.args.hash c.find.result.1.visited
-    c.find.result.1.compared c.self.invariant.indexed.count h))
-
-pub returns-clause-counts_absent : goal.returns-clause-counts_absent
-returns-clause-counts_absent g c = rw (← c.self.view_is)
-    (IfNone-then c.find.result.0 c.find.ensures.counts_absent
-    (λ h. CountsAll-entries c.self.inside.ring.held _ _ c.args.hash c.find.result.1.visited
-    c.find.result.1.compared c.self.invariant.indexed.count h))
+pub returns : goal.returns
+returns g c =
+    let hs = c.self.inside.ring.held in let o = c.find.result.0 in let counts = c.find.result.1 in let said = c.find.ensures in
+    let is_key = g.K.PartialEq.eq c.args.key.now in let all = c.self.invariant.indexed.count in
+    rw (← c.self.view_is) (record {
+      found = IfSome_then o said.found (λ p h. HasKey-entries is_key c.args.hash hs (pointer_of p) h);
+      absent = IfNone-then o said.absent (λ h. LacksKey-entries is_key c.args.hash hs h);
+      counts_found = OnSome-then o said.counts_found
+          (λ h. CountsSome-entries hs _ _ c.args.hash counts.visited counts.compared all h);
+      counts_absent = IfNone-then o said.counts_absent
+          (λ h. CountsAll-entries hs _ _ c.args.hash counts.visited counts.compared all h);
+    })
