@@ -2,7 +2,8 @@
 use Rattle.std.specs.Prelude.{◌≡◌, ℕ, ◌≤◌, ◌==◌, false, not, is_some, List, length, drop, max, Some}
 use Rattle.std.specs.Option.{IsSome}
 use Rattle.linked_hash_map.specs.Pairs.{last}
-use Rattle.linked_hash_map.specs.SessionTables.{Session, SessionTable, session_of, payload_of, total_weight, without, with_last, fit, IsLongestEnd}
+use Rattle.linked_hash_map.specs.SessionTables.{Session, SessionTable, session_of, payload_of, total_weight, without}
+use Rattle.linked_hash_map.specs.SessionTables.{with_last, fit, IsLongestEnd}
 use Rattle.linked_hash_map.specs.declared.sessions.storage.PutPlan.{PutPlan}
 
 module _ {T : Type 0} where

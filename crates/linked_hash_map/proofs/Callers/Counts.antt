@@ -22,7 +22,10 @@ buckets_least c some =
       least = λ m power enough.
           -- m has m buckets, and a higher capacity has no fewer
           let own = ring.buckets-least_power m m power (omega arith) (omega arith) (omega arith) in
-          elim (ring.buckets-raised c m enough) [ inl as_many ↦ omega (arith, same, own, as_many) | inr more ↦ omega (arith, same, own, more) ];
+          elim (ring.buckets-raised c m enough) [
+            | inl as_many ↦ omega (arith, same, own, as_many)
+            | inr more ↦ omega (arith, same, own, more)
+          ];
     }
 
 -- a power of two has as many buckets as it is

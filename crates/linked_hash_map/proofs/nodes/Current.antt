@@ -6,13 +6,12 @@ use Rattle.lhm_ring.specs.declared.pointer.Position.{Position}
 use Rattle.linked_hash_map.specs.LinkedMap.{LinkedMap, CursorState}
 use Rattle.linked_hash_map.specs.Changes.{MovesCurrent}
 use Rattle.linked_hash_map.specs.Cursor.{IsOutside}
-use Rattle.linked_hash_map.specs.Nodes.{VisitState, bare, current_at, cursor_at, Lies, IsKept}
+use Rattle.linked_hash_map.specs.Nodes.{VisitState, Beside, bare, current_at, cursor_at, pairs_of, map_of, Lies, IsKept}
 use Rattle.linked_hash_map.proofs.nodes.Kept.{no_visit, IsValid-kept}
-use Rattle.lhm_ring.specs.Positions.{index_of}
-use Rattle.linked_hash_map.specs.Nodes.{Beside, pairs_of, map_of}
+use Rattle.lhm_ring.specs.Positions.{IsAt, index_of}
 use Rattle.linked_hash_map.proofs.nodes.HeldPairs.{length-bare, index_of-bare}
-use Rattle.linked_hash_map.proofs.nodes.CutNodes.{CutAt, CutAt-index_of}
-use Rattle.linked_hash_map.proofs.nodes.Outside.{IsElsewhere, to_visit_of}
+use Rattle.lhm_ring.proofs.tables.Positions.{IsAt-index_of}
+use Rattle.linked_hash_map.proofs.nodes.Outside.{IsElsewhere, IsCurrent, to_visit_of}
 use Rattle.lhm_ring.specs.Pointer.{pointer_of, pointer_of_some}
 use Rattle.lhm_ring.specs.Ring.{Held}
 use Rattle.lhm_ring.specs.Table.{TableState, KeepsCounts}
@@ -36,17 +35,25 @@ module _ {K V : Type 0} {eq : K → K → Bool} {hash : K → ℕ} (hs : List (H
       let of_before = index_of-bare p hs in let of_bare = length-bare hs in
       omega (arith, lies, of_before, of_bare)
 
-  pub CutAt-current : {o : Option (Position K V)} {at : Position K V} → pointer_of_some o ≡ visit.current
-      → o ≡ Some at → CutAt (pointer_of at) hs
-  CutAt-current {o} {at} of is = CutAt-index_of (pointer_of at) hs (index_of-current (current_of-Some of is))
+  -- and that at the current index
+  pub IsAt-current : {o : Option (Position K V)} {at : Position K V} → pointer_of_some o ≡ visit.current
+      → o ≡ Some at → IsAt hs (pointer_of at) (current_at visit.current (bare hs))
+  IsAt-current {o} {at} of is =
+      let current = current_of-Some of is in
+      subst (IsAt hs (pointer_of at)) (sym (current_at-Some current hs)) (IsAt-index_of (pointer_of at) hs (index_of-current current))
 
   -- if the index is outside the pairs to visit, the node is
-  pub IsElsewhere-current : {p : Ptr} → visit.current ≡ Some p → {S : Type 0} (m : LinkedMap K V S)
-      → cursor_at visit (bare hs) ≡ m.cursor → IsOutside m.cursor.current m
-      → IsElsewhere (index_of p hs) visit (bare hs)
-  IsElsewhere-current is m view outside =
-      subst (λ k. IsElsewhere k visit (bare hs)) (current_at-Some is hs)
-      (subst (λ (c : CursorState). (c.current < c.bookmark) ⊎ (c.bookmark + c.unvisited ≤ c.current)) (sym view) outside)
+  pub IsCurrent-outside : {o : Option (Position K V)} {at : Position K V} → pointer_of_some o ≡ visit.current
+      → o ≡ Some at → {S : Type 0} (m : LinkedMap K V S) → cursor_at visit (bare hs) ≡ m.cursor → IsOutside m.cursor.current m
+      → IsCurrent visit hs (pointer_of at)
+  IsCurrent-outside of some m view outside =
+      let is = current_of-Some of some in
+      record {
+        is = is;
+        lies = index_of-current is;
+        elsewhere = subst (λ k. IsElsewhere k visit (bare hs)) (current_at-Some is hs)
+            (subst (λ (c : CursorState). (c.current < c.bookmark) ⊎ (c.bookmark + c.unvisited ≤ c.current)) (sym view) outside);
+      }
 
 -- another pair becomes the current one
 module _ {K : Type 0} {eq : K → K → Bool} {hash : K → ℕ} {us : List (Held K)} {capacity : ℕ}

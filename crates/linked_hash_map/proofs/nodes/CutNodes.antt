@@ -1,19 +1,21 @@
 -- The nodes, cut at one of them: the pair there, and its index.
-use Rattle.std.proofs.Common.{◌≡◌, suc, ◌+◌, ◌<◌, cond, List, [], ◌∷◌, ◌++◌, map}
-use Rattle.std.proofs.Common.{length, slice_get, Some, sym, ap, ◌∙◌, subst, arith}
+use Rattle.std.proofs.Common.{◌≡◌, ℕ, suc, ◌+◌, ◌<◌, cond, List, [], ◌∷◌, ◌++◌, map}
+use Rattle.std.proofs.Common.{length, slice_get, option_map, Some, sym, ap, ◌∙◌, subst, arith}
 use denote.RawPtr.{Ptr}
 use Rattle.lhm_ring.proofs.lists.Apart.{same_ptr-reflexive, IsFresh-head, IsApart-tail}
 use Rattle.lhm_ring.proofs.rings.HeldPointers.{same_ptr-fresh}
-use Rattle.linked_hash_map.specs.Nodes.{pairs_of}
+use Rattle.linked_hash_map.specs.Nodes.{Beside, pairs_of, map_of}
 use Rattle.lhm_ring.specs.Positions.{index_of}
 use Rattle.linked_hash_map.specs.Indexes.{set_value_at}
-use Rattle.linked_hash_map.proofs.nodes.HeldPairs.{length-pairs_of, pairs_of-append}
+use Rattle.linked_hash_map.proofs.nodes.HeldPairs.{bare-change, length-pairs_of, pairs_of-append}
+use Rattle.linked_hash_map.proofs.nodes.Kept.{map_of-revalued}
 use Rattle.linked_hash_map.proofs.pairs.Indexes.{set_value_at-append}
-use Rattle.lhm_ring.proofs.tables.Positions.{slice_get-append, CutAt-IsAt, IsAt-index_of}
+use Rattle.lhm_ring.proofs.tables.Positions.{slice_get-append, CutAt-IsAt, IsAt-index_of, cut_at}
 use Rattle.lhm_ring.proofs.tables.Positions as Positions
 use Rattle.lhm_ring.specs.Nodes.{IsApart}
-use Rattle.lhm_ring.specs.Ring.{Held, change_at, IsHeld, revalued}
-use Rattle.lhm_ring.specs.Table.{WritesOnly}
+use Rattle.lhm_ring.specs.Positions.{IsAt}
+use Rattle.lhm_ring.specs.Ring.{Held, AtHeld, change_at, IsHeld, revalued}
+use Rattle.lhm_ring.specs.Table.{TableState, WritesOnly}
 
 -- nodes, cut at one of them: what is at its index
 module _ {K V : Type 0} {hs : List (Held (K × V))} {p : Ptr} (held : IsHeld hs p) where
@@ -34,6 +36,36 @@ module _ {K V : Type 0} {hs : List (Held (K × V))} {p : Ptr} (held : IsHeld hs 
       ∙ pairs_of-append held.before (revalued w held.node ∷ held.after)
       ∙ sym (ap (λ ps. set_value_at ps (length (pairs_of held.before)) w) pairs_of-held
       ∙ set_value_at-append (pairs_of held.before) held.node.pair (pairs_of held.after) w))
+
+-- the node at an index: what is read there
+module _ {K V : Type 0} (hs : List (Held (K × V))) {p : Ptr} (i : ℕ) (at : IsAt hs p i) where
+  abbrev pub held-at : IsHeld hs p
+  held-at = (cut_at hs i at).held
+
+  pub slice_get-at : slice_get (pairs_of hs) i ≡ Some held-at.node.pair
+  slice_get-at = ap (slice_get (pairs_of hs)) (sym (cut_at hs i at).long) ∙ slice_get-held held-at
+
+  pub part-at : {X : Type 0} (f : K × V → X) {x : X} → AtHeld hs p (λ xs t ys. x ≡ f t.pair)
+      → option_map f (slice_get (pairs_of hs) i) ≡ Some x
+  part-at f is = let h = held-at in ap (option_map f) slice_get-at ∙ ap Some (sym (is h.before h.node h.after h.is h.at_is))
+
+  pub pair-at : {k : K} {v : V} → AtHeld hs p (λ xs t ys. k ≡ t.pair.0) → AtHeld hs p (λ xs t ys. v ≡ t.pair.1)
+      → slice_get (pairs_of hs) i ≡ Some (k, v)
+  pair-at key value =
+      let h = held-at in
+      slice_get-at
+      ∙ (λ j. Some (sym (key h.before h.node h.after h.is h.at_is) j, sym (value h.before h.node h.after h.is h.at_is) j))
+
+  -- once a value is written there
+  pub pairs_of-written : WritesOnly hs p → (w : V) → pairs_of (change_at p (revalued w) hs) ≡ set_value_at (pairs_of hs) i w
+  pairs_of-written alone w = pairs_of-change_at held-at alone w ∙ ap (λ j. set_value_at (pairs_of hs) j w) (cut_at hs i at).long
+
+-- and what is seen of the map then
+pub map_of-written : {K V S : Type 0} (s : TableState (K × V)) (b : Beside S) {p : Ptr} (i : ℕ) → IsAt s.held p i
+    → WritesOnly s.held p → (w : V) {ps : List (K × V)} → set_value_at (pairs_of s.held) i w ≡ ps
+    → map_of (record s { held = change_at p (revalued w) s.held }) b ≡ record (map_of s b) { pairs = ps }
+map_of-written s b {p} i at alone w is =
+    map_of-revalued s (change_at p (revalued w) s.held) b (bare-change p w s.held) (pairs_of-written s.held i at alone w ∙ is)
 
 -- the first node at a pointer
 abbrev pub CutAt : {B : Type 0} → Ptr → List (Held B) → Type 0

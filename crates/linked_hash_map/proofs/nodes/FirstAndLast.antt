@@ -1,36 +1,22 @@
--- The node at an end: its pair and its index.
-use Rattle.std.proofs.Common.{◌≡◌, ◌+◌, ◌-◌, ◌<◌, true, cond, List, [], ◌∷◌, map, length, slice_get, Some, refl, sym, ap, ◌∙◌, subst, arith}
-use Rattle.std.proofs.Common.{length-append, Option, None}
+-- The node at an end: its index.
+use Rattle.std.proofs.Common.{◌≡◌, ◌+◌, ◌-◌, ◌<◌, true, cond, List, [], ◌∷◌, map, length, Option, Some, None, refl, sym, ap, ◌∙◌, subst, arith}
+use Rattle.std.proofs.Common.{length-append}
 use denote.RawPtr.{Ptr}
 use Rattle.lhm_ring.proofs.lists.Apart.{same_ptr-reflexive}
-use Rattle.lhm_ring.proofs.rings.Ends.{First, Last, last_held}
-use Rattle.lhm_ring.proofs.tables.Positions.{index_of-held}
+use Rattle.lhm_ring.proofs.rings.Ends.{First, Last}
+use Rattle.lhm_ring.proofs.tables.Positions.{index_of-held, IsAt-last_at}
 use Rattle.linked_hash_map.specs.Nodes.{pairs_of, bare}
 use Rattle.linked_hash_map.specs.Pairs.{first, last}
 use Rattle.linked_hash_map.proofs.nodes.HeldPairs.{index_of-bare, length-bare, length-pairs_of}
-use Rattle.linked_hash_map.proofs.nodes.CutNodes.{index_of-append, slice_get-held}
+use Rattle.linked_hash_map.proofs.nodes.CutNodes.{index_of-append}
 use Rattle.lhm_ring.specs.Nodes.{same_ptr, IsApart}
-use Rattle.lhm_ring.specs.Positions.{index_of}
+use Rattle.lhm_ring.specs.Positions.{IsAt, index_of}
 use Rattle.lhm_ring.specs.Ring.{Held, IsHeld, first_at, last_of, last_at}
 
--- its pair is the first, or the last
+pub IsAt-last : {K V : Type 0} (hs : List (Held (K × V))) {p : Ptr} → Some p ≡ last_at hs → IsAt hs p (length (pairs_of hs) - 1)
+IsAt-last hs {p} is = subst (λ n. IsAt hs p (n - 1)) (sym (length-pairs_of hs)) (IsAt-last_at hs is)
+
 module _ {K V : Type 0} {hs : List (Held (K × V))} {p : Ptr} where
-  pub first-pairs : (f : First hs p) → first (pairs_of hs) ≡ Some f.node.pair
-  first-pairs f = ap (λ us. first (pairs_of us)) f.is
-
-  pub last-pairs : (l : Last hs p) → last (pairs_of hs) ≡ Some l.node.pair
-  last-pairs l =
-      let long = ap length l.is in let cut = length-append l.before (l.node ∷ []) in
-      let as_many = length-pairs_of hs in
-      let at_end : length (pairs_of hs) - 1 ≡ length l.before = omega (arith, long, cut, as_many) in
-      ap (slice_get (pairs_of hs)) at_end ∙ slice_get-held (last_held l)
-
-  pub Some-first : (f : First hs p) (k : K) (v : V) → k ≡ f.node.pair.0 → v ≡ f.node.pair.1 → Some (k, v) ≡ first (pairs_of hs)
-  Some-first f k v key value = (λ i. Some (key i, value i)) ∙ sym (first-pairs f)
-
-  pub Some-last : (l : Last hs p) (k : K) (v : V) → k ≡ l.node.pair.0 → v ≡ l.node.pair.1 → Some (k, v) ≡ last (pairs_of hs)
-  Some-last l k v key value = (λ i. Some (key i, value i)) ∙ sym (last-pairs l)
-
   -- its index is the first, or the last
   pub index_of-first : First hs p → index_of p (bare hs) ≡ 0
   index_of-first f = index_of-bare p hs ∙ ap (index_of p) f.is

@@ -11,7 +11,8 @@ use Rattle.linked_hash_map.proofs.nodes.Kept.{no_visit, IsKept-same}
 use Rattle.linked_hash_map.proofs.nodes.Current.{IsKept-visited}
 use Rattle.linked_hash_map.proofs.nodes.HeldPairs.{index_of-bare, length-bare}
 use Rattle.linked_hash_map.proofs.nodes.MovedNode.{IsKept-permuted}
-use Rattle.linked_hash_map.proofs.nodes.Outside.{IsElsewhere, to_visit_at, to_visit_of, to_visit-bare, to_visit-out, unvisited_some}
+use Rattle.linked_hash_map.proofs.nodes.Outside.{IsElsewhere, IsCurrent, to_visit_at, to_visit_of}
+use Rattle.linked_hash_map.proofs.nodes.Outside.{to_visit-bare, to_visit-out, unvisited_some}
 use Rattle.linked_hash_map.proofs.nodes.TakenNode.{IsKept-out}
 use Rattle.linked_hash_map.proofs.lists.Stretches.{take-none}
 use Rattle.std.specs.Option.{option_to_list}
@@ -80,17 +81,17 @@ module _ {K V : Type 0} (hs : List (Held (K × V))) {ks : List (Held (K × V))} 
   pub index_of-to_front : index_of p hs < length hs → index_of p ks ≡ 0
   index_of-to_front lies = ap (index_of p) moved ∙ index_of-front hs (index_of p hs) (IsAt-index_of p hs lies)
 
-  -- the node is none of those that are still to be visited
-  module _ {eq : K → K → Bool} {hash : K → ℕ} {capacity : ℕ} {visit : VisitState} (lies : index_of p hs < length hs)
-      (kept : IsKept eq hash (bare hs) capacity visit) (elsewhere : IsElsewhere (index_of p hs) visit (bare hs)) where
+  -- the node is the current one
+  module _ {eq : K → K → Bool} {hash : K → ℕ} {capacity : ℕ} {visit : VisitState}
+      (kept : IsKept eq hash (bare hs) capacity visit) (now : IsCurrent visit hs p) where
     lies_bare : index_of p (bare hs) < length (bare hs)
-    lies_bare = let at = index_of-bare p hs in let long = length-bare hs in omega (arith, at, long, lies)
+    lies_bare = let at = index_of-bare p hs in let long = length-bare hs in omega (arith, at, long, now.lies)
 
     elsewhere_bare : IsElsewhere (index_of p (bare hs)) visit (bare hs)
-    elsewhere_bare = subst (λ i. IsElsewhere i visit (bare hs)) (sym (index_of-bare p hs)) elsewhere
+    elsewhere_bare = subst (λ i. IsElsewhere i visit (bare hs)) (sym (index_of-bare p hs)) now.elsewhere
 
-    pub IsKept-moved : IsEquivalence eq → visit.current ≡ Some p → {n : ℕ} → n ≡ capacity → IsKept eq hash (bare ks) n visit
-    IsKept-moved laws is same = IsKept-same bare-moved same (IsKept-to_front kept p lies_bare elsewhere_bare laws is)
+    pub IsKept-moved : IsEquivalence eq → {n : ℕ} → n ≡ capacity → IsKept eq hash (bare ks) n visit
+    IsKept-moved laws same = IsKept-same bare-moved same (IsKept-to_front kept p lies_bare elsewhere_bare laws now.is)
 
     pub to_visit-moved : to_visit_of visit ks ≡ to_visit_of visit hs
     to_visit-moved = sym (to_visit-bare visit ks) ∙ ap (to_visit_at visit) bare-moved
@@ -98,7 +99,7 @@ module _ {K V : Type 0} (hs : List (Held (K × V))) {ks : List (Held (K × V))} 
 
     pub elsewhere-moved : IsElsewhere (index_of p ks) visit (bare ks)
     elsewhere-moved =
-        subst (λ (x : ℕ × List (Held K)). IsElsewhere x.0 visit x.1) (λ j. (sym (index_of-to_front lies) j, sym bare-moved j))
+        subst (λ (x : ℕ × List (Held K)). IsElsewhere x.0 visit x.1) (λ j. (sym (index_of-to_front now.lies) j, sym bare-moved j))
         (elsewhere-front kept p lies_bare elsewhere_bare)
 
   -- and no pair is to be visited, nor is there a current one

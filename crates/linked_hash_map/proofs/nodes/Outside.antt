@@ -36,6 +36,12 @@ module _ {B : Type 0} where
   abbrev pub to_visit_at : VisitState → List (Held B) → List B
   to_visit_at visit us = take visit.unvisited (drop (bookmark_at visit.bookmark us) (map (λ u. u.pair) us))
 
+-- the node at p is the current one, and none of those that are still to be visited
+pub record IsCurrent {K V : Type 0} (visit : VisitState) (hs : List (Held (K × V))) (p : Ptr) : Type 0 where
+  pub is : visit.current ≡ Some p
+  pub lies : index_of p hs < length hs
+  pub elsewhere : IsElsewhere (index_of p hs) visit (bare hs)
+
 -- and among nodes with values
 module _ {K V : Type 0} where
   abbrev pub to_visit_of : VisitState → List (Held (K × V)) → List K

@@ -11,7 +11,7 @@ use Rattle.linked_hash_map.specs.declared.map.Mode.{Mode}
 use Rattle.linked_hash_map.specs.declared.map.Mode.TheVariants.{Touch, Keep}
 use Rattle.linked_hash_map.specs.Nodes.{VisitState, pairs_of, bare, IsKept}
 use Rattle.linked_hash_map.proofs.nodes.Kept.{no_visit, IsKept-same}
-use Rattle.lhm_ring.specs.Positions.{index_of, to_back_at}
+use Rattle.lhm_ring.specs.Positions.{IsAt, index_of, to_back_at}
 use Rattle.linked_hash_map.specs.Pairs.{value_at, put}
 use Rattle.linked_hash_map.specs.Indexes.{IsIndex, set_value_at}
 use Rattle.linked_hash_map.specs.Touches.{IsTouched}
@@ -19,11 +19,14 @@ use Rattle.linked_hash_map.proofs.pairs.Indexes.{slice_get-set_value_at, set_val
 use Rattle.linked_hash_map.proofs.pairs.Indexes.{set_value-index, is_some-index, to_back-index, value_at-slice_get}
 use Rattle.linked_hash_map.proofs.pairs.Calls.{set_or_push-present}
 use Rattle.linked_hash_map.proofs.nodes.HeldPairs.{bare-change, index_of-bare, length-bare, length-pairs_of, length-same}
-use Rattle.linked_hash_map.proofs.nodes.CutNodes.{CutAt, CutAt-index_of, slice_get-held, pairs_of-change_at}
+use Rattle.linked_hash_map.proofs.nodes.FoundKeys.{index_of-HasKey}
+use Rattle.linked_hash_map.proofs.nodes.CutNodes.{slice_get-at, part-at, pairs_of-written}
+use Rattle.lhm_ring.proofs.tables.Positions.{IsAt-index_of}
 use Rattle.linked_hash_map.proofs.nodes.Current.{IsKept-visited}
 use Rattle.linked_hash_map.proofs.nodes.MovedNode.{pairs-moved, length-moved, IsKept-moved, to_visit-moved, behind-moved}
-use Rattle.linked_hash_map.proofs.nodes.Outside.{IsElsewhere, to_visit_at, to_visit_of, to_visit-bare}
+use Rattle.linked_hash_map.proofs.nodes.Outside.{IsElsewhere, IsCurrent, to_visit_at, to_visit_of, to_visit-bare}
 use Rattle.lhm_ring.specs.Ring.{Held, AtHeld, change_at, revalued}
+use Rattle.lhm_ring.specs.Search.{HasKey}
 use Rattle.lhm_ring.specs.Table.{WritesOnly}
 
 -- hs are the nodes before, and ks those after
@@ -38,9 +41,9 @@ module _ {K V : Type 0} (hs ks : List (Held (K × V))) (p : Ptr) (lies : index_o
       let fewer = length-remove (pairs_of hs) (index_of p hs) (omega (arith, long, lies)) in
       omega (arith, long, fewer, last)
 
-  cut_by : (mode : Mode) → IsTouched mode p hs ks → CutAt p ks
-  cut_by Touch moved = let long = length-moved hs _ moved.0 in CutAt-index_of p ks (omega (arith, long, moved.1))
-  cut_by Keep same = subst (CutAt p) (sym same) (CutAt-index_of p hs lies)
+  at_by : (mode : Mode) → IsTouched mode p hs ks → IsAt ks p (index_of p ks)
+  at_by Touch moved = let long = length-moved hs _ moved.0 in IsAt-index_of p ks (omega (arith, long, moved.1))
+  at_by Keep same = subst (λ (ns : List (Held (K × V))). IsAt ns p (index_of p ns)) (sym same) (IsAt-index_of p hs lies)
 
   length_by : (mode : Mode) → IsTouched mode p hs ks → length ks ≡ length hs
   length_by Touch moved = length-moved hs _ moved.0
@@ -61,10 +64,16 @@ pub record IsTouchedAt {K V : Type 0} (p : Ptr) (mode : Mode) (hs ks : List (Hel
   pub lies : index_of p hs < length hs
   pub touched : IsTouched mode p hs ks
 
+-- one that a lookup finds, moved to the back
+pub IsTouchedAt-back : {K V : Type 0} {is_key : K → Bool} {hash : ℕ} {hs ks : List (Held (K × V))} {p : Ptr} → HasKey is_key hash hs p
+    → ((i : ℕ) → IsAt hs p i → ks ≡ to_back_at hs i) → index_of p ks + 1 ≡ length hs → IsTouchedAt p Touch hs ks
+IsTouchedAt-back {hs = hs} {p = p} has moved last =
+    let lies = index_of-HasKey has in record { lies = lies; touched = (moved _ (IsAt-index_of p hs lies), last) }
+
 module _ {K V : Type 0} {p : Ptr} {mode : Mode} {hs ks : List (Held (K × V))}
     (moved : IsTouchedAt p mode hs ks) where
-  pub touched_cut : CutAt p ks
-  touched_cut = cut_by hs ks p moved.lies mode moved.touched
+  pub touched_at : IsAt ks p (index_of p ks)
+  touched_at = at_by hs ks p moved.lies mode moved.touched
 
   pub slice_get-touched : (pair : K × V) → slice_get (pairs_of hs) (index_of p hs) ≡ Some pair
       → slice_get (pairs_of ks) (index_of p ks) ≡ Some pair
@@ -74,11 +83,8 @@ module _ {K V : Type 0} {p : Ptr} {mode : Mode} {hs ks : List (Held (K × V))}
   pub value-touched : {v : V} → AtHeld ks p (λ xs t ys. v ≡ t.pair.1)
       → option_map (λ pair. pair.1) (slice_get (pairs_of hs) (index_of p hs)) ≡ Some v
   value-touched at =
-      let old = CutAt-index_of p hs moved.lies in let g = old.held in let h = touched_cut.held in
-      let here = ap (slice_get (pairs_of hs)) (sym old.long) ∙ slice_get-held g in
-      let own = ap (slice_get (pairs_of ks)) (sym touched_cut.long) ∙ slice_get-held h in
-      ap (option_map (λ pair. pair.1)) (here ∙ sym (slice_get-touched g.node.pair here) ∙ own)
-      ∙ ap Some (sym (at h.before h.node h.after h.is h.at_is))
+      let here = slice_get-at hs _ (IsAt-index_of p hs moved.lies) in
+      ap (option_map (λ pair. pair.1)) (here ∙ sym (slice_get-touched _ here)) ∙ part-at ks _ touched_at (λ pair. pair.1) at
 
   pub length-put : (w : V) → length (pairs_of (change_at p (revalued w) ks)) ≡ length (pairs_of hs)
   length-put w = length-pairs_of _ ∙ length-same _ ks (bare-change p w ks)
@@ -86,8 +92,7 @@ module _ {K V : Type 0} {p : Ptr} {mode : Mode} {hs ks : List (Held (K × V))}
 
   module _ (alone : WritesOnly ks p) (w : V) where
     set-touched : pairs_of (change_at p (revalued w) ks) ≡ set_value_at (pairs_of ks) (index_of p ks) w
-    set-touched = pairs_of-change_at touched_cut.held alone w
-        ∙ ap (λ i. set_value_at (pairs_of ks) i w) touched_cut.long
+    set-touched = pairs_of-written ks _ touched_at alone w
 
     -- the pair has the value that is written
     pub pair-touched : (pair : K × V) → slice_get (pairs_of hs) (index_of p hs) ≡ Some pair
@@ -127,44 +132,36 @@ module _ {K V : Type 0} {eq : K → K → Bool} (laws : IsEquivalence eq) {p : P
 -- the current pair, which is none of those to visit
 module _ {K V : Type 0} {eq : K → K → Bool} (laws : IsEquivalence eq) {hash : K → ℕ}
     {hs ks : List (Held (K × V))} {capacity : ℕ} {visit : VisitState} {p : Ptr}
-    (kept : IsKept eq hash (bare hs) capacity visit) (is : visit.current ≡ Some p)
-    (elsewhere : IsElsewhere (index_of p hs) visit (bare hs)) where
+    (kept : IsKept eq hash (bare hs) capacity visit) (now : IsCurrent visit hs p) where
   pub IsKept-touched : {mode : Mode} → IsTouchedAt p mode hs ks → {n : ℕ} → n ≡ capacity → IsKept eq hash (bare ks) n visit
-  IsKept-touched {mode = Touch} moved = IsKept-moved hs _ moved.touched.0 moved.lies kept elsewhere laws is moved.touched.1
+  IsKept-touched {mode = Touch} moved = IsKept-moved hs _ moved.touched.0 moved.lies kept now.elsewhere laws now.is moved.touched.1
   IsKept-touched {mode = Keep} moved = λ capacity. IsKept-same (ap bare moved.touched) capacity kept
 
   pub to_visit-touched : {mode : Mode} → IsTouchedAt p mode hs ks → to_visit_of visit ks ≡ to_visit_of visit hs
-  to_visit-touched {mode = Touch} moved = to_visit-moved hs _ moved.touched.0 moved.lies kept elsewhere
+  to_visit-touched {mode = Touch} moved = to_visit-moved hs _ moved.touched.0 moved.lies kept now.elsewhere
   to_visit-touched {mode = Keep} moved = ap (to_visit_of visit) moved.touched
 
   pub elsewhere-touched : {mode : Mode} → IsTouchedAt p mode hs ks → IsElsewhere (index_of p ks) visit (bare ks)
   elsewhere-touched {mode = Touch} moved =
-      let behind = behind-moved hs _ moved.touched.0 moved.lies kept elsewhere in inr (omega (arith, behind, moved.touched.1))
+      let behind = behind-moved hs _ moved.touched.0 moved.lies kept now.elsewhere in inr (omega (arith, behind, moved.touched.1))
   elsewhere-touched {mode = Keep} moved =
-      subst (λ (ns : List (Held (K × V))). IsElsewhere (index_of p ns) visit (bare ns)) (sym moved.touched) elsewhere
+      subst (λ (ns : List (Held (K × V))). IsElsewhere (index_of p ns) visit (bare ns)) (sym moved.touched) now.elsewhere
 
--- once it is moved by a mode, and its value is written
-module _ {K V : Type 0} {eq : K → K → Bool} (laws : IsEquivalence eq) {hash : K → ℕ} {p : Ptr}
-    {mode : Mode} {hs ks : List (Held (K × V))} (moved : IsTouchedAt p mode hs ks) {capacity : ℕ}
-    {visit : VisitState} (kept : IsKept eq hash (bare hs) capacity visit)
-    (is : visit.current ≡ Some p) (elsewhere : IsElsewhere (index_of p hs) visit (bare hs)) where
-  pub IsKept-put_current : {n : ℕ} → n ≡ capacity → (w : V)
-      → IsKept eq hash (bare (change_at p (revalued w) ks)) n visit
-  IsKept-put_current same w = IsKept-same (bare-change p w ks) refl
-      (IsKept-touched laws kept is elsewhere moved same)
+  -- once its value is written too
+  module _ {mode : Mode} (moved : IsTouchedAt p mode hs ks) where
+    pub IsKept-put_current : {n : ℕ} → n ≡ capacity → (w : V) → IsKept eq hash (bare (change_at p (revalued w) ks)) n visit
+    IsKept-put_current same w = IsKept-same (bare-change p w ks) refl (IsKept-touched moved same)
 
-  pub to_visit-put : (w : V) → to_visit_of visit (change_at p (revalued w) ks) ≡ to_visit_of visit hs
-  to_visit-put w = sym (to_visit-bare visit (change_at p (revalued w) ks))
-      ∙ ap (to_visit_at visit) (bare-change p w ks) ∙ to_visit-bare visit ks
-      ∙ to_visit-touched laws kept is elsewhere moved
+    pub to_visit-put : (w : V) → to_visit_of visit (change_at p (revalued w) ks) ≡ to_visit_of visit hs
+    to_visit-put w = sym (to_visit-bare visit (change_at p (revalued w) ks))
+        ∙ ap (to_visit_at visit) (bare-change p w ks) ∙ to_visit-bare visit ks ∙ to_visit-touched moved
 
-  pub elsewhere-put : (w : V) → IsElsewhere (index_of p (change_at p (revalued w) ks)) visit
-      (bare (change_at p (revalued w) ks))
-  elsewhere-put w =
-      let ls = change_at p (revalued w) ks in
-      subst (λ k. IsElsewhere k visit (bare ls)) (index_of-bare p ls)
-      (subst (λ us. IsElsewhere (index_of p us) visit us) (sym (bare-change p w ks))
-      (subst (λ k. IsElsewhere k visit (bare ks)) (sym (index_of-bare p ks)) (elsewhere-touched laws kept is elsewhere moved)))
+    pub elsewhere-put : (w : V) → IsElsewhere (index_of p (change_at p (revalued w) ks)) visit (bare (change_at p (revalued w) ks))
+    elsewhere-put w =
+        let ls = change_at p (revalued w) ks in
+        subst (λ k. IsElsewhere k visit (bare ls)) (index_of-bare p ls)
+        (subst (λ us. IsElsewhere (index_of p us) visit us) (sym (bare-change p w ks))
+        (subst (λ k. IsElsewhere k visit (bare ks)) (sym (index_of-bare p ks)) (elsewhere-touched moved)))
 
 -- with nothing to visit, and no current pair
 pub IsKept-put : {K V : Type 0} {eq : K → K → Bool} → IsEquivalence eq → {hash : K → ℕ} {p : Ptr}
@@ -173,6 +170,5 @@ pub IsKept-put : {K V : Type 0} {eq : K → K → Bool} → IsEquivalence eq →
     → (w : V) → IsKept eq hash (bare (change_at p (revalued w) ks)) n no_visit
 IsKept-put laws {p = p} {hs = hs} moved kept same w =
     let at = index_of-bare p hs in let long = length-bare hs in
-    IsKept-visited (IsKept-put_current laws moved
-    (IsKept-visited kept (Some p) (omega (arith, at, long, moved.lies))) refl
-    (inr (omega arith)) same w) None tt
+    IsKept-visited (IsKept-put_current laws (IsKept-visited kept (Some p) (omega (arith, at, long, moved.lies)))
+    (record { is = refl; lies = moved.lies; elsewhere = inr (omega arith) }) moved same w) None tt

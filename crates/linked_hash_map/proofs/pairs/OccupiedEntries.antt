@@ -31,6 +31,10 @@ module _ {K V S H : Type 0} {g : eq.Ghosts K} {h : hash.Ghosts K} {b : builder.G
   pub occupied_pair-is : (pair : K × V) → slice_get o.map.now.pairs o.map.now.cursor.current ≡ Some pair → pair ≡ occupied_pair o
   occupied_pair-is pair there = Some-injective _ _ (sym there ∙ slice_get-occupied)
 
+  pub occupied_pair-index : {ps : List (K × V)} → o.map.now.pairs ≡ ps → {eq : K → K → Bool} {k : K}
+      → (index : IsIndex eq ps k o.map.now.cursor.current) → index.pair ≡ occupied_pair o
+  occupied_pair-index same index = occupied_pair-is index.pair (ap (λ ps. slice_get ps o.map.now.cursor.current) same ∙ index.there)
+
   pub occupied_value-is : (v : V)
       → option_map (λ pair. pair.1) (slice_get o.map.now.pairs o.map.now.cursor.current) ≡ Some v
       → v ≡ (occupied_pair o).1

@@ -46,6 +46,13 @@ no_last_is_nil (x ∷ xs) h = absurd (some_last x xs (length (x ∷ xs) - 1) (om
     some_last y [] (suc i) l n = absurd (omega arith)
     some_last y (z ∷ ys) (suc i) l n = some_last z ys i (omega arith) n
 
+-- what a log defines, by its pairs, its high-water mark and its mode
+Defines-by : {K V : Type 0} {eq : K → K → Bool} {start : ℕ} {log : Log K V} {contents later : List (K × V)} {capacity capacity' : ℕ}
+    {m m' : Mode} → pairs eq log ≡ contents → high eq start log ≡ capacity → mode log ≡ m → later ≡ contents → capacity' ≡ capacity
+    → m' ≡ m → Defines eq start log later capacity' m'
+Defines-by pairs-is high-is mode-is h c o =
+    record { same_pairs = pairs-is ∙ sym h; same_capacity = high-is ∙ sym c; same_mode = mode-is ∙ sym o }
+
 module _ {K V : Type 0} {eq : K → K → Bool} (laws : IsEquivalence eq) {start : ℕ} {log : Log K V}
     {contents : List (K × V)} {capacity : ℕ} {m : Mode}
     (defines : Defines eq start log contents capacity m) where
@@ -59,11 +66,8 @@ module _ {K V : Type 0} {eq : K → K → Bool} (laws : IsEquivalence eq) {start
   -- the map as it was
   pub Defines-nothing : {later : List (K × V)} {capacity' : ℕ} {m' : Mode} → later ≡ contents
       → capacity' ≡ capacity → m' ≡ m → Defines eq start (log ++ []) later capacity' m'
-  Defines-nothing h m o = record {
-    same_pairs = ap (pairs eq) (append-nil log) ∙ defines.same_pairs ∙ sym h;
-    same_capacity = ap (high eq start) (append-nil log) ∙ defines.same_capacity ∙ sym m;
-    same_mode = ap mode (append-nil log) ∙ defines.same_mode ∙ sym o;
-  }
+  Defines-nothing = Defines-by (ap (pairs eq) (append-nil log) ∙ defines.same_pairs)
+      (ap (high eq start) (append-nil log) ∙ defines.same_capacity) (ap mode (append-nil log) ∙ defines.same_mode)
 
   module _ (k : K) where
     pub the_pair : find eq contents k ≡ pair_of (eq k) log
@@ -95,34 +99,23 @@ module _ {K V : Type 0} {eq : K → K → Bool} (laws : IsEquivalence eq) {start
     Defines-put v {later} h m o =
         let same : pairs eq (log ++ Put k v ∷ []) ≡ later = pairs-put laws log k v
         ∙ (λ i. put eq (defines.same_mode i) (defines.same_pairs i) k v) ∙ sym h in
-        record {
-          same_pairs = same;
-          same_capacity =
-              high-put laws log start k v
-              ∙ ap₂ max defines.same_capacity (size-pairs eq (log ++ Put k v ∷ []) ∙ ap length same)
-              ∙ sym m;
-          same_mode = mode-snoc log (Put k v) ∙ defines.same_mode ∙ sym o;
-        }
+        Defines-by same (high-put laws log start k v
+        ∙ ap₂ max defines.same_capacity (size-pairs eq (log ++ Put k v ∷ []) ∙ ap length same))
+        (mode-snoc log (Put k v) ∙ defines.same_mode) refl m o
 
     -- the map after a removal
     pub Defines-remove : {later : List (K × V)} {capacity' : ℕ} {m' : Mode}
         → later ≡ without eq contents k → capacity' ≡ capacity → m' ≡ m
         → Defines eq start (log ++ Remove k ∷ []) later capacity' m'
-    Defines-remove h m o = record {
-      same_pairs = pairs-remove laws log k ∙ ap (λ es. without eq es k) defines.same_pairs ∙ sym h;
-      same_capacity = high-remove laws log start k ∙ defines.same_capacity ∙ sym m;
-      same_mode = mode-snoc log (Remove k) ∙ defines.same_mode ∙ sym o;
-    }
+    Defines-remove = Defines-by (pairs-remove laws log k ∙ ap (λ es. without eq es k) defines.same_pairs)
+        (high-remove laws log start k ∙ defines.same_capacity) (mode-snoc log (Remove k) ∙ defines.same_mode)
 
     -- after a write
     pub Defines-write : (v : V) {later : List (K × V)} {capacity' : ℕ} {m' : Mode}
         → later ≡ set_value eq contents k v → capacity' ≡ capacity → m' ≡ m
         → Defines eq start (log ++ Write k v ∷ []) later capacity' m'
-    Defines-write v h m o = record {
-      same_pairs = pairs-write laws log k v ∙ ap (λ es. set_value eq es k v) defines.same_pairs ∙ sym h;
-      same_capacity = high-write laws log start k v ∙ defines.same_capacity ∙ sym m;
-      same_mode = mode-snoc log (Write k v) ∙ defines.same_mode ∙ sym o;
-    }
+    Defines-write v = Defines-by (pairs-write laws log k v ∙ ap (λ es. set_value eq es k v) defines.same_pairs)
+        (high-write laws log start k v ∙ defines.same_capacity) (mode-snoc log (Write k v) ∙ defines.same_mode)
 
     -- after a refresh of a key with a value
     pub Defines-refresh : (v : V) {later : List (K × V)} {capacity' : ℕ} {m' : Mode}
@@ -137,55 +130,36 @@ module _ {K V : Type 0} {eq : K → K → Bool} (laws : IsEquivalence eq) {start
         by_pair None is same = absurd (true≢false (ap is_some same))
         by_pair (Some pair) is same =
             let v-is : v ≡ pair.1 = cc in
-            record {
-              same_pairs =
-                  pairs-refresh laws log k pair is
-                  ∙ ap₂ (λ es w. to_back eq es k w) defines.same_pairs (sym v-is)
-                  ∙ sym h;
-              same_capacity = high-refresh laws log start k ∙ defines.same_capacity ∙ sym m;
-              same_mode = mode-snoc log (Refresh k) ∙ defines.same_mode ∙ sym o;
-            }
+            Defines-by (pairs-refresh laws log k pair is ∙ ap₂ (λ es w. to_back eq es k w) defines.same_pairs (sym v-is))
+            (high-refresh laws log start k ∙ defines.same_capacity) (mode-snoc log (Refresh k) ∙ defines.same_mode) h m o
 
   -- after all pairs are dropped
   pub Defines-remove_all : {later : List (K × V)} {capacity' : ℕ} {m' : Mode} → later ≡ []
       → capacity' ≡ capacity → m' ≡ m → Defines eq start (log ++ RemoveAll ∷ []) later capacity' m'
-  Defines-remove_all h m o = record {
-    same_pairs = pairs-remove_all laws log ∙ sym h;
-    same_capacity = high-remove_all laws log start ∙ defines.same_capacity ∙ sym m;
-    same_mode = mode-snoc log RemoveAll ∙ defines.same_mode ∙ sym o;
-  }
+  Defines-remove_all = Defines-by (pairs-remove_all laws log)
+      (high-remove_all laws log start ∙ defines.same_capacity) (mode-snoc log RemoveAll ∙ defines.same_mode)
 
   -- after room is reserved
   pub Defines-reserve : (additional : ℕ) {later : List (K × V)} {capacity' : ℕ} {m' : Mode}
       → later ≡ contents → capacity' ≡ max capacity (length contents + additional) → m' ≡ m
       → Defines eq start (log ++ Need (size eq log + additional) ∷ []) later capacity' m'
-  Defines-reserve additional h m o = record {
-    same_pairs = pairs-need laws log (size eq log + additional) ∙ defines.same_pairs ∙ sym h;
-    same_capacity =
-        high-need laws start log (size eq log + additional)
-        ∙ ap₂ (λ room n. max room (n + additional)) defines.same_capacity size-contents
-        ∙ sym m;
-    same_mode = mode-snoc log (Need (size eq log + additional)) ∙ defines.same_mode ∙ sym o;
-  }
+  Defines-reserve additional = Defines-by (pairs-need laws log (size eq log + additional) ∙ defines.same_pairs)
+      (high-need laws start log (size eq log + additional)
+      ∙ ap₂ (λ room n. max room (n + additional)) defines.same_capacity size-contents)
+      (mode-snoc log (Need (size eq log + additional)) ∙ defines.same_mode)
 
   -- after the capacity is lowered to the number of pairs
   pub Defines-shrink : {later : List (K × V)} {capacity' : ℕ} {m' : Mode} → later ≡ contents
       → capacity' ≡ length contents → m' ≡ m → Defines eq start (log ++ Fit ∷ []) later capacity' m'
-  Defines-shrink h m o = record {
-    same_pairs = pairs-fit laws log ∙ defines.same_pairs ∙ sym h;
-    same_capacity = high-fit laws start log ∙ size-contents ∙ sym m;
-    same_mode = mode-snoc log Fit ∙ defines.same_mode ∙ sym o;
-  }
+  Defines-shrink = Defines-by (pairs-fit laws log ∙ defines.same_pairs)
+      (high-fit laws start log ∙ size-contents) (mode-snoc log Fit ∙ defines.same_mode)
 
   -- after a mode is set
   pub Defines-set_mode : (set : Mode) {later : List (K × V)} {capacity' : ℕ} {m' : Mode}
       → later ≡ contents → capacity' ≡ capacity → m' ≡ set
       → Defines eq start (log ++ SetMode set ∷ []) later capacity' m'
-  Defines-set_mode set h m o = record {
-    same_pairs = pairs-set_mode laws log set ∙ defines.same_pairs ∙ sym h;
-    same_capacity = high-set_mode laws log start set ∙ defines.same_capacity ∙ sym m;
-    same_mode = mode-snoc log (SetMode set) ∙ sym o;
-  }
+  Defines-set_mode set = Defines-by (pairs-set_mode laws log set ∙ defines.same_pairs)
+      (high-set_mode laws log start set ∙ defines.same_capacity) (mode-snoc log (SetMode set))
 
   -- the keys that a log defines are different
   pub distinct-contents : IsDistinct eq (keys_of contents)

@@ -1,5 +1,5 @@
 -- Runs that go on by one command, and the log that a map begins with.
-use Rattle.std.proofs.Common.{◌≡◌, ℕ, ◌≤◌, max, Bool, false, List, [], ◌∷◌, ◌++◌, length, refl, sym}
+use Rattle.std.proofs.Common.{◌≡◌, ℕ, ◌≤◌, max, Bool, false, List, [], ◌∷◌, ◌++◌, length, inr, refl, sym}
 use Rattle.std.proofs.Common.{ap, ◌∙◌, subst, arith, length-append, append_assoc, append-nil}
 use Rattle.std.specs.List.{list_any, IsDistinct}
 use Rattle.std.specs.Map.{keys_of}
@@ -8,10 +8,13 @@ use Rattle.std.proofs.lemmas.List.{map-append}
 use Rattle.linked_hash_map.specs.declared.map.Mode.{Mode}
 use Rattle.linked_hash_map.specs.Log.{Log, Put, SetMode, put_each, mode, pairs, size, high, standing, standing_in, Defines}
 use Rattle.linked_hash_map.specs.Pairs.{put}
-use Rattle.linked_hash_map.specs.AllowedAnswers.{log_after}
-use Rattle.linked_hash_map.specs.Run.{first_log, last_log, Serves, IsReply, IsRun}
+use Rattle.linked_hash_map.specs.AllowedAnswers.{Answers, log_after}
+use Rattle.linked_hash_map.specs.Changes.{Keeps}
+use Rattle.linked_hash_map.specs.Rehashes.{rechained_after}
+use Rattle.linked_hash_map.specs.Run.{first_log, last_log, MayEndVisit, Serves, IsReply, IsRun}
 use Rattle.linked_hash_map.specs.LinkedMap.{LinkedMap}
 use Rattle.linked_hash_map.specs.declared.replay.Command.{Command}
+use Rattle.linked_hash_map.specs.declared.replay.Command.TheVariants.{Reserve, Shrink}
 use Rattle.linked_hash_map.specs.declared.replay.Answer.{Answer}
 use Rattle.linked_hash_map.specs.declared.replay.Reply.{Reply}
 use Rattle.linked_hash_map.proofs.lists.Elements.{by_last}
@@ -20,6 +23,8 @@ use Rattle.linked_hash_map.proofs.pairs.Calls.{lookup_entry-none, put-absent}
 use Rattle.linked_hash_map.proofs.log.Bridge.{pairs-put, pairs-set_mode}
 use Rattle.linked_hash_map.proofs.log.HighWater.{size-pairs, high-put, high-set_mode}
 use Rattle.linked_hash_map.proofs.log.Standing.{mode-snoc}
+use Rattle.linked_hash_map.proofs.pairs.RehashCounts.{rechained_raised-same, rechained_fitted-same, rechained_each-same}
+use Rattle.linked_hash_map.proofs.runs.Effects.{Defines-nothing}
 
 module _ {K V : Type 0} (eq : K → K → Bool) (start : ℕ) (command : Command K V) (reply : Reply K V) where
   -- a run and one more reply are a run
@@ -48,6 +53,41 @@ pub Serves-same : {K V S : Type 0} {eq : K → K → Bool} {old new : LinkedMap 
     → Serves eq old left command answer → Serves eq old new command answer
 Serves-same {eq = eq} {old = old} {command = command} {answer = answer} left same serves =
     subst (λ m. Serves eq old m command answer) (sym same) serves
+
+-- a command that leaves the capacity rehashes nothing
+rechained_after-same : {K V : Type 0} (command : Command K V) (rechained len c : ℕ) → rechained_after command rechained len c c ≡ rechained
+rechained_after-same (Reserve additional) rechained len c = rechained_raised-same rechained len c
+rechained_after-same Shrink rechained len c = rechained_fitted-same rechained c c refl
+rechained_after-same command rechained len c = sym (rechained_each-same rechained {capacity = c} refl refl)
+
+-- a command that keeps all but the pairs and the cursor, by its answer and the pairs that it leaves
+pub Serves-keeps : {K V S : Type 0} {eq : K → K → Bool} {old new : LinkedMap K V S} {command : Command K V} {answer : Answer K V}
+    → Keeps old new → ((start : ℕ) (log : Log K V) → Defines eq start log old.pairs old.capacity old.mode
+    → Answers eq start log command answer
+    × Defines eq start (log_after eq log command answer) new.pairs new.capacity new.mode)
+    → MayEndVisit old new → Serves eq old new command answer
+Serves-keeps {old = old} {command = command} keeps serves visit = record {
+  answers = λ start log defines. (serves start log defines).0;
+  defines = λ start log defines. (serves start log defines).1;
+  hasher = keeps.hasher;
+  rechained = keeps.rechained
+      ∙ sym (ap (rechained_after command old.rechained (length old.pairs) old.capacity) keeps.capacity
+      ∙ rechained_after-same command old.rechained (length old.pairs) old.capacity);
+  visit = visit;
+}
+
+-- and one that leaves the map as it was, if its answer adds nothing to a log
+pub Serves-unchanged : {K V S : Type 0} {eq : K → K → Bool} → IsEquivalence eq → {old new : LinkedMap K V S} → new ≡ old
+    → {command : Command K V} {answer : Answer K V} → ((log : Log K V) → log_after eq log command answer ≡ log ++ [])
+    → ((start : ℕ) (log : Log K V) → Defines eq start log old.pairs old.capacity old.mode → Answers eq start log command answer)
+    → Serves eq old new command answer
+Serves-unchanged {eq = eq} laws {old = old} same nothing answers = Serves-same old same (Serves-keeps
+    (record { capacity = refl; rechained = refl; hasher = refl; mode = refl })
+    (λ start log defines. (
+      answers start log defines,
+      subst (λ after. Defines eq start after old.pairs old.capacity old.mode) (sym (nothing log))
+          (Defines-nothing laws defines refl refl refl),
+    )) (inr refl))
 
 pairs-nil : {K : Type 0} (V : Type 0) (eq : K → K → Bool) → pairs {V = V} eq [] ≡ []
 unfolding pairs standing standing_in

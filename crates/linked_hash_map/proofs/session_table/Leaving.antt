@@ -44,7 +44,8 @@ module _ {T : Type 0} (id weight_left : ℕ) (all : List (Session T)) where
     )
 
     -- once they fit, all that are left stay
-    pub AreLeaving-past : (rest : List (Session T)) → IsPast count weight rest → weight ≤ weight_left → AreLeaving all id weight_left count weight
+    pub AreLeaving-past : (rest : List (Session T)) → IsPast count weight rest → weight ≤ weight_left
+        → AreLeaving all id weight_left count weight
     AreLeaving-past rest past light =
         let all_left : fit weight_left (without all id) ≡ without rest id = past.goes
         ∙ fit-all weight_left (without rest id) (subst (λ n. n ≤ weight_left) past.weighs light) in

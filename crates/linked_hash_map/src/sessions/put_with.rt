@@ -103,7 +103,7 @@ impl<T> Sessions<T> {
     /// Returns what a put of an id and a weight does.
     pub(super) fn plan_put(&self, id: u64, weight: u64) -> PutPlan
         requires { weight ≤ self.now.limit }
-        ensures { IsPutPlan self.now.sessions id (self.now.limit - weight) result }
+        ensures plan { IsPutPlan self.now.sessions id (self.now.limit - weight) result }
     {
         let replaced = weight_at(&self.map, id);
         let is_new = replaced.is_none();

@@ -1,22 +1,16 @@
-use Rattle.std.proofs.Common.{◌≡◌, ◌<◌, ◌++◌, ◌∷◌, [], length, refl, sym, ap, ◌∙◌, true≢false, arith, length-append, inl, inr}
+use Rattle.std.proofs.Common.{◌≡◌, ◌<◌, ◌++◌, ◌∷◌, [], length, refl, sym, ap, ◌∙◌, true≢false, arith, length-append, inl}
 use Rattle.std.proofs.Math.Nat.{pos_of_ne-zero}
 use Rattle.std.proofs.lemmas.List.{append-nil, append_assoc}
 use Rattle.linked_hash_map.specs.Drains.{drain_rest}
-use Rattle.linked_hash_map.proofs.runs.Effects.{size-contents, Defines-nothing, Defines-remove_all}
-use Rattle.linked_hash_map.proofs.pairs.RehashCounts.{rechained_each-same}
+use Rattle.linked_hash_map.proofs.runs.Effects.{size-contents, Defines-remove_all}
+use Rattle.linked_hash_map.proofs.runs.Steps.{Serves-keeps, Serves-unchanged}
 use Rattle.linked_hash_map.proofs.replay.drain.Goals as goal
 
 pub returns-in_default : goal.returns-in_default
-returns-in_default g c = record {
-  answers = λ start log defines.
-      let some : 0 < c.len.result = pos_of_ne-zero (λ none. true≢false (sym (c.in_default.ensures.succeeds none))) in
-      let length_is = size-contents g.met.K.Eq.laws defines in
-      omega (arith, c.len.ensures.len);
-  defines = λ start log defines. Defines-nothing g.met.K.Eq.laws defines refl refl refl;
-  hasher = refl;
-  rechained = rechained_each-same c.args.map.now.rechained {capacity = c.args.map.now.capacity} refl refl;
-  visit = inr refl;
-}
+returns-in_default g c = Serves-unchanged g.met.K.Eq.laws refl (λ log. refl) (λ start log defines.
+    let some : 0 < c.len.result = pos_of_ne-zero (λ none. true≢false (sym (c.in_default.ensures.succeeds none))) in
+    let length_is = size-contents g.met.K.Eq.laws defines in
+    omega (arith, c.len.ensures.len))
 
 pub loop-pair-init : goal.loop-pair-init
 loop-pair-init g c = record {
@@ -47,10 +41,7 @@ returns g c =
     sym (append-nil c.loop-pair.pairs.items)
     ∙ ap (λ l. c.loop-pair.pairs.items ++ l) (sym c.in-None.ensures.steps.0.0)
     ∙ c.loop-pair.invariant.pairs in
-    record {
-      answers = λ start log defines. c.from_vec.ensures ∙ all ∙ sym defines.same_pairs;
-      defines = λ start log defines. Defines-remove_all g.met.K.Eq.laws defines refl refl refl;
-      hasher = refl;
-      rechained = rechained_each-same c.args.map.now.rechained {capacity = c.args.map.now.capacity} refl refl;
-      visit = inl refl;
-    }
+    Serves-keeps (record { capacity = refl; rechained = refl; hasher = refl; mode = refl }) (λ start log defines. (
+      c.from_vec.ensures ∙ all ∙ sym defines.same_pairs,
+      Defines-remove_all g.met.K.Eq.laws defines refl refl refl,
+    )) (inl refl)

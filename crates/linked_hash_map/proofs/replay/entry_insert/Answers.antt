@@ -9,8 +9,8 @@ use Rattle.linked_hash_map.proofs.pairs.Inserts.{length-put_most}
 use Rattle.linked_hash_map.specs.Counts.{rechained_raised}
 use Rattle.linked_hash_map.proofs.pairs.Calls.{length-put, put-absent}
 use Rattle.linked_hash_map.proofs.log.ActsAs.{put-ActsAs}
-use Rattle.linked_hash_map.proofs.runs.Effects.{IsFull-contents, IsAbsent-found, HasValue-value, Defines-put, Defines-nothing}
-use Rattle.linked_hash_map.proofs.runs.Steps.{Serves-same}
+use Rattle.linked_hash_map.proofs.runs.Effects.{IsFull-contents, IsAbsent-found, HasValue-value, Defines-put}
+use Rattle.linked_hash_map.proofs.runs.Steps.{Serves-same, Serves-unchanged}
 use Rattle.linked_hash_map.proofs.pairs.RehashCounts.{rechained_each-insert, rechained_each-same}
 use Rattle.linked_hash_map.proofs.replay.entry_insert.Goals as goal
 
@@ -71,18 +71,11 @@ returns-in-Err g c =
     let absent = none_is (find eq m.pairs c.args.key) (sym entry.occupied) in
     let same_key = entry.key ∙ ap (key_or c.args.key) absent in
     let full : length m.pairs ≡ m.capacity = sym (ap (λ n. length n.pairs) same_map) ∙ refused.full ∙ ap (λ n. n.capacity) same_map in
-    Serves-same m (search rules)
-    (record {
-      answers = λ start log defines. (
-        (
-          IsAbsent-found g.met.K.Eq.laws defines c.args.key absent,
-          IsFull-contents g.met.K.Eq.laws defines full,
-        ),
-        refused.key_back ∙ same_key,
-        refused.value_back,
-      );
-      defines = λ start log defines. Defines-nothing g.met.K.Eq.laws defines refl refl refl;
-      hasher = refl;
-      rechained = rechained_each-same m.rechained {capacity = m.capacity} refl refl;
-      visit = inr refl;
-    })
+    Serves-unchanged g.met.K.Eq.laws (search rules) (λ log. refl) (λ start log defines. (
+      (
+        IsAbsent-found g.met.K.Eq.laws defines c.args.key absent,
+        IsFull-contents g.met.K.Eq.laws defines full,
+      ),
+      refused.key_back ∙ same_key,
+      refused.value_back,
+    ))

@@ -1,10 +1,9 @@
-use Rattle.std.proofs.Common.{◌+◌, ◌≤◌, length, sym, ap, ◌∙◌, inr, subst}
+use Rattle.std.proofs.Common.{◌+◌, ◌≤◌, length, refl, sym, ◌∙◌, subst}
 use Rattle.linked_hash_map.proofs.pairs.Inserts.{length-put_most}
-use Rattle.linked_hash_map.specs.Cursor.{to_visit}
-use Rattle.linked_hash_map.proofs.runs.Effects.{IsFull-contents, IsAbsent-found, IsAbsent-value}
-use Rattle.linked_hash_map.proofs.runs.Effects.{HasValue-value, Defines-put, Defines-nothing}
+use Rattle.linked_hash_map.proofs.runs.Effects.{IsFull-contents, IsAbsent-found, IsAbsent-value, HasValue-value, Defines-put}
+use Rattle.linked_hash_map.proofs.runs.Steps.{Serves-unchanged}
 use Rattle.linked_hash_map.proofs.runs.VisitEnds.{MayEndVisit-insert}
-use Rattle.linked_hash_map.proofs.pairs.RehashCounts.{rechained_each-insert, rechained_each-same}
+use Rattle.linked_hash_map.proofs.pairs.RehashCounts.{rechained_each-insert}
 use Rattle.linked_hash_map.proofs.replay.insert.Goals as goal
 
 pub returns-in-Ok-None : goal.returns-in-Ok-None
@@ -40,19 +39,11 @@ returns-in-Ok-Some g c =
 pub returns-in-Err : goal.returns-in-Err
 returns-in-Err g c =
     let refused = c.in-Err.ensures in
-    record {
-      answers = λ start log defines. (
-        (
-          IsAbsent-found g.met.K.Eq.laws defines c.args.key refused.absent,
-          IsFull-contents g.met.K.Eq.laws defines refused.full,
-        ),
-        refused.key_back,
-        refused.value_back,
-      );
-      defines = λ start log defines.
-          Defines-nothing g.met.K.Eq.laws defines (ap (λ m. m.pairs) refused.unchanged)
-          (ap (λ m. m.capacity) refused.unchanged) (ap (λ m. m.mode) refused.unchanged);
-      hasher = ap (λ m. m.hasher) refused.unchanged;
-      rechained = rechained_each-same _ (ap (λ m. m.capacity) refused.unchanged) (ap (λ m. m.rechained) refused.unchanged);
-      visit = inr (ap to_visit refused.unchanged);
-    }
+    Serves-unchanged g.met.K.Eq.laws refused.unchanged (λ log. refl) (λ start log defines. (
+      (
+        IsAbsent-found g.met.K.Eq.laws defines c.args.key refused.absent,
+        IsFull-contents g.met.K.Eq.laws defines refused.full,
+      ),
+      refused.key_back,
+      refused.value_back,
+    ))

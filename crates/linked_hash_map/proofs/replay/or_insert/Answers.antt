@@ -1,5 +1,5 @@
 use Rattle.std.proofs.Common.{rules, ◌≡◌, true, false, max, length, is_some, None, Some, option_map, sym, ap, ◌∙◌}
-use Rattle.std.proofs.Common.{◌+◌, ◌≤◌, arith, subst, unwrap_or, inl, inr}
+use Rattle.std.proofs.Common.{◌+◌, ◌≤◌, arith, subst, unwrap_or, refl, inl, inr}
 use Rattle.linked_hash_map.specs.Cursor.{to_visit}
 use Rattle.linked_hash_map.specs.Changes.{set_or_pushed}
 use Rattle.linked_hash_map.specs.Pairs.{key_or, find, value_at, put, set_or_push}
@@ -12,8 +12,8 @@ use Rattle.linked_hash_map.proofs.pairs.Indexes.{set_value-own}
 use Rattle.linked_hash_map.proofs.lists.Options.{Some-unwrap_or}
 use Rattle.linked_hash_map.proofs.runs.Effects.{IsFull-contents, IsAbsent-found, IsAbsent-value}
 use Rattle.linked_hash_map.proofs.runs.Effects.{HasValue-value, Defines-put, Defines-nothing}
-use Rattle.linked_hash_map.proofs.runs.Steps.{Serves-same}
-use Rattle.linked_hash_map.proofs.pairs.RehashCounts.{rechained_each-insert, rechained_each-same}
+use Rattle.linked_hash_map.proofs.runs.Steps.{Serves-same, Serves-unchanged}
+use Rattle.linked_hash_map.proofs.pairs.RehashCounts.{rechained_each-insert}
 use Rattle.linked_hash_map.proofs.replay.or_insert.Goals as goal
 
 pub returns-then-present : goal.returns-then-present
@@ -85,19 +85,11 @@ returns-in-Err g c =
     let none : value_at eq m.pairs k ≡ None = sym entry.value ∙ refused.absent in
     let absent = find-none eq m.pairs k none in let same_map = entry.unchanged refused.absent in
     let full : length m.pairs ≡ m.capacity = sym (ap (λ n. length n.pairs) same_map) ∙ refused.full ∙ ap (λ n. n.capacity) same_map in
-    Serves-same lent_map (search rules)
-    (record {
-      answers = λ start log defines. (
-        (
-          IsAbsent-value g.met.K.Eq.laws defines k none,
-          IsFull-contents g.met.K.Eq.laws defines full,
-        ),
-        refused.key_back ∙ entry.key ∙ ap (key_or k) absent,
-        refused.value_back,
-      );
-      defines = λ start log defines. Defines-nothing g.met.K.Eq.laws defines
-          (ap (λ n. n.pairs) same_map) (ap (λ n. n.capacity) same_map) (ap (λ n. n.mode) same_map);
-      hasher = ap (λ n. n.hasher) same_map;
-      rechained = rechained_each-same _ (ap (λ m. m.capacity) same_map) (ap (λ m. m.rechained) same_map);
-      visit = inr (ap to_visit same_map);
-    })
+    Serves-same lent_map (search rules) (Serves-unchanged g.met.K.Eq.laws same_map (λ log. refl) (λ start log defines. (
+      (
+        IsAbsent-value g.met.K.Eq.laws defines k none,
+        IsFull-contents g.met.K.Eq.laws defines full,
+      ),
+      refused.key_back ∙ entry.key ∙ ap (key_or k) absent,
+      refused.value_back,
+    )))

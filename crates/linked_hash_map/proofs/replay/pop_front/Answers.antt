@@ -1,16 +1,13 @@
 use Rattle.std.proofs.Common.{inl}
 use Rattle.linked_hash_map.proofs.runs.Effects.{Defines-pop_front, slice_get-contents}
-use Rattle.linked_hash_map.proofs.pairs.RehashCounts.{rechained_each-same}
+use Rattle.linked_hash_map.proofs.runs.Steps.{Serves-keeps}
 use Rattle.linked_hash_map.proofs.replay.pop_front.Goals as goal
 
 pub returns-in-Some : goal.returns-in-Some
 returns-in-Some g c =
     let done = c.in-Some.ensures in
-    record {
-      answers = λ start log defines. slice_get-contents g.met.K.Eq.laws defines 0 done.pair;
-      defines = λ start log defines. Defines-pop_front g.met.K.Eq.laws defines c.in-Some.key
-          c.in-Some.value done.pair done.pairs done.keeps.capacity done.keeps.mode;
-      hasher = done.keeps.hasher;
-      rechained = rechained_each-same _ done.keeps.capacity done.keeps.rechained;
-      visit = inl done.ends_visit;
-    }
+    Serves-keeps done.keeps (λ start log defines. (
+      slice_get-contents g.met.K.Eq.laws defines 0 done.pair,
+      Defines-pop_front g.met.K.Eq.laws defines c.in-Some.key
+          c.in-Some.value done.pair done.pairs done.keeps.capacity done.keeps.mode,
+    )) (inl done.ends_visit)

@@ -1,29 +1,23 @@
 use Rattle.std.proofs.Common.{sym, ◌∙◌, inl, inr}
 use Rattle.linked_hash_map.proofs.pairs.Calls.{find-none, without-absent}
 use Rattle.linked_hash_map.proofs.runs.Effects.{IsAbsent-value, HasValue-value, Defines-remove, Defines-nothing}
-use Rattle.linked_hash_map.proofs.pairs.RehashCounts.{rechained_each-same}
+use Rattle.linked_hash_map.proofs.runs.Steps.{Serves-keeps}
 use Rattle.linked_hash_map.proofs.replay.remove.Goals as goal
 
 pub returns-in-Some : goal.returns-in-Some
 returns-in-Some g c =
     let done = c.in-Some.ensures in
-    record {
-      answers = λ start log defines. HasValue-value g.met.K.Eq.laws defines c.args.key (sym done.value);
-      defines = λ start log defines. Defines-remove g.met.K.Eq.laws defines c.args.key done.pairs done.keeps.capacity done.keeps.mode;
-      hasher = done.keeps.hasher;
-      rechained = rechained_each-same _ done.keeps.capacity done.keeps.rechained;
-      visit = inl done.ends_visit;
-    }
+    Serves-keeps done.keeps (λ start log defines. (
+      HasValue-value g.met.K.Eq.laws defines c.args.key (sym done.value),
+      Defines-remove g.met.K.Eq.laws defines c.args.key done.pairs done.keeps.capacity done.keeps.mode,
+    )) (inl done.ends_visit)
 
 pub returns : goal.returns
 returns g c =
     let done = c.in-None.ensures in
     let none = find-none g.K.PartialEq.eq c.args.map.now.pairs c.args.key (sym done.value) in
     let same = without-absent g.K.PartialEq.eq c.args.map.now.pairs c.args.key none in
-    record {
-      answers = λ start log defines. IsAbsent-value g.met.K.Eq.laws defines c.args.key (sym done.value);
-      defines = λ start log defines. Defines-nothing g.met.K.Eq.laws defines (done.pairs ∙ same) done.keeps.capacity done.keeps.mode;
-      hasher = done.keeps.hasher;
-      rechained = rechained_each-same _ done.keeps.capacity done.keeps.rechained;
-      visit = inr done.to_visit;
-    }
+    Serves-keeps done.keeps (λ start log defines. (
+      IsAbsent-value g.met.K.Eq.laws defines c.args.key (sym done.value),
+      Defines-nothing g.met.K.Eq.laws defines (done.pairs ∙ same) done.keeps.capacity done.keeps.mode,
+    )) (inr done.to_visit)

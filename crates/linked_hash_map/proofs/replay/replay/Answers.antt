@@ -1,4 +1,4 @@
-use Rattle.std.proofs.Common.{◌≡◌, refl, ◌∷◌, [], length, ap₂, append-nil, ◌∙◌, sym, subst, map-id, arith, length-append, inr}
+use Rattle.std.proofs.Common.{rules, ◌≡◌, refl, ◌∷◌, [], length, ap₂, append-nil, ◌∙◌, sym, subst, map-id, arith, length-append, inr}
 use Rattle.std.proofs.lemmas.Iterator.Adapters.{YieldsList-from_vec}
 use Rattle.std.proofs.lemmas.Iterator.Consumers.{YieldsList-end}
 use Rattle.linked_hash_map.specs.Rehashes.{rechained_after_all}
@@ -45,40 +45,31 @@ loop-command-preserved g c =
     }
 
 -- what holds of the commands that the loop took holds of all of them
-pub returns-clause-replayed : goal.returns-clause-replayed
-returns-clause-replayed g c =
+pub returns : goal.returns
+returns g c =
     let gives = c.into_iter-command-iterator.ensures.into_iter_gives in
     let end = YieldsList-end
     (YieldsList-from_vec c.args.commands.items gives.0 (gives.1 ∙ c.args.commands.ok.0))
     c.loop-command.yielded c.loop-command.command-iterator c.loop-command.yielded_by c.next.result
     c.next.new.self c.in-None.is c.next.ensures.steps in
-    let i = c.loop-command.invariant in
-    subst (λ cs.
-    Replayed g.K.PartialEq.eq c.args.map.now cs c.loop-command.replies.items c.loop-command.map)
-    (sym (map-id c.loop-command.yielded) ∙ end.0)
-    (record { run = i.run; pairs = sym i.defines.same_pairs; capacity = sym i.defines.same_capacity; mode = sym i.defines.same_mode })
-
-pub returns-clause-run : goal.returns-clause-run
-returns-clause-run g c = (returns-clause-replayed g c).run
-
-pub returns-clause-pairs : goal.returns-clause-pairs
-returns-clause-pairs g c = (returns-clause-replayed g c).pairs
-
-pub returns-clause-capacity : goal.returns-clause-capacity
-returns-clause-capacity g c = (returns-clause-replayed g c).capacity
-
-pub returns-clause-mode : goal.returns-clause-mode
-returns-clause-mode g c = (returns-clause-replayed g c).mode
-
-pub returns-clause-rechained : goal.returns-clause-rechained
-returns-clause-rechained g c =
-    let gives = c.into_iter-command-iterator.ensures.into_iter_gives in
-    let end = YieldsList-end
-    (YieldsList-from_vec c.args.commands.items gives.0 (gives.1 ∙ c.args.commands.ok.0))
-    c.loop-command.yielded c.loop-command.command-iterator c.loop-command.yielded_by c.next.result
-    c.next.new.self c.in-None.is c.next.ensures.steps in
+    let all = sym (map-id c.loop-command.yielded) ∙ end.0 in
     let m = c.args.map.now in let i = c.loop-command.invariant in let replies = c.loop-command.replies.items in
-    subst (λ cs. c.loop-command.map.rechained ≡ rechained_after_all m.rechained (length m.pairs) m.capacity cs replies)
-    (sym (map-id c.loop-command.yielded) ∙ end.0)
-    (sym (i.rechained.from [] []) ∙ ap₂ (rechained_after_all m.rechained (length m.pairs) m.capacity)
-    (append-nil c.loop-command.yielded) (append-nil replies))
+    let replayed = subst (λ cs. Replayed g.K.PartialEq.eq m cs replies c.loop-command.map) all
+    (record { run = i.run; pairs = sym i.defines.same_pairs; capacity = sym i.defines.same_capacity; mode = sym i.defines.same_mode }) in
+    record {
+      run = replayed.run;
+      pairs = replayed.pairs;
+      capacity = replayed.capacity;
+      mode = replayed.mode;
+      hasher = i.hasher;
+      rechained = subst (λ cs. c.loop-command.map.rechained ≡ rechained_after_all m.rechained (length m.pairs) m.capacity cs replies) all
+          (sym (i.rechained.from [] []) ∙ ap₂ (rechained_after_all m.rechained (length m.pairs) m.capacity)
+          (append-nil c.loop-command.yielded) (append-nil replies));
+      visit = i.visit;
+      valid = c.allocator.ensures.valid;
+      stays_valid = i.valid;
+      replayed = replayed;
+      handed_back = tt;
+      unchanged = tt;
+      no_commands = search rules;
+    }

@@ -1,8 +1,7 @@
-use Rattle.std.proofs.Common.{◌∙◌, sym, ap, arith, inl, inr}
-use Rattle.linked_hash_map.proofs.pairs.RehashCounts.{rechained_fitted-same}
+use Rattle.std.proofs.Common.{◌∙◌, refl, sym, ap, arith, inl}
 use Rattle.linked_hash_map.specs.Counts.{rechained_fitted}
-use Rattle.linked_hash_map.specs.Cursor.{to_visit}
-use Rattle.linked_hash_map.proofs.runs.Effects.{size-contents, Defines-shrink, Defines-nothing}
+use Rattle.linked_hash_map.proofs.runs.Effects.{size-contents, Defines-shrink}
+use Rattle.linked_hash_map.proofs.runs.Steps.{Serves-unchanged}
 use Rattle.linked_hash_map.proofs.replay.shrink.Goals as goal
 
 pub returns-in-Ok : goal.returns-in-Ok
@@ -19,17 +18,8 @@ returns-in-Ok g c =
 pub returns-in-Err : goal.returns-in-Err
 returns-in-Err g c =
     let refused = c.in-Err.ensures in
-    record {
-      answers = λ start log defines.
-          let size_is = size-contents g.met.K.Eq.laws defines in
-          let high_water = defines.same_capacity in let some = refused.some in
-          let spare = refused.spare in
-          (omega arith, omega arith);
-      defines = λ start log defines.
-          Defines-nothing g.met.K.Eq.laws defines (ap (λ m. m.pairs) refused.unchanged)
-          (ap (λ m. m.capacity) refused.unchanged) refused.settings.mode;
-      hasher = refused.settings.hasher;
-      rechained = ap (λ m. m.rechained) refused.unchanged
-          ∙ sym (rechained_fitted-same c.args.map.now.rechained _ c.args.map.now.capacity (sym (ap (λ m. m.capacity) refused.unchanged)));
-      visit = inr (ap to_visit refused.unchanged);
-    }
+    Serves-unchanged g.met.K.Eq.laws refused.unchanged (λ log. refl) (λ start log defines.
+    let size_is = size-contents g.met.K.Eq.laws defines in
+    let high_water = defines.same_capacity in let some = refused.some in
+    let spare = refused.spare in
+    (omega arith, omega arith))

@@ -1,29 +1,20 @@
 use Rattle.std.proofs.Common.{sym, ap, ◌∙◌, refl, Some, inr, take, drop}
 use Rattle.linked_hash_map.specs.Pairs.{set_value}
 use Rattle.linked_hash_map.proofs.Callers.Keys.{keys_of-set_value}
-use Rattle.linked_hash_map.proofs.runs.Effects.{IsAbsent-value, HasValue-value, Defines-write, Defines-nothing}
-use Rattle.linked_hash_map.proofs.pairs.RehashCounts.{rechained_each-same}
+use Rattle.linked_hash_map.proofs.runs.Effects.{IsAbsent-value, HasValue-value, Defines-write}
+use Rattle.linked_hash_map.proofs.runs.Steps.{Serves-keeps, Serves-unchanged}
 use Rattle.linked_hash_map.proofs.replay.write.Goals as goal
 
 pub returns-in-Some : goal.returns-in-Some
-returns-in-Some g c = record {
-  answers = λ start log defines.
-      HasValue-value g.met.K.Eq.laws defines c.args.key (sym (ap Some c.replace.ensures.value ∙ c.in-Some.ensures.value));
-  defines = λ start log defines.
+returns-in-Some g c =
+    let m = c.args.map.now in
+    Serves-keeps (record { capacity = refl; rechained = refl; hasher = refl; mode = refl }) (λ start log defines. (
+      HasValue-value g.met.K.Eq.laws defines c.args.key (sym (ap Some c.replace.ensures.value ∙ c.in-Some.ensures.value)),
       Defines-write g.met.K.Eq.laws defines c.args.key c.args.value
-      (ap (set_value g.K.PartialEq.eq c.args.map.now.pairs c.args.key) c.replace.ensures.after) refl
-      refl;
-  hasher = refl;
-  rechained = rechained_each-same c.args.map.now.rechained {capacity = c.args.map.now.capacity} refl refl;
-  visit = inr (ap (λ ks. take c.args.map.now.cursor.unvisited (drop c.args.map.now.cursor.bookmark ks))
-      (keys_of-set_value g.K.PartialEq.eq c.args.map.now.pairs c.args.key _));
-}
+          (ap (set_value g.K.PartialEq.eq m.pairs c.args.key) c.replace.ensures.after) refl refl,
+    ))
+    (inr (ap (λ ks. take m.cursor.unvisited (drop m.cursor.bookmark ks)) (keys_of-set_value g.K.PartialEq.eq m.pairs c.args.key _)))
 
 pub returns-in-None : goal.returns-in-None
-returns-in-None g c = record {
-  answers = λ start log defines. (IsAbsent-value g.met.K.Eq.laws defines c.args.key (sym c.in-None.ensures.value), refl, refl);
-  defines = λ start log defines. Defines-nothing g.met.K.Eq.laws defines refl refl refl;
-  hasher = refl;
-  rechained = rechained_each-same c.args.map.now.rechained {capacity = c.args.map.now.capacity} refl refl;
-  visit = inr refl;
-}
+returns-in-None g c = Serves-unchanged g.met.K.Eq.laws refl (λ log. refl)
+    (λ start log defines. (IsAbsent-value g.met.K.Eq.laws defines c.args.key (sym c.in-None.ensures.value), refl, refl))

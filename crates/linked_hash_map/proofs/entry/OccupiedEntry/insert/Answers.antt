@@ -1,4 +1,4 @@
-use Rattle.std.proofs.Common.{sym, ap}
+use Rattle.std.proofs.Common.{rules, sym, ap}
 use Rattle.linked_hash_map.specs.Entry.{occupied_map, occupied_key}
 use Rattle.linked_hash_map.specs.LinkedMap.{nowhere}
 use Rattle.linked_hash_map.proofs.Callers.Updates.{Updates-put}
@@ -9,39 +9,26 @@ use Rattle.linked_hash_map.proofs.entry.OccupiedEntry.insert.Goals as goal
 
 pub invariant_of-self : goal.invariant_of-self
 invariant_of-self g c =
-    let o = c.args.self.now in let new = c.insert_current.new.self in
+    let new = c.insert_current.new.self in let moves = c.insert_current.ensures.moves in
     record {
-      within = slice_get-within new.pairs new.cursor.current (occupied_key o, c.args.value)
-          (c.insert_current.ensures.moves.pair _ (slice_get-occupied o));
-      outside = c.insert_current.ensures.moves.outside;
+      within = slice_get-within new.pairs new.cursor.current _ (moves.pair _ (slice_get-occupied c.args.self.now));
+      outside = moves.outside;
     }
 
-pub returns-clause-old : goal.returns-clause-old
-returns-clause-old g c = occupied_value-is c.args.self.now c.insert_current.result c.insert_current.ensures.old
-
-pub returns-clause-key : goal.returns-clause-key
-returns-clause-key g c =
-    let o = c.args.self.now in
-    sym (ap (λ pair. pair.0) (occupied_pair-is _ _ (c.insert_current.ensures.moves.pair _ (slice_get-occupied o))))
-
-pub returns-clause-value : goal.returns-clause-value
-returns-clause-value g c =
-    let o = c.args.self.now in
-    sym (ap (λ pair. pair.1) (occupied_pair-is _ _ (c.insert_current.ensures.moves.pair _ (slice_get-occupied o))))
-
-pub returns-clause-pairs : goal.returns-clause-pairs
-returns-clause-pairs g c =
-    let o = c.args.self.now in
-    c.insert_current.ensures.pairs (occupied_key o) (IsIndex-occupied o g.met.K.Eq.laws)
-
-pub returns-clause-valid : goal.returns-clause-valid
-returns-clause-valid g c = IsValid-current nowhere c.insert_current.ensures.moves.valid
-
-pub returns-clause-stays_valid : goal.returns-clause-stays_valid
-returns-clause-stays_valid g c = IsValid-current nowhere c.insert_current.ensures.moves.stays_valid
-
-pub returns-clause-updates : goal.returns-clause-updates
-returns-clause-updates g c =
-    let o = c.args.self.now in
-    Updates-put g.met.K.Eq.laws (occupied_map o).mode (occupied_map o).pairs
-    c.insert_current.new.self.pairs (occupied_key o) c.args.value (returns-clause-pairs g c)
+pub returns : goal.returns
+returns g c =
+    let o = c.args.self.now in let put = c.insert_current.ensures in let is = put.moves.pair _ (slice_get-occupied o) in
+    let pairs = put.pairs (occupied_key o) (IsIndex-occupied o g.met.K.Eq.laws) in
+    record {
+      same_map = search rules;
+      old = occupied_value-is o c.insert_current.result put.old;
+      key = sym (ap (λ pair. pair.0) (occupied_pair-is _ _ is));
+      value = sym (ap (λ pair. pair.1) (occupied_pair-is _ _ is));
+      pairs = pairs;
+      keeps = search rules;
+      to_visit = search rules;
+      valid = IsValid-current nowhere put.moves.valid;
+      stays_valid = IsValid-current nowhere put.moves.stays_valid;
+      updates = Updates-put g.met.K.Eq.laws (occupied_map o).mode (occupied_map o).pairs
+          c.insert_current.new.self.pairs (occupied_key o) c.args.value pairs;
+    }

@@ -1,4 +1,4 @@
-use Rattle.std.proofs.Common.{◌∙◌, sym, ap}
+use Rattle.std.proofs.Common.{rules, sym, ap, ◌∙◌}
 use Rattle.linked_hash_map.specs.Entry.{occupied_map, occupied_key}
 use Rattle.linked_hash_map.specs.LinkedMap.{nowhere}
 use Rattle.linked_hash_map.specs.Pairs.{find}
@@ -10,35 +10,25 @@ use Rattle.linked_hash_map.proofs.entry.OccupiedEntry.move_to_front.Goals as goa
 
 pub invariant_of-self : goal.invariant_of-self
 invariant_of-self g c =
-    let o = c.args.self.now in let new = c.move_current_to_front.new.self in
+    let new = c.move_current_to_front.new.self in let moves = c.move_current_to_front.ensures.moves in
     record {
-      within = slice_get-within new.pairs new.cursor.current _ (c.move_current_to_front.ensures.moves.pair _ (slice_get-occupied o));
-      outside = c.move_current_to_front.ensures.moves.outside;
+      within = slice_get-within new.pairs new.cursor.current _ (moves.pair _ (slice_get-occupied c.args.self.now));
+      outside = moves.outside;
     }
 
-pub returns-clause-key : goal.returns-clause-key
-returns-clause-key g c =
-    let o = c.args.self.now in
-    sym (ap (λ pair. pair.0) (occupied_pair-is _ _ (c.move_current_to_front.ensures.moves.pair _ (slice_get-occupied o))))
-
-pub returns-clause-value : goal.returns-clause-value
-returns-clause-value g c =
-    let o = c.args.self.now in
-    sym (ap (λ pair. pair.1) (occupied_pair-is _ _ (c.move_current_to_front.ensures.moves.pair _ (slice_get-occupied o))))
-
-pub returns-clause-pairs : goal.returns-clause-pairs
-returns-clause-pairs g c =
-    let o = c.args.self.now in
-    c.move_current_to_front.ensures.pairs (occupied_key o) (IsIndex-occupied o g.met.K.Eq.laws)
-
-pub returns-clause-valid : goal.returns-clause-valid
-returns-clause-valid g c = IsValid-current nowhere c.move_current_to_front.ensures.moves.valid
-
-pub returns-clause-stays_valid : goal.returns-clause-stays_valid
-returns-clause-stays_valid g c = IsValid-current nowhere c.move_current_to_front.ensures.moves.stays_valid
-
-pub returns-clause-finds : goal.returns-clause-finds
-returns-clause-finds g c q =
-    let o = c.args.self.now in
-    ap (λ pairs. find g.K.PartialEq.eq pairs q) (returns-clause-pairs g c)
-    ∙ find-to_front g.met.K.Eq.laws (occupied_map o).pairs (occupied_key o) q
+pub returns : goal.returns
+returns g c =
+    let o = c.args.self.now in let moved = c.move_current_to_front.ensures in let is = moved.moves.pair _ (slice_get-occupied o) in
+    let pairs = moved.pairs (occupied_key o) (IsIndex-occupied o g.met.K.Eq.laws) in
+    record {
+      same_map = search rules;
+      key = sym (ap (λ pair. pair.0) (occupied_pair-is _ _ is));
+      value = sym (ap (λ pair. pair.1) (occupied_pair-is _ _ is));
+      pairs = pairs;
+      keeps = search rules;
+      to_visit = search rules;
+      valid = IsValid-current nowhere moved.moves.valid;
+      stays_valid = IsValid-current nowhere moved.moves.stays_valid;
+      finds = λ q. ap (λ pairs. find g.K.PartialEq.eq pairs q) pairs
+          ∙ find-to_front g.met.K.Eq.laws (occupied_map o).pairs (occupied_key o) q;
+    }

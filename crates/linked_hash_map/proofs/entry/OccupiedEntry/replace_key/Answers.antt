@@ -18,16 +18,15 @@ replace_current_key-requires-clause-same g c =
 
 pub invariant_of-self : goal.invariant_of-self
 invariant_of-self g c =
-    let o = c.args.self.now in let new = c.replace_current_key.new.self in
+    let new = c.replace_current_key.new.self in let moves = c.replace_current_key.ensures.moves in
     record {
-      within = slice_get-within new.pairs new.cursor.current _ (c.replace_current_key.ensures.moves.pair _ (slice_get-occupied o));
-      outside = c.replace_current_key.ensures.moves.outside;
+      within = slice_get-within new.pairs new.cursor.current _ (moves.pair _ (slice_get-occupied c.args.self.now));
+      outside = moves.outside;
     }
 
 pub returns-then-has_key-clause-stored : goal.returns-then-has_key-clause-stored
-returns-then-has_key-clause-stored g c =
-    let o = c.args.self.now in
-    Some-injective _ _ (sym c.replace_current_key.ensures.stored ∙ ap (option_map (λ pair. pair.0)) (slice_get-occupied o))
+returns-then-has_key-clause-stored g c = Some-injective _ _
+    (sym c.replace_current_key.ensures.stored ∙ ap (option_map (λ pair. pair.0)) (slice_get-occupied c.args.self.now))
 
 pub returns-then-has_key-clause-key : goal.returns-then-has_key-clause-key
 returns-then-has_key-clause-key g c =
@@ -39,8 +38,8 @@ returns-then-has_key-clause-key g c =
 
 pub returns-then-has_key-clause-value : goal.returns-then-has_key-clause-value
 returns-then-has_key-clause-value g c =
-    let o = c.args.self.now in
-    sym (ap (λ pair. pair.1) (occupied_pair-is _ _ (c.replace_current_key.ensures.moves.pair _ (slice_get-occupied o))))
+    let is = c.replace_current_key.ensures.moves.pair _ (slice_get-occupied c.args.self.now) in
+    sym (ap (λ pair. pair.1) (occupied_pair-is _ _ is))
 
 pub returns-then-has_key-clause-values : goal.returns-then-has_key-clause-values
 returns-then-has_key-clause-values g c = λ q.

@@ -1,31 +1,21 @@
-use Rattle.std.proofs.Common.{[], ap, sym, ◌-◌, length}
-use Rattle.lhm_ring.proofs.rings.Ends.{Last-last_at, last_held}
-use Rattle.linked_hash_map.proofs.nodes.FirstAndLast.{Some-last}
+use Rattle.std.proofs.Common.{◌-◌, length, sym}
+use Rattle.linked_hash_map.proofs.nodes.FirstAndLast.{IsAt-last}
 use Rattle.linked_hash_map.specs.Nodes.{pairs_of}
+use Rattle.linked_hash_map.proofs.nodes.CutNodes.{held-at, pair-at}
 use Rattle.linked_hash_map.proofs.nodes.Kept.{distinct_keys}
 use Rattle.linked_hash_map.proofs.pairs.Indexes.{find-own}
 use Rattle.linked_hash_map.proofs.map.LinkedHashMap.back.Goals as goal
-use Rattle.lhm_ring.specs.Pointer.{pointer_of_some}
 
 pub key-requires : goal.key-requires
-key-requires g c = last_held (Last-last_at c.self.inside.table.held c.last.ensures.last (ap pointer_of_some c.in_ok-at.was))
+key-requires g c = held-at _ _ (IsAt-last c.self.inside.table.held c.in_ok-at.ensures.last)
 
 pub value-requires : goal.value-requires
-value-requires g c =
-    last_held (Last-last_at c.self.inside.table.held c.last.ensures.last (ap pointer_of_some c.in_ok-at.was))
+value-requires g c = held-at _ _ (IsAt-last c.self.inside.table.held c.in_ok-at.ensures.last)
 
-pub returns-clause-pair : goal.returns-clause-pair
-returns-clause-pair g c =
-    let n = Last-last_at c.self.inside.table.held c.last.ensures.last (ap pointer_of_some c.in_ok-at.was) in
-    let is = Some-last n c.key.result.now c.value.result.now (c.key.ensures n.before n.node [] n.is n.at_is)
-    (c.value.ensures n.before n.node [] n.is n.at_is) in
-    rw (← c.self.view_is) is
-
-pub returns-clause-found : goal.returns-clause-found
-returns-clause-found g c =
-    let n = Last-last_at c.self.inside.table.held c.last.ensures.last (ap pointer_of_some c.in_ok-at.was) in
-    let is = Some-last n c.key.result.now c.value.result.now (c.key.ensures n.before n.node [] n.is n.at_is)
-    (c.value.ensures n.before n.node [] n.is n.at_is) in
-    rw (← c.self.view_is) (find-own g.met.K.Eq.laws (pairs_of c.self.inside.table.held)
-    (distinct_keys c.self.inside.table.held c.self.invariant) (length (pairs_of c.self.inside.table.held) - 1)
-    (c.key.result.now, c.value.result.now) (sym is))
+pub returns : goal.returns
+returns g c =
+    let hs = c.self.inside.table.held in let is = pair-at hs _ (IsAt-last hs c.in_ok-at.ensures.last) c.key.ensures c.value.ensures in
+    rw (← c.self.view_is) (record {
+      pair = sym is;
+      found = find-own g.met.K.Eq.laws (pairs_of hs) (distinct_keys hs c.self.invariant) (length (pairs_of hs) - 1) _ is;
+    })

@@ -1,10 +1,10 @@
-use Rattle.std.proofs.Common.{slice_get, Some, refl, sym, ap, ◌∙◌}
+use Rattle.std.proofs.Common.{Some, refl, sym, ap, ◌∙◌}
 use Rattle.linked_hash_map.specs.LinkedMap.{nowhere, cursor_state}
 use Rattle.linked_hash_map.specs.Pairs.{key_or}
 use Rattle.linked_hash_map.proofs.pairs.Indexes.{is_some-index, find-index, value_at-index}
 use Rattle.linked_hash_map.proofs.Callers.Updates.{Updates-put, Updates-set_or_push, Updates-without}
 use Rattle.linked_hash_map.proofs.log.ActsAs.{ActsAs-same, put-ActsAs}
-use Rattle.linked_hash_map.proofs.pairs.OccupiedEntries.{occupied_pair-is}
+use Rattle.linked_hash_map.proofs.pairs.OccupiedEntries.{occupied_pair-index}
 use Rattle.linked_hash_map.proofs.map.LinkedHashMap.entry.Goals as goal
 
 pub returns-then-found-clause-occupied : goal.returns-then-found-clause-occupied
@@ -14,23 +14,23 @@ returns-then-found-clause-occupied g c = sym (is_some-index g.met.K.Eq.laws
 pub returns-then-found-clause-key : goal.returns-then-found-clause-key
 returns-then-found-clause-key g c =
     let index = c.seek-hash.ensures.found c.if-found.true in
-    let there = ap (λ m. slice_get m.pairs c.seek-hash.new.self.cursor.current) (c.seek-hash.ensures.ends_visit c.if-found.true) ∙ index.there in
-    sym (ap (λ pair. pair.0) (occupied_pair-is _ index.pair there))
+    let same = ap (λ m. m.pairs) (c.seek-hash.ensures.ends_visit c.if-found.true) in
+    sym (ap (λ pair. pair.0) (occupied_pair-index _ same index))
     ∙ sym (ap (key_or c.args.key) (find-index g.met.K.Eq.laws c.seek-hash.ensures.valid.distinct index index.there))
 
 pub returns-then-found-clause-acts : goal.returns-then-found-clause-acts
 returns-then-found-clause-acts g c =
     let index = c.seek-hash.ensures.found c.if-found.true in
-    let there = ap (λ m. slice_get m.pairs c.seek-hash.new.self.cursor.current) (c.seek-hash.ensures.ends_visit c.if-found.true) ∙ index.there in
+    let same = ap (λ m. m.pairs) (c.seek-hash.ensures.ends_visit c.if-found.true) in
     ActsAs-same g.met.K.Eq.laws c.args.self.now.pairs _ c.args.key
-    (sym (ap (λ pair. g.K.PartialEq.eq c.args.key pair.0) (occupied_pair-is _ index.pair there)) ∙ index.same)
+    (sym (ap (λ pair. g.K.PartialEq.eq c.args.key pair.0) (occupied_pair-index _ same index)) ∙ index.same)
     (is_some-index g.met.K.Eq.laws c.seek-hash.ensures.valid.distinct index)
 
 pub returns-then-found-clause-value : goal.returns-then-found-clause-value
 returns-then-found-clause-value g c =
     let index = c.seek-hash.ensures.found c.if-found.true in
-    let there = ap (λ m. slice_get m.pairs c.seek-hash.new.self.cursor.current) (c.seek-hash.ensures.ends_visit c.if-found.true) ∙ index.there in
-    sym (ap (λ pair. Some pair.1) (occupied_pair-is _ index.pair there))
+    let same = ap (λ m. m.pairs) (c.seek-hash.ensures.ends_visit c.if-found.true) in
+    sym (ap (λ pair. Some pair.1) (occupied_pair-index _ same index))
     ∙ value_at-index g.met.K.Eq.laws c.seek-hash.ensures.valid.distinct index index.there
 
 pub returns-then-found-clause-ends_visit : goal.returns-then-found-clause-ends_visit
@@ -43,7 +43,8 @@ returns-then-found-clause-ends_visit g c = λ _.
     ∙ same
 
 pub returns-then-found-clause-updates : goal.returns-then-found-clause-updates
-returns-then-found-clause-updates g c v = Updates-set_or_push g.met.K.Eq.laws _ _ _ v ((returns-then-found-clause-acts g c).sets_or_pushes v)
+returns-then-found-clause-updates g c v = Updates-set_or_push g.met.K.Eq.laws _ _ _ v
+    ((returns-then-found-clause-acts g c).sets_or_pushes v)
 
 pub returns-then-found-clause-inserts : goal.returns-then-found-clause-inserts
 returns-then-found-clause-inserts g c v = Updates-put g.met.K.Eq.laws c.args.self.now.mode _ _ _ v

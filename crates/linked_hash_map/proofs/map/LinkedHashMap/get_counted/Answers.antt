@@ -1,34 +1,30 @@
-use Rattle.std.proofs.Common.{◌≤◌, Some, option_map, sym, ap, ◌∙◌, subst}
+use Rattle.std.proofs.Common.{◌≤◌, Some, option_map, refl, sym, ap, ◌∙◌, subst}
 use Rattle.linked_hash_map.proofs.nodes.LookupCounts.{count_with_hash-spots, count_in_bucket-spots}
 use Rattle.linked_hash_map.proofs.pairs.Indexes.{value_at-index}
 use Rattle.linked_hash_map.proofs.lists.Options.{of-Some, of-None, of-OnSome}
 use Rattle.linked_hash_map.proofs.nodes.FoundKeys.{IsIndex-HasKey}
 use Rattle.linked_hash_map.proofs.nodes.CutNodes.{slice_get-held}
-use Rattle.linked_hash_map.proofs.nodes.Kept.{distinct_keys}
+use Rattle.linked_hash_map.proofs.nodes.Kept.{distinct_keys, IsValid-view}
 use Rattle.linked_hash_map.proofs.nodes.AbsentKeys.{hash_by-respects, find-LacksKey}
 use Rattle.linked_hash_map.proofs.map.LinkedHashMap.get_counted.Goals as goal
 
-pub returns-in-Some-clause-value : goal.returns-in-Some-clause-value
-returns-in-Some-clause-value g c =
-    let m = c.self.inside in let h = of-Some _ c.in-Some.is c.find-found.ensures.found in
-    rw (← c.self.view_is) (
-    ap Some (c.value.ensures h.held.before h.held.node h.held.after h.held.is h.held.at_is)
-    ∙ value_at-index g.met.K.Eq.laws (distinct_keys c.self.inside.table.held c.self.invariant) (IsIndex-HasKey h) (slice_get-held h.held)
-    )
-
-pub returns-in-Some-clause-compared_few : goal.returns-in-Some-clause-compared_few
-returns-in-Some-clause-compared_few g c =
+pub returns-in-Some : goal.returns-in-Some
+returns-in-Some g c =
+    let hs = c.self.inside.table.held in let h = of-Some _ c.in-Some.is c.find-found.ensures.found in let at = h.held in
     let counts = of-OnSome c.in-Some.is c.find-found.ensures.counts_found in
-    rw (← c.self.view_is) (subst (λ n. c.find-found.result.1.compared ≤ n)
-    (count_with_hash-spots c.self.inside.table.held c.self.invariant c.args.key.now c.hash_one-hash.ensures)
-    counts.compared_few)
-
-pub returns-in-Some-clause-visited_few : goal.returns-in-Some-clause-visited_few
-returns-in-Some-clause-visited_few g c =
-    let counts = of-OnSome c.in-Some.is c.find-found.ensures.counts_found in
-    rw (← c.self.view_is) (subst (λ n. c.find-found.result.1.visited ≤ n)
-    (count_in_bucket-spots c.self.inside.table.held c.self.invariant c.args.key.now c.hash_one-hash.ensures)
-    counts.visited_few)
+    let with_hash = count_with_hash-spots hs c.self.invariant c.args.key.now c.hash_one-hash.ensures in
+    let in_bucket = count_in_bucket-spots hs c.self.invariant c.args.key.now c.hash_one-hash.ensures in
+    rw (← c.self.view_is) (record {
+      value = ap Some (c.value.ensures at.before at.node at.after at.is at.at_is)
+          ∙ value_at-index g.met.K.Eq.laws (distinct_keys hs c.self.invariant) (IsIndex-HasKey h) (slice_get-held at);
+      valid = IsValid-view c.self.inside refl c.self.invariant;
+      compared = tt;
+      visited = tt;
+      compared_some = counts.some;
+      compared_few = subst (λ n. c.find-found.result.1.compared ≤ n) with_hash counts.compared_few;
+      visited_all = counts.order;
+      visited_few = subst (λ n. c.find-found.result.1.visited ≤ n) in_bucket counts.visited_few;
+    })
 
 pub returns-in-None-clause-value : goal.returns-in-None-clause-value
 returns-in-None-clause-value g c =

@@ -8,7 +8,8 @@ use Rattle.linked_hash_map.proofs.pairs.Calls.{put-absent}
 use Rattle.linked_hash_map.proofs.lists.Options.{of-Some, of-None}
 use Rattle.linked_hash_map.proofs.nodes.Kept.{distinct_keys, IsValid-kept, IsValid-view}
 use Rattle.linked_hash_map.proofs.nodes.FoundKeys.{index_of-HasKey, IsIndex-index_of}
-use Rattle.linked_hash_map.proofs.nodes.PutPair.{IsTouchedAt, touched_cut, value_at-touched, pairs-put, length-put, IsKept-put}
+use Rattle.linked_hash_map.proofs.nodes.CutNodes.{held-at}
+use Rattle.linked_hash_map.proofs.nodes.PutPair.{IsTouchedAt, touched_at, value_at-touched, pairs-put, length-put, IsKept-put}
 use Rattle.linked_hash_map.proofs.map.LinkedHashMap.insert.Goals as goal
 use Rattle.lhm_ring.specs.Pointer.{pointer_of}
 use Rattle.lhm_ring.specs.Search.{HasKey}
@@ -34,7 +35,7 @@ value_mut-requires g c =
     let there = (of-Some _ c.in-Some.is c.locate-hash.ensures.found).has in
     let moved : IsTouchedAt (pointer_of c.in-Some.at) c.self.inside.mode hs c.touch.new.table.held =
     record { lies = index_of-HasKey there; touched = c.touch.ensures.touched } in
-    (touched_cut moved).held
+    held-at _ _ (touched_at moved)
 
 pub invariant_of-self : goal.invariant_of-self
 invariant_of-self g c = IsKept-put g.met.K.Eq.laws (moved g c) c.self.invariant

@@ -1,20 +1,20 @@
-use Rattle.std.proofs.Common.{◌≡◌, Some, slice_get, option_map, sym, ap, ◌∙◌, subst}
-use Rattle.linked_hash_map.specs.Nodes.{pairs_of, bare, beside, visit_of, current_of}
-use Rattle.lhm_ring.specs.Positions.{index_of}
+use Rattle.std.proofs.Common.{Some, slice_get, option_map, sym, ap, ◌∙◌, subst}
+use Rattle.linked_hash_map.specs.Nodes.{pairs_of, beside, visit_of}
 use Rattle.linked_hash_map.specs.Indexes.{IsIndex}
 use Rattle.linked_hash_map.specs.Pairs.{put}
 use Rattle.linked_hash_map.proofs.nodes.Kept.{distinct_keys}
-use Rattle.linked_hash_map.proofs.nodes.Current.{current_of-Some, current_at-Some, index_of-current, CutAt-current, IsElsewhere-current}
-use Rattle.linked_hash_map.proofs.nodes.Current.{MovesCurrent-nodes}
-use Rattle.linked_hash_map.proofs.nodes.Outside.{IsElsewhere}
-use Rattle.linked_hash_map.proofs.nodes.PutPair.{IsTouchedAt, touched_cut, value-touched, pair-touched, pairs-put}
+use Rattle.linked_hash_map.proofs.nodes.CutNodes.{held-at}
+use Rattle.linked_hash_map.proofs.nodes.Current.{current_of-Some, current_at-Some, index_of-current, IsAt-current}
+use Rattle.linked_hash_map.proofs.nodes.Current.{IsCurrent-outside, MovesCurrent-nodes}
+use Rattle.linked_hash_map.proofs.nodes.Outside.{IsCurrent}
+use Rattle.linked_hash_map.proofs.nodes.PutPair.{IsTouchedAt, touched_at, value-touched, pair-touched, pairs-put}
 use Rattle.linked_hash_map.proofs.nodes.PutPair.{IsKept-put_current, to_visit-put, elsewhere-put}
 use Rattle.linked_hash_map.proofs.map.LinkedHashMap.insert_current.Goals as goal
 use Rattle.lhm_ring.specs.Pointer.{pointer_of}
 use Rattle.lhm_ring.specs.Ring.{change_at, revalued}
 
 pub touch-requires : goal.touch-requires
-touch-requires g c = (CutAt-current c.self.inside.table.held c.self.invariant c.current.ensures c.unwrap-at.ensures).held
+touch-requires g c = held-at _ _ (IsAt-current c.self.inside.table.held c.self.invariant c.current.ensures c.unwrap-at.ensures)
 
 pub value_mut-requires : goal.value_mut-requires
 value_mut-requires g c =
@@ -22,31 +22,27 @@ value_mut-requires g c =
     let moved : IsTouchedAt (pointer_of c.unwrap-at.result) c.self.inside.mode
     c.self.inside.table.held c.touch.new.table.held =
     record { lies = index_of-current c.self.inside.table.held c.self.invariant is; touched = c.touch.ensures.touched } in
-    (touched_cut moved).held
+    held-at _ _ (touched_at moved)
 
 -- the current pair's node, which is moved by the map's mode, and is none of those to visit
-is : (g : _) (c : goal.After-self-1 g) → current_of c.self.inside.visit ≡ Some (pointer_of c.unwrap-at.result)
-is g c = current_of-Some c.current.ensures c.unwrap-at.ensures
+now : (g : _) (c : goal.After-self-1 g)
+    → IsCurrent (visit_of c.self.inside.visit) c.self.inside.table.held (pointer_of c.unwrap-at.result)
+now g c = IsCurrent-outside c.self.inside.table.held c.self.invariant c.current.ensures c.unwrap-at.ensures c.args.self.now
+    (ap (λ m. m.cursor) c.self.view_is) c.requires.outside
 
 moved : (g : _) (c : goal.After-self-1 g) → IsTouchedAt (pointer_of c.unwrap-at.result)
     c.self.inside.mode c.self.inside.table.held c.touch.new.table.held
-moved g c = record { lies = index_of-current c.self.inside.table.held c.self.invariant (is g c); touched = c.touch.ensures.touched }
-
-elsewhere : (g : _) (c : goal.After-self-1 g)
-    → IsElsewhere (index_of (pointer_of c.unwrap-at.result) c.self.inside.table.held)
-    (visit_of c.self.inside.visit) (bare c.self.inside.table.held)
-elsewhere g c = IsElsewhere-current c.self.inside.table.held c.self.invariant (is g c) c.args.self.now
-    (ap (λ m. m.cursor) c.self.view_is) c.requires.outside
+moved g c = record { lies = (now g c).lies; touched = c.touch.ensures.touched }
 
 pub invariant_of-self : goal.invariant_of-self
-invariant_of-self g c = IsKept-put_current g.met.K.Eq.laws (moved g c) c.self.invariant (is g c)
-    (elsewhere g c) c.touch.ensures.keeps.capacity c.replace.new.dest
+invariant_of-self g c = IsKept-put_current g.met.K.Eq.laws c.self.invariant (now g c) (moved g c)
+    c.touch.ensures.keeps.capacity c.replace.new.dest
 
 pub returns-clause-pairs : goal.returns-clause-pairs
 returns-clause-pairs g c =
     let hs = c.self.inside.table.held in
     rw (← c.self.view_is) (λ key index. pairs-put g.met.K.Eq.laws
-    (subst (IsIndex g.K.PartialEq.eq (pairs_of hs) key) (current_at-Some (is g c) hs) index)
+    (subst (IsIndex g.K.PartialEq.eq (pairs_of hs) key) (current_at-Some (now g c).is hs) index)
     (distinct_keys c.self.inside.table.held c.self.invariant) (moved g c) c.value_mut.ensures.alone c.replace.new.dest
     ∙ ap (put g.K.PartialEq.eq c.self.inside.mode (pairs_of hs) key) c.replace.ensures.after)
 
@@ -54,7 +50,7 @@ pub returns-clause-old : goal.returns-clause-old
 returns-clause-old g c =
     let hs = c.self.inside.table.held in
     rw (← c.self.view_is) (
-    ap (λ k. option_map (λ pair. pair.1) (slice_get (pairs_of hs) k)) (current_at-Some (is g c) hs)
+    ap (λ k. option_map (λ pair. pair.1) (slice_get (pairs_of hs) k)) (current_at-Some (now g c).is hs)
     ∙ value-touched (moved g c) c.value_mut.ensures.value ∙ ap Some (sym c.replace.ensures.value)
     )
 
@@ -62,10 +58,10 @@ pub returns-clause-moves : goal.returns-clause-moves
 returns-clause-moves g c =
     let m = c.self.inside in let laws = g.met.K.Eq.laws in let keeps = c.touch.ensures.keeps in let w = c.replace.new.dest in
     let held = change_at (pointer_of c.unwrap-at.result) (revalued w) c.touch.new.table.held in
-    rw (← c.self.view_is) (MovesCurrent-nodes m.table (record c.touch.new.table { held = held }) (beside m) (is g c)
+    rw (← c.self.view_is) (MovesCurrent-nodes m.table (record c.touch.new.table { held = held }) (beside m) (now g c).is
     c.self.invariant
     (λ pair there. pair-touched (moved g c) c.value_mut.ensures.alone w pair there
     ∙ ap (λ v. Some (pair.0, v)) c.replace.ensures.after)
     (record { capacity = keeps.capacity; rechained = keeps.rechained; made = keeps.made })
-    (to_visit-put laws (moved g c) c.self.invariant (is g c) (elsewhere g c) w)
-    (elsewhere-put laws (moved g c) c.self.invariant (is g c) (elsewhere g c) w) (invariant_of-self g c))
+    (to_visit-put laws c.self.invariant (now g c) (moved g c) w) (elsewhere-put laws c.self.invariant (now g c) (moved g c) w)
+    (invariant_of-self g c))

@@ -1,4 +1,4 @@
-use Rattle.std.proofs.Common.{◌≡◌, ◌++◌, Bool, filter, not, option_to_list, is_some, refl, sym, ap, ◌∙◌}
+use Rattle.std.proofs.Common.{rules, ◌≡◌, ◌++◌, Bool, filter, not, option_to_list, is_some, refl, sym, ap, ◌∙◌}
 use Rattle.std.specs.Map.{lookup_entry}
 use Rattle.linked_hash_map.specs.Nodes.{pairs_of}
 use Rattle.linked_hash_map.specs.Pairs.{find, to_front}
@@ -6,7 +6,7 @@ use Rattle.linked_hash_map.proofs.Callers.Moves.{find-to_front, to_front-absent}
 use Rattle.linked_hash_map.proofs.lists.Options.{of-Some, of-None}
 use Rattle.linked_hash_map.proofs.nodes.FoundKeys.{index_of-HasKey, IsIndex-index_of}
 use Rattle.linked_hash_map.proofs.nodes.HeldPairs.{length-pairs_of}
-use Rattle.linked_hash_map.proofs.nodes.Kept.{distinct_keys, IsValid-kept}
+use Rattle.linked_hash_map.proofs.nodes.Kept.{distinct_keys, IsValid-kept, IsValid-view}
 use Rattle.linked_hash_map.proofs.nodes.MovedToFront.{pairs-moved, length-to_front, IsKept-front}
 use Rattle.linked_hash_map.proofs.nodes.StoredKeys.{eq-stored, HasKey-stored}
 use Rattle.linked_hash_map.proofs.pairs.Indexes.{to_front-index}
@@ -38,31 +38,23 @@ moved g c =
 pub invariant_of-self : goal.invariant_of-self
 invariant_of-self g c = IsKept-front _ _ (held g c) g.met.K.Eq.laws c.self.invariant c.move_to_front.ensures.keeps.capacity
 
-pub returns-in-Some-clause-found : goal.returns-in-Some-clause-found
-returns-in-Some-clause-found g c =
-    rw (← c.self.view_is) (sym (ap is_some (of-Some _ c.in-Some.is c.locate-found.ensures.found).pair))
-
-pub returns-in-Some-clause-pairs : goal.returns-in-Some-clause-pairs
-returns-in-Some-clause-pairs g c =
-    let hs = c.self.inside.table.held in
-    rw (← c.self.view_is)
-    (moved g c ∙ ap (λ (test : g.row.K.Denot → Bool). option_to_list (lookup_entry test (pairs_of hs))
-    ++ filter (λ pair. not (test pair.0)) (pairs_of hs))
-    (eq-stored g.met.K.Eq.laws (g.met.Q.Equivalent.respects_eq c.args.key) (has g c)))
-
-pub returns-in-Some-clause-stays_valid : goal.returns-in-Some-clause-stays_valid
-returns-in-Some-clause-stays_valid g c = IsValid-kept _ (invariant_of-self g c) refl refl refl
-
-pub returns-in-Some-clause-len : goal.returns-in-Some-clause-len
-returns-in-Some-clause-len g c =
-    let hs = c.self.inside.table.held in let ks = c.move_to_front.new.self.held in
-    rw (← c.self.view_is)
-    (length-pairs_of ks ∙ length-to_front _ _ (held g c) ∙ sym (length-pairs_of hs))
-
-pub returns-in-Some-clause-finds : goal.returns-in-Some-clause-finds
-returns-in-Some-clause-finds g c =
-    rw (← c.self.view_is) (λ q. ap (λ pairs. find g.K.PartialEq.eq pairs q) (moved g c)
-    ∙ find-to_front g.met.K.Eq.laws (pairs_of c.self.inside.table.held) (has g c).held.node.pair.0 q)
+pub returns-in-Some : goal.returns-in-Some
+returns-in-Some g c =
+    let hs = c.self.inside.table.held in let laws = g.met.K.Eq.laws in
+    rw (← c.self.view_is) (record {
+      found = sym (ap is_some (of-Some _ c.in-Some.is c.locate-found.ensures.found).pair);
+      pairs = moved g c ∙ ap (λ (test : g.row.K.Denot → Bool). option_to_list (lookup_entry test (pairs_of hs))
+          ++ filter (λ pair. not (test pair.0)) (pairs_of hs))
+          (eq-stored laws (g.met.Q.Equivalent.respects_eq c.args.key) (has g c));
+      keeps = search rules;
+      ends_visit = search rules;
+      unchanged = search rules;
+      valid = IsValid-view c.self.inside refl c.self.invariant;
+      stays_valid = IsValid-kept _ (invariant_of-self g c) refl refl refl;
+      len = length-pairs_of c.move_to_front.new.self.held ∙ length-to_front _ _ (held g c) ∙ sym (length-pairs_of hs);
+      finds = λ q. ap (λ pairs. find g.K.PartialEq.eq pairs q) (moved g c)
+          ∙ find-to_front laws (pairs_of hs) (has g c).held.node.pair.0 q;
+    })
 
 pub returns-in-None-clause-found : goal.returns-in-None-clause-found
 returns-in-None-clause-found g c =

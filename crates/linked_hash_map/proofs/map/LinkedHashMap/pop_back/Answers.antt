@@ -1,8 +1,8 @@
-use Rattle.std.proofs.Common.{◌-◌, length, remove, slice_get, refl, sym, ap, ◌∙◌}
-use Rattle.lhm_ring.proofs.rings.Ends.{Last-last_at, last_held}
-use Rattle.lhm_ring.proofs.tables.Positions.{IsAt-last_at, IsAt-within}
+use Rattle.std.proofs.Common.{rules, ◌-◌, length, refl, sym, ◌∙◌}
+use Rattle.lhm_ring.proofs.tables.Positions.{IsAt-within}
 use Rattle.linked_hash_map.specs.Nodes.{pairs_of}
-use Rattle.linked_hash_map.proofs.nodes.HeldPairs.{length-pairs_of}
+use Rattle.linked_hash_map.proofs.nodes.CutNodes.{held-at}
+use Rattle.linked_hash_map.proofs.nodes.FirstAndLast.{IsAt-last}
 use Rattle.linked_hash_map.proofs.nodes.Kept.{IsValid-kept, IsValid-view}
 use Rattle.linked_hash_map.proofs.runs.Effects.{remove-last}
 use Rattle.linked_hash_map.proofs.pairs.Calls.{find-none}
@@ -12,41 +12,31 @@ use Rattle.linked_hash_map.proofs.map.LinkedHashMap.pop_back.Goals as goal
 use Rattle.lhm_ring.specs.Pointer.{pointer_of}
 use Rattle.lhm_ring.specs.Positions.{IsAt}
 
+pub remove_at-requires : goal.remove_at-requires
+remove_at-requires g c = held-at _ _ (IsAt-last c.self.inside.table.held c.in_ok-back.ensures.last)
+
 -- it was the last
 is_last : (g : _) (c : goal.After-remove_at g) → IsAt c.self.inside.table.held (pointer_of c.in_ok-back.back)
-    (length c.self.inside.table.held - 1)
-is_last g c = IsAt-last_at c.self.inside.table.held c.in_ok-back.ensures.last
-
-pub remove_at-requires : goal.remove_at-requires
-remove_at-requires g c = last_held (Last-last_at c.self.inside.table.held c.in_ok-back.ensures.last refl)
+    (length (pairs_of c.self.inside.table.held) - 1)
+is_last g c = IsAt-last c.self.inside.table.held c.in_ok-back.ensures.last
 
 pub invariant_of-self : goal.invariant_of-self
 invariant_of-self g c = IsKept-removed _ _ (c.remove_at.ensures.others _ (is_last g c)) (IsAt-within _ _ (is_last g c))
     c.self.invariant c.remove_at.ensures.keeps.capacity
 
-pub returns-clause-pair : goal.returns-clause-pair
-returns-clause-pair g c =
-    let hs = c.self.inside.table.held in
-    rw (← c.self.view_is) (sym (ap (λ n. slice_get (pairs_of hs) (n - 1)) (length-pairs_of hs)
-    ∙ c.remove_at.ensures.pair _ (is_last g c)))
-
-pub returns-clause-pairs : goal.returns-clause-pairs
-returns-clause-pairs g c =
-    let hs = c.self.inside.table.held in
-    rw (← c.self.view_is) (pairs-removed _ _ (c.remove_at.ensures.others _ (is_last g c))
-    ∙ ap (λ n. remove (pairs_of hs) (n - 1)) (sym (length-pairs_of hs)) ∙ remove-last (pairs_of hs))
-
-pub returns-clause-valid : goal.returns-clause-valid
-returns-clause-valid g c = IsValid-view c.self.inside c.self.view_is c.self.invariant
-
-pub returns-clause-stays_valid : goal.returns-clause-stays_valid
-returns-clause-stays_valid g c = IsValid-kept _ (invariant_of-self g c) refl refl refl
-
-pub returns-clause-updates : goal.returns-clause-updates
-returns-clause-updates g c = Updates-take_but_last g.met.K.Eq.laws c.args.self.now.pairs
-    (pairs_of c.remove_at.new.self.held) c.remove_at.result (returns-clause-valid g c).distinct
-    (sym (returns-clause-pair g c)) (returns-clause-pairs g c)
-
-pub returns-clause-gone : goal.returns-clause-gone
-returns-clause-gone g c = find-none g.K.PartialEq.eq (pairs_of c.remove_at.new.self.held)
-    c.remove_at.result.0 (returns-clause-updates g c).here
+pub returns : goal.returns
+returns g c =
+    let ps = pairs_of c.self.inside.table.held in let taken = c.remove_at.ensures in
+    let valid = IsValid-view c.self.inside refl c.self.invariant in let pair = taken.pair _ (is_last g c) in
+    let pairs = pairs-removed c.self.inside.table.held _ (taken.others _ (is_last g c)) ∙ remove-last ps in
+    let updates = Updates-take_but_last g.met.K.Eq.laws ps (pairs_of c.remove_at.new.self.held) c.remove_at.result valid.distinct pair pairs in
+    rw (← c.self.view_is) (record {
+      pair = sym pair;
+      pairs = pairs;
+      keeps = search rules;
+      ends_visit = search rules;
+      valid = valid;
+      stays_valid = IsValid-kept _ (invariant_of-self g c) refl refl refl;
+      updates = updates;
+      gone = find-none g.K.PartialEq.eq _ _ updates.here;
+    })

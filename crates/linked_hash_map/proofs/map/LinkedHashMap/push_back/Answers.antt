@@ -1,4 +1,4 @@
-use Rattle.std.proofs.Common.{◌≡◌, ◌<◌, None, length, refl, sym, subst, arith}
+use Rattle.std.proofs.Common.{rules, ◌≡◌, ◌<◌, None, length, refl, sym, subst, arith}
 use Rattle.linked_hash_map.specs.LinkedMap.{LinkedMap, cursor_state}
 use Rattle.linked_hash_map.specs.Nodes.{pairs_of, unvisited_of}
 use Rattle.linked_hash_map.specs.Hashers.{hash_by}
@@ -33,25 +33,15 @@ invariant_of-self g c =
     c.push_back.ensures.last c.self.invariant g.met.K.Eq.laws given.1.1 given.1.0 (omega (arith, given.0, of_pairs))
     c.push_back.ensures.keeps.capacity
 
-pub returns-clause-pairs : goal.returns-clause-pairs
-returns-clause-pairs g c =
+pub returns : goal.returns
+returns g c =
     let u = held (pointer_of c.push_back.result) c.args.hash None (c.args.key, c.args.value) in
-    rw (← c.self.view_is)
-    (pairs_of-push c.self.inside.table.held u c.push_back.ensures.last)
-
-pub returns-clause-cursor : goal.returns-clause-cursor
-returns-clause-cursor g c =
-    let u = held (pointer_of c.push_back.result) c.args.hash None (c.args.key, c.args.value) in
-    let m = c.self.inside in let last = c.push_back.ensures.last in
-    rw (← c.self.view_is) (λ i. cursor_state
-    (bookmark_at-push m.table.held u last c.self.invariant i) (unvisited_of m.visit)
-    (current_at-push m.table.held u last c.self.invariant i))
-
-pub returns-clause-to_visit : goal.returns-clause-to_visit
-returns-clause-to_visit g c =
-    let u = held (pointer_of c.push_back.result) c.args.hash None (c.args.key, c.args.value) in
-    rw (← c.self.view_is)
-    (to_visit-push c.self.inside.table.held u c.push_back.ensures.last c.self.invariant)
-
-pub returns-clause-stays_valid : goal.returns-clause-stays_valid
-returns-clause-stays_valid g c = IsValid-kept _ (invariant_of-self g c) refl refl refl
+    let m = c.self.inside in let hs = m.table.held in let last = c.push_back.ensures.last in
+    rw (← c.self.view_is) (record {
+      pairs = pairs_of-push hs u last;
+      keeps = search rules;
+      cursor = λ i. cursor_state (bookmark_at-push hs u last c.self.invariant i) (unvisited_of m.visit)
+          (current_at-push hs u last c.self.invariant i);
+      to_visit = to_visit-push hs u last c.self.invariant;
+      stays_valid = IsValid-kept _ (invariant_of-self g c) refl refl refl;
+    })

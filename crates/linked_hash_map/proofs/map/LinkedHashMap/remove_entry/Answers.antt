@@ -1,10 +1,10 @@
-use Rattle.std.proofs.Common.{◌≡◌, List, take, drop, Some, None, refl, sym, ap, ◌∙◌}
+use Rattle.std.proofs.Common.{rules, ◌≡◌, List, take, drop, Some, None, refl, sym, ap, ◌∙◌}
 use Rattle.std.specs.Map.{keys_of}
 use Rattle.linked_hash_map.specs.Nodes.{pairs_of, bare, bookmark_at, bookmark_of, unvisited_of}
 use Rattle.linked_hash_map.specs.Pairs.{find}
 use Rattle.linked_hash_map.proofs.lists.Options.{of-Some, of-None}
 use Rattle.linked_hash_map.proofs.pairs.Calls.{filter-none}
-use Rattle.linked_hash_map.proofs.nodes.Kept.{distinct_keys, IsValid-kept}
+use Rattle.linked_hash_map.proofs.nodes.Kept.{distinct_keys, IsValid-kept, IsValid-view}
 use Rattle.linked_hash_map.proofs.nodes.AbsentKeys.{hash_by-respects, find-LacksKey}
 use Rattle.linked_hash_map.proofs.nodes.FoundKeys.{index_of-HasKey}
 use Rattle.linked_hash_map.proofs.nodes.StoredKeys.{find-stored, without-stored, UpdatesBy-without, length-without_stored, UpdatesBy-absent}
@@ -56,38 +56,21 @@ invariant_of-self-2 g c =
     IsKept-removed _ _ (remove-at _ _ (IsAt-index_of _ c.self.inside.table.held lies) removed.others) lies
     c.self.invariant c.remove.ensures.keeps.capacity
 
-pub returns-clause-pair : goal.returns-clause-pair
-returns-clause-pair g c =
-    let m = c.self.inside in let removed = of-Some _ c.in_ok-pair.was c.remove.ensures.removed in let held = removed.has.held in
-    rw (← c.self.view_is) (
-    ap Some (removed.pair_is held.before held.node held.after held.is held.at_is)
-    ∙ sym (find-stored g.met.K.Eq.laws (g.met.Q.Equivalent.respects_eq c.args.key) removed.has
-    (distinct_keys m.table.held c.self.invariant))
-    )
-
-pub returns-clause-pairs : goal.returns-clause-pairs
-returns-clause-pairs g c =
-    let m = c.self.inside in let removed = of-Some _ c.in_ok-pair.was c.remove.ensures.removed in
-    rw (← c.self.view_is) (
-    without-stored g.met.K.Eq.laws (g.met.Q.Equivalent.respects_eq c.args.key) removed.has
-    (distinct_keys m.table.held c.self.invariant) removed.others
-    )
-
-pub returns-clause-updates : goal.returns-clause-updates
-returns-clause-updates g c =
-    let m = c.self.inside in let removed = of-Some _ c.in_ok-pair.was c.remove.ensures.removed in
-    rw (← c.self.view_is) (
-    UpdatesBy-without g.met.K.Eq.laws (g.met.Q.Equivalent.respects_eq c.args.key) removed.has
-    (distinct_keys m.table.held c.self.invariant) removed.others
-    )
-
-pub returns-clause-fewer : goal.returns-clause-fewer
-returns-clause-fewer g c =
-    let m = c.self.inside in let removed = of-Some _ c.in_ok-pair.was c.remove.ensures.removed in
-    rw (← c.self.view_is) (
-    length-without_stored g.met.K.Eq.laws (g.met.Q.Equivalent.respects_eq c.args.key) removed.has
-    (distinct_keys m.table.held c.self.invariant) removed.others
-    )
-
-pub returns-clause-stays_valid : goal.returns-clause-stays_valid
-returns-clause-stays_valid g c = IsValid-kept _ (invariant_of-self-2 g c) refl refl refl
+pub returns : goal.returns
+returns g c =
+    let hs = c.self.inside.table.held in let removed = of-Some _ c.in_ok-pair.was c.remove.ensures.removed in
+    let at = removed.has.held in let laws = g.met.K.Eq.laws in let respects = g.met.Q.Equivalent.respects_eq c.args.key in
+    let distinct = distinct_keys hs c.self.invariant in
+    rw (← c.self.view_is) (record {
+      pair = ap Some (removed.pair_is at.before at.node at.after at.is at.at_is)
+          ∙ sym (find-stored laws respects removed.has distinct);
+      pairs = without-stored laws respects removed.has distinct removed.others;
+      keeps = search rules;
+      ends_visit = search rules;
+      to_visit = search rules;
+      valid = IsValid-view c.self.inside refl c.self.invariant;
+      stays_valid = IsValid-kept _ (invariant_of-self-2 g c) refl refl refl;
+      updates = UpdatesBy-without laws respects removed.has distinct removed.others;
+      fewer = length-without_stored laws respects removed.has distinct removed.others;
+      same = search rules;
+    })

@@ -1,27 +1,31 @@
-use Rattle.std.proofs.Common.{◌≡◌, ℕ, ◌+◌, ◌<◌, ◌≤◌, ◌⊎◌, IsTrue, Some, slice_get, length, option_map, sym, ap, ◌∙◌, subst}
+use Rattle.std.proofs.Common.{◌≡◌, ℕ, ◌+◌, ◌<◌, ◌≤◌, ◌⊎◌, IsTrue, Some, slice_get, length, sym, ap, ◌∙◌, subst}
 use Rattle.linked_hash_map.specs.LinkedMap.{LinkedMap}
 use Rattle.linked_hash_map.specs.Nodes.{pairs_of, bare, beside, visit_of, current_of, current_at}
 use Rattle.linked_hash_map.specs.Indexes.{IsIndex}
 use Rattle.linked_hash_map.proofs.nodes.AbsentKeys.{hash_by-respects}
-use Rattle.linked_hash_map.proofs.nodes.Current.{current_of-Some, current_at-Some, CutAt-current, IsElsewhere-current}
-use Rattle.linked_hash_map.proofs.nodes.CutNodes.{CutAt, slice_get-held}
-use Rattle.linked_hash_map.proofs.nodes.Current.{MovesCurrent-nodes}
+use Rattle.linked_hash_map.proofs.nodes.Current.{current_at-Some, IsAt-current, IsCurrent-outside, MovesCurrent-nodes}
+use Rattle.linked_hash_map.proofs.nodes.CutNodes.{CutAt, CutAt-index_of, held-at, part-at, slice_get-held}
 use Rattle.linked_hash_map.proofs.nodes.Kept.{distinct_keys}
-use Rattle.linked_hash_map.proofs.nodes.Outside.{IsElsewhere}
+use Rattle.linked_hash_map.proofs.nodes.Outside.{IsElsewhere, IsCurrent}
 use Rattle.linked_hash_map.proofs.nodes.ReplacedKey.{index_of-rekeyed, cursor_at-rekeyed, slice_get-rekeyed}
 use Rattle.linked_hash_map.proofs.nodes.ReplacedKey.{to_visit-rekeyed, set_key-rekeyed, IsKept-rekeyed}
 use Rattle.linked_hash_map.proofs.map.LinkedHashMap.replace_current_key.Goals as goal
 use Rattle.lhm_ring.proofs.lists.Options.{Some-injective}
 use Rattle.lhm_ring.specs.Pointer.{pointer_of}
 
--- the current pair's node
+-- the current pair's node, which is none of those to visit
+now : (g : _) (c : goal.After-replace_key g)
+    → IsCurrent (visit_of c.self.inside.visit) c.self.inside.table.held (pointer_of c.unwrap-at.result)
+now g c = IsCurrent-outside c.self.inside.table.held c.self.invariant c.current.ensures c.unwrap-at.ensures c.args.self.now
+    (ap (λ m. m.cursor) c.self.view_is) c.requires.outside
+
 cut : (g : _) (c : goal.After-replace_key g) → CutAt (pointer_of c.unwrap-at.result) c.self.inside.table.held
-cut g c = CutAt-current c.self.inside.table.held c.self.invariant c.current.ensures c.unwrap-at.ensures
+cut g c = CutAt-index_of _ c.self.inside.table.held (now g c).lies
 
 -- its index
 index : (g : _) (c : goal.After-replace_key g)
     → current_at (current_of c.self.inside.visit) (bare c.self.inside.table.held) ≡ length (cut g c).held.before
-index g c = current_at-Some (current_of-Some c.current.ensures c.unwrap-at.ensures) c.self.inside.table.held ∙ sym (cut g c).long
+index g c = current_at-Some (now g c).is c.self.inside.table.held ∙ sym (cut g c).long
 
 -- its key is the same
 same : (g : _) (c : goal.After-replace_key g) → IsTrue (g.K.PartialEq.eq c.args.key (cut g c).held.node.pair.0)
@@ -35,7 +39,7 @@ same g c =
     ∙ there.same
 
 pub replace_key-requires : goal.replace_key-requires
-replace_key-requires g c = (CutAt-current c.self.inside.table.held c.self.invariant c.current.ensures c.unwrap-at.ensures).held
+replace_key-requires g c = held-at _ _ (IsAt-current c.self.inside.table.held c.self.invariant c.current.ensures c.unwrap-at.ensures)
 
 pub invariant_of-self : goal.invariant_of-self
 invariant_of-self g c =
@@ -47,11 +51,9 @@ invariant_of-self g c =
 
 pub returns-clause-stored : goal.returns-clause-stored
 returns-clause-stored g c =
-    let hs = c.self.inside.table.held in let h = (cut g c).held in
-    rw (← c.self.view_is)
-    (ap (λ i. option_map (λ pair. pair.0) (slice_get (pairs_of hs) i)) (index g c)
-    ∙ ap (option_map (λ pair. pair.0)) (slice_get-held h)
-    ∙ ap Some (sym (c.replace_key.ensures.old h.before h.node h.after h.is h.at_is)))
+    let hs = c.self.inside.table.held in
+    rw (← c.self.view_is) (part-at hs _ (IsAt-current hs c.self.invariant c.current.ensures c.unwrap-at.ensures) (λ pair. pair.0)
+    c.replace_key.ensures.old)
 
 pub returns-clause-pairs : goal.returns-clause-pairs
 returns-clause-pairs g c =
@@ -62,12 +64,10 @@ pub returns-clause-moves : goal.returns-clause-moves
 returns-clause-moves g c =
     let m = c.self.inside in let hs = m.table.held in let ks = c.replace_key.new.self.held in
     let visit = visit_of m.visit in let h = (cut g c).held in let rekeyed = c.replace_key.ensures.held in
-    let is = current_of-Some c.current.ensures c.unwrap-at.ensures in
     let as_before = index_of-rekeyed h c.args.key rekeyed (pointer_of c.unwrap-at.result) in
     let bookmark = ap (λ cursor. cursor.bookmark) (cursor_at-rekeyed h c.args.key rekeyed visit) in
-    let elsewhere = IsElsewhere-current hs c.self.invariant is c.args.self.now (ap (λ m. m.cursor) c.self.view_is)
-    c.requires.outside in
-    rw (← c.self.view_is) (MovesCurrent-nodes m.table c.replace_key.new.self (beside m) is c.self.invariant
+    let elsewhere = (now g c).elsewhere in
+    rw (← c.self.view_is) (MovesCurrent-nodes m.table c.replace_key.new.self (beside m) (now g c).is c.self.invariant
     (λ pair there. ap (slice_get (pairs_of ks)) (as_before ∙ sym (cut g c).long) ∙ slice_get-rekeyed h c.args.key rekeyed
     ∙ ap (λ p. Some (c.args.key, p.1))
     (Some-injective _ _ (sym (slice_get-held h) ∙ ap (slice_get (pairs_of hs)) (cut g c).long ∙ there)))

@@ -1,4 +1,4 @@
-use Rattle.std.proofs.Common.{◌≡◌, Some, None, map, take, drop, length, option_map, refl, sym, ap, ◌∙◌}
+use Rattle.std.proofs.Common.{rules, ◌≡◌, Some, None, map, take, drop, length, option_map, refl, sym, ap, ◌∙◌}
 use Rattle.std.specs.Map.{keys_of}
 use Rattle.std.proofs.lemmas.List.{take-map, drop-map}
 use Rattle.linked_hash_map.specs.Nodes.{pairs_of, bare, bookmark_at, visit_of}
@@ -6,7 +6,7 @@ use Rattle.linked_hash_map.specs.Pairs.{find, value_at, replaced, set_key}
 use Rattle.linked_hash_map.proofs.Callers.ReplacedKeys.{keys_of-set_key, value_at-set_key, length-set_key, set_key-absent}
 use Rattle.linked_hash_map.proofs.lists.Options.{of-Some, of-None}
 use Rattle.linked_hash_map.proofs.nodes.AbsentKeys.{hash_by-respects}
-use Rattle.linked_hash_map.proofs.nodes.Kept.{distinct_keys, IsValid-kept}
+use Rattle.linked_hash_map.proofs.nodes.Kept.{distinct_keys, IsValid-kept, IsValid-view}
 use Rattle.linked_hash_map.proofs.nodes.ReplacedKey.{cursor_at-rekeyed, set_key-rekeyed, IsKept-rekeyed}
 use Rattle.linked_hash_map.proofs.map.LinkedHashMap.replace_key.Goals as goal
 use Rattle.lhm_ring.specs.Pointer.{pointer_of}
@@ -47,44 +47,31 @@ invariant_of-self g c =
     g.met.K.Hash.respects_eq c.self.inside.hasher c.args.key h.node.pair.0 same)
     c.replace_key.ensures.keeps.capacity
 
-pub returns-in-Some-clause-stored : goal.returns-in-Some-clause-stored
-returns-in-Some-clause-stored g c =
+pub returns-in-Some : goal.returns-in-Some
+returns-in-Some g c =
     let it = of-Some _ c.in-Some.is c.locate-found.ensures.found in let h = it.has.held in
-    rw (← c.self.view_is)
-    (ap (option_map (λ pair. pair.0)) it.pair
-    ∙ ap Some (sym (c.replace_key.ensures.old h.before h.node h.after h.is h.at_is)))
-
-pub returns-in-Some-clause-pairs : goal.returns-in-Some-clause-pairs
-returns-in-Some-clause-pairs g c = rw (← c.self.view_is) (pairs g c)
-
-pub returns-in-Some-clause-to_visit : goal.returns-in-Some-clause-to_visit
-returns-in-Some-clause-to_visit g c =
-    let hs = c.self.inside.table.held in let visit = visit_of c.self.inside.visit in
-    let keys = keys_of (pairs_of hs) in let b = bookmark_at visit.bookmark (bare hs) in
-    let f = replaced g.K.PartialEq.eq c.args.key in
-    rw (← c.self.view_is)
-    (ap (λ start. take visit.unvisited (drop start (keys_of (pairs_of c.replace_key.new.self.held))))
-    (ap (λ cursor. cursor.bookmark) (cursor_at-rekeyed (has g c).held c.args.key c.replace_key.ensures.held visit))
-    ∙ ap (λ ps. take visit.unvisited (drop b (keys_of ps))) (pairs g c)
-    ∙ ap (λ ks. take visit.unvisited (drop b ks)) (keys_of-set_key g.K.PartialEq.eq (pairs_of hs) c.args.key)
-    ∙ ap (take visit.unvisited) (drop-map f b keys)
-    ∙ take-map f visit.unvisited (drop b keys))
-
-pub returns-in-Some-clause-stays_valid : goal.returns-in-Some-clause-stays_valid
-returns-in-Some-clause-stays_valid g c = IsValid-kept _ (invariant_of-self g c) refl refl refl
-
-pub returns-in-Some-clause-keys : goal.returns-in-Some-clause-keys
-returns-in-Some-clause-keys g c =
-    rw (← c.self.view_is) (ap keys_of (pairs g c) ∙ keys_of-set_key g.K.PartialEq.eq (pairs_of c.self.inside.table.held) c.args.key)
-
-pub returns-in-Some-clause-values : goal.returns-in-Some-clause-values
-returns-in-Some-clause-values g c =
-    rw (← c.self.view_is) (λ q. ap (λ ps. value_at g.K.PartialEq.eq ps q) (pairs g c)
-    ∙ value_at-set_key g.met.K.Eq.laws (pairs_of c.self.inside.table.held) c.args.key q)
-
-pub returns-in-Some-clause-len : goal.returns-in-Some-clause-len
-returns-in-Some-clause-len g c =
-    rw (← c.self.view_is) (ap length (pairs g c) ∙ length-set_key g.K.PartialEq.eq (pairs_of c.self.inside.table.held) c.args.key)
+    let eq = g.K.PartialEq.eq in let k = c.args.key in let f = replaced eq k in let new = c.replace_key.new.self.held in
+    let visit = visit_of c.self.inside.visit in let ps = pairs_of c.self.inside.table.held in
+    let b = bookmark_at visit.bookmark (bare c.self.inside.table.held) in
+    rw (← c.self.view_is) (record {
+      stored = ap (option_map (λ pair. pair.0)) it.pair ∙ ap Some (sym (c.replace_key.ensures.old h.before h.node h.after h.is h.at_is));
+      pairs = pairs g c;
+      keeps = search rules;
+      to_visit =
+          ap (λ start. take visit.unvisited (drop start (keys_of (pairs_of new))))
+          (ap (λ cursor. cursor.bookmark) (cursor_at-rekeyed (has g c).held k c.replace_key.ensures.held visit))
+          ∙ ap (λ qs. take visit.unvisited (drop b (keys_of qs))) (pairs g c)
+          ∙ ap (λ ks. take visit.unvisited (drop b ks)) (keys_of-set_key eq ps k)
+          ∙ ap (take visit.unvisited) (drop-map f b (keys_of ps)) ∙ take-map f visit.unvisited (drop b (keys_of ps));
+      valid = IsValid-view c.self.inside refl c.self.invariant;
+      stays_valid = IsValid-kept _ (invariant_of-self g c) refl refl refl;
+      keys = ap keys_of (pairs g c) ∙ keys_of-set_key eq ps k;
+      values = λ q. ap (λ qs. value_at eq qs q) (pairs g c) ∙ value_at-set_key g.met.K.Eq.laws ps k q;
+      len = ap length (pairs g c) ∙ length-set_key eq ps k;
+      key_back = tt;
+      unchanged = tt;
+      absent = tt;
+    })
 
 pub returns-in-None-clause-pairs : goal.returns-in-None-clause-pairs
 returns-in-None-clause-pairs g c =

@@ -5,8 +5,10 @@ use Rattle.linked_hash_map.proofs.sessions.Sessions.plan_put.Goals as goal
 
 pub overflow_sub-others : goal.overflow_sub-others
 overflow_sub-others g c =
-    omega (arith, total_weight-others c.self.invariant c.args.id, c.unwrap_or.ensures ∙ ap (λ o. unwrap_or o 0) c.weight_at-replaced.ensures)
+    let weight = c.unwrap_or.ensures ∙ ap (λ o. unwrap_or o 0) c.weight_at-replaced.ensures in
+    omega (arith, total_weight-others c.self.invariant c.args.id, weight)
 
 pub find_leaving-leaving-requires : goal.find_leaving-leaving-requires
 find_leaving-leaving-requires g c =
-    omega (arith, total_weight-others c.self.invariant c.args.id, c.unwrap_or.ensures ∙ ap (λ o. unwrap_or o 0) c.weight_at-replaced.ensures)
+    let weight = c.unwrap_or.ensures ∙ ap (λ o. unwrap_or o 0) c.weight_at-replaced.ensures in
+    omega (arith, total_weight-others c.self.invariant c.args.id, weight)

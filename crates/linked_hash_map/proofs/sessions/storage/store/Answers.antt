@@ -38,7 +38,8 @@ returns-then-is_new-clause-gone g c =
 pub returns-then-is_new-clause-old : goal.returns-then-is_new-clause-old
 returns-then-is_new-clause-old g c =
     c.insert_newest.ensures.old ∙ ap (λ ps. payload_of (sessions_of ps) c.args.session.0) c.remove_oldest.ensures.pairs
-    ∙ payload_of-drop_new c.args.map.now.pairs c.args.count c.args.session.0 (c.requires.present ∙ ap not c.if-is_new.true) c.requires.enough
+    ∙ payload_of-drop_new c.args.map.now.pairs c.args.count c.args.session.0
+    (c.requires.present ∙ ap not c.if-is_new.true) c.requires.enough
 
 pub insert_newest-old-requires-clause-room : goal.insert_newest-old-requires-clause-room
 insert_newest-old-requires-clause-room g c = λ none.
