@@ -1,9 +1,9 @@
 //! The ring: the held nodes in order, and the spare ones.
-ghost use Rattle.std.specs.Prelude.{◌≡◌, ◌+◌, ◌≤◌, ◌^◌, [], length, IfOk, IsOk, ◌∷◌, ◌++◌, map, ◌-◌, ◌<◌, None, true};
+ghost use Rattle.std.specs.Prelude.{◌≡◌, ◌+◌, ◌≤◌, ◌^◌, [], length, IfOk, IsOk, ◌∷◌, ◌++◌, map, ◌-◌, ◌<◌, None, Some, true, IfSome};
 ghost use Rattle.std.specs.Borrow.{sem};
-ghost use Rattle.lhm_ring.specs.Ring.{triples, IsHeld, AtHeld, ChangesOnly, linked_to, rekeyed, first_at, last_at, held};
+ghost use Rattle.lhm_ring.specs.Ring.{triples, IsHeld, AtHeld, BeforeHeld, ChangesOnly, linked_to, rekeyed, first_at, last_at, held};
 ghost use Rattle.lhm_ring.specs.Nodes.{IsApart, AreBlocks, IsAt};
-ghost use Rattle.lhm_ring.specs.Links.{ring_cells, IsJoined, LeadsOn, LeadsBack, ChainsTo, is_there};
+ghost use Rattle.lhm_ring.specs.Links.{ring_cells, IsJoined, LeadsOn, LeadsBack, ChainsTo, is_there, next_at, prev_at};
 
 pub use crate::drain::Drain;
 use crate::grow::free_chunks;
@@ -270,8 +270,33 @@ impl<K, V> Ring<K, V> {
 }
 
 impl<K, V> Ring<K, V> {
-    ghost use Rattle.lhm_ring.specs.Pointer.{pointer_of};
+    ghost use Rattle.lhm_ring.specs.Pointer.{pointer_of, pointer_of_some};
     ghost use Rattle.lhm_ring.specs.Ring.{pair};
+
+    /// Moves the triple at a position before another, or to the back. The others keep their order,
+    /// and positions stay. Before itself it stays.
+    pub fn move_before(&mut self, at: Position<K, V>, before: Option<Position<K, V>>)
+        requires at { IsHeld self.old.held (pointer_of at) }
+        requires before { IfSome before (λ next. IsHeld self.old.held (pointer_of next)) }
+        ensures moved { AtHeld self.old.held (pointer_of at) (λ xs t ys.
+            BeforeHeld (xs ++ ys) (pointer_of_some before) (λ us vs.
+            self.new.held ≡ us ++ t ∷ vs)) }
+        ensures stays { pointer_of_some before ≡ Some (pointer_of at) →
+            self.new.held ≡ self.old.held }
+        ensures spares { self.new.spares ≡ self.old.spares }
+        ensures nodes { self.new.nodes ≡ self.old.nodes }
+        ensures apart { IsApart (map (λ t. t.at) self.old.held) }
+    {
+        let links = *self.nodes.links(at.pointer);
+        let moved = Link::to(at.pointer);
+        let place = Link::of(before);
+        join(&mut self.nodes, &mut self.ends, links.prev, links.next);
+        // Read once the node is out: before itself, these are the two that it was between.
+        let previous = prev_of(&self.nodes, &self.ends, place);
+        let next = next_of(&self.nodes, &self.ends, previous);
+        join(&mut self.nodes, &mut self.ends, previous, moved);
+        join(&mut self.nodes, &mut self.ends, moved, next);
+    }
 
     /// Moves the triple at a position to the back. The others keep their order, and positions stay.
     pub fn move_to_back(&mut self, at: Position<K, V>)
@@ -396,6 +421,32 @@ pub(crate) fn join<K, V>(nodes: &mut Nodes<Links, K, V>, ends: &mut Ends, a: Lin
 {
     set_next(nodes, ends, a, b);
     set_prev(nodes, ends, b, a);
+}
+
+/// Returns the link to the node behind the one at `at`, or to the front.
+#[inline]
+fn next_of<K, V>(nodes: &Nodes<Links, K, V>, ends: &Ends, at: Link) -> Link
+    requires { is_there (ring_cells ends.now nodes.now.cells) at.ptr ≡ true }
+    ensures { result.ptr ≡ next_at (ring_cells ends.now nodes.now.cells) at.ptr }
+{
+    let there: Option<Position<K, V>> = at.get();
+    match there {
+        Some(at) => nodes.links(at.pointer).next,
+        None => ends.first,
+    }
+}
+
+/// Returns the link to the node before the one at `at`, or to the back.
+#[inline]
+fn prev_of<K, V>(nodes: &Nodes<Links, K, V>, ends: &Ends, at: Link) -> Link
+    requires { is_there (ring_cells ends.now nodes.now.cells) at.ptr ≡ true }
+    ensures { result.ptr ≡ prev_at (ring_cells ends.now nodes.now.cells) at.ptr }
+{
+    let there: Option<Position<K, V>> = at.get();
+    match there {
+        Some(at) => nodes.links(at.pointer).prev,
+        None => ends.last,
+    }
 }
 
 /// Makes the node at `at`, or the front, lead on to `next`.

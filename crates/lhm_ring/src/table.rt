@@ -3,7 +3,7 @@ ghost use Rattle.std.specs.Prelude.{◌≡◌, ℕ, ◌+◌, ◌-◌, ◌<◌, �
 ghost use Rattle.lhm_ring.specs.Nodes.{IsApart};
 ghost use Rattle.lhm_ring.specs.Ring.{IsHeld, AtHeld, first_at, last_at, held, pair, rekeyed};
 ghost use Rattle.lhm_ring.specs.Pointer.{pointer_of, pointer_of_some};
-ghost use Rattle.lhm_ring.specs.Positions.{IsAt, index_of, to_back_at, to_front_at};
+ghost use Rattle.lhm_ring.specs.Positions.{IsAt, PlaceAt, index_of, to_back_at, to_front_at, to_before_at};
 ghost use Rattle.lhm_ring.specs.Index.{spots, entries};
 ghost use Rattle.lhm_ring.specs.Search.{HasKey, LacksKey, CountsSome, CountsAll};
 ghost use Rattle.lhm_ring.specs.Buckets.{buckets};
@@ -189,6 +189,19 @@ impl<K, V> Table<K, V> {
         ensures keeps { KeepsCounts self.old self.new }
     {
         self.ring.replace_key(at, key)
+    }
+
+    /// Moves the pair at a position before that at another, or to the back for `None`. Positions
+    /// stay.
+    pub fn move_before(&mut self, at: Position<K, V>, before: Option<Position<K, V>>)
+        requires at { IsHeld self.old.held (pointer_of at) }
+        requires before { IfSome before (λ next. IsHeld self.old.held (pointer_of next)) }
+        ensures held { (i j : ℕ) → IsAt self.old.held (pointer_of at) i →
+            PlaceAt self.old.held (pointer_of_some before) j →
+            self.new.held ≡ to_before_at self.old.held i j }
+        ensures keeps { KeepsCounts self.old self.new }
+    {
+        self.ring.move_before(at, before);
     }
 
     /// Moves the pair at a position to the back. Positions stay.

@@ -19,6 +19,10 @@ module _ {X : Type 0} (P : X → Type 0) where
   AllByRecursion-removed xs x ys a =
       AllByRecursion-append xs ys (AllByRecursion-left xs (x ∷ ys) a) (AllByRecursion-right xs (x ∷ ys) a).1
 
+  pub AllByRecursion-inserted : (xs : List X) (x : X) (ys : List X) → P x → AllByRecursion P (xs ++ ys) → AllByRecursion P (xs ++ x ∷ ys)
+  AllByRecursion-inserted [] x ys h a = (h, a)
+  AllByRecursion-inserted (y ∷ xs) x ys h a = (a.0, AllByRecursion-inserted xs x ys h a.1)
+
   pub AllByRecursion-map : (Q : X → Type 0) → ((x : X) → P x → Q x) → (xs : List X) → AllByRecursion P xs → AllByRecursion Q xs
   AllByRecursion-map Q f [] a = tt
   AllByRecursion-map Q f (x ∷ xs) a = (f x a.0, AllByRecursion-map Q f xs a.1)

@@ -1,9 +1,13 @@
--- The last element of a list.
+-- The last element of a list, and the first, or another one if it is empty.
 use Rattle.std.proofs.Common.{◌≡◌, List, [], ◌∷◌, ◌++◌, refl, ap}
 use Rattle.std.specs.List.{AllByRecursion}
 use Rattle.lhm_ring.specs.Ring.{SplitLast}
 
 module _ {X : Type 0} where
+  abbrev pub first_from : X → List X → X
+  first_from x [] = x
+  first_from x (y ∷ ys) = y
+
   abbrev pub last_from : X → List X → X
   last_from x [] = x
   last_from x (y ∷ ys) = last_from y ys
@@ -21,10 +25,10 @@ module _ {X : Type 0} where
             on.at_is;
       }
 
+  pub AllByRecursion-first : (P : X → Type 0) (x : X) (xs : List X) → P x → AllByRecursion P xs → P (first_from x xs)
+  AllByRecursion-first P x [] h a = h
+  AllByRecursion-first P x (y ∷ ys) h a = a.0
+
   pub AllByRecursion-last : (P : X → Type 0) (x : X) (xs : List X) → P x → AllByRecursion P xs → P (last_from x xs)
   AllByRecursion-last P x [] h a = h
   AllByRecursion-last P x (y ∷ ys) h a = AllByRecursion-last P y ys a.0 a.1
-
-  pub last_from-push : (x : X) (xs : List X) (p : X) → last_from x (xs ++ p ∷ []) ≡ p
-  last_from-push x [] p = refl
-  last_from-push x (y ∷ ys) p = last_from-push y ys p

@@ -2,7 +2,7 @@
 use Rattle.std.proofs.Common.{◌≡◌, List, [], ◌∷◌, ◌++◌, length, refl, sym, ap, ◌∙◌, append_assoc}
 use denote.RawPtr.{Ptr}
 use Rattle.lhm_ring.specs.declared.ring.Links.{Links}
-use Rattle.lhm_ring.proofs.lists.Last.{last_from}
+use Rattle.lhm_ring.proofs.lists.Last.{first_from, last_from}
 use Rattle.lhm_ring.specs.Nodes.{Cell}
 use Rattle.lhm_ring.specs.Links.{content_at, AreNeighbours, AreLinked, follow, listed, one_of}
 
@@ -18,6 +18,12 @@ module _ {B : Type 0} where
     RowCut-linked x [] p ys l = record { before = tt; edge = l.0; after = l.1 }
     RowCut-linked x (y ∷ xs) p ys l = let on = RowCut-linked y xs p ys l.1 in
         record { before = (l.0, on.before); edge = on.edge; after = on.after }
+
+    -- a row to z, cut in two
+    pub AreNeighbours-cut : (x : Ptr) (xs : List Ptr) (z : Ptr) (ys : List Ptr) → AreLinked cs (x ∷ (xs ++ (ys ++ z ∷ [])))
+        → AreNeighbours cs (last_from x xs) (first_from z ys)
+    AreNeighbours-cut x xs z [] l = (RowCut-linked x xs z [] l).edge
+    AreNeighbours-cut x xs z (y ∷ ys) l = (RowCut-linked x xs y (ys ++ z ∷ []) l).edge
 
     pub AreLinked-glued : (x : Ptr) (xs : List Ptr) (p : Ptr) (ys : List Ptr)
         → AreLinked cs (x ∷ xs) → AreNeighbours cs (last_from x xs) p → AreLinked cs (p ∷ ys)

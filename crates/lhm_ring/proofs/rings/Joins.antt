@@ -1,5 +1,5 @@
 -- Two nodes are joined: what stays of a row, a chain and contents, and the rows that come of it.
-use Rattle.std.proofs.Common.{◌≡◌, false, cond, List, [], ◌∷◌, ◌++◌, Option, refl, sym, ap, ◌∙◌, subst}
+use Rattle.std.proofs.Common.{◌≡◌, false, cond, List, [], ◌∷◌, ◌++◌, Option, refl, sym, ap, ◌∙◌, subst, append-nil, append_assoc}
 use Rattle.std.specs.List.{AllByRecursion}
 use denote.RawPtr.{Ptr}
 use Rattle.lhm_ring.specs.declared.ring.Links.{Links}
@@ -9,7 +9,7 @@ use Rattle.lhm_ring.proofs.lists.Apart.{IsFresh-middle, same_ptr-flip, IsApart-r
 use Rattle.lhm_ring.proofs.lists.ForAll.{AllByRecursion-map, AllByRecursion-always}
 use Rattle.lhm_ring.proofs.lists.ForAll.{AllByRecursion-append, AllByRecursion-left}
 use Rattle.lhm_ring.proofs.lists.ForAll.{AllByRecursion-right}
-use Rattle.lhm_ring.proofs.lists.Last.{last_from, AllByRecursion-last, last_from-push}
+use Rattle.lhm_ring.proofs.lists.Last.{first_from, last_from, AllByRecursion-last}
 use Rattle.lhm_ring.proofs.lists.LinkRows.{RowCut-linked, AreLinked-glued}
 use Rattle.lhm_ring.proofs.rings.SameNodes.{IsSpareList-same, SameLink}
 use Rattle.lhm_ring.specs.Nodes.{Cell, same_ptr, IsApart}
@@ -106,22 +106,63 @@ module _ {B : Type 0} where
       across.1)) (AllByRecursion-append P r (g ∷ []) (AllByRecursion-right P xs r free.1)
       (free.0, tt)) cut.after.1)
 
+  -- a node p comes between
+  pub AreLinked-inserted : {cs ds es : List (Cell Links B)} (g : Ptr) (xs : List Ptr) (p : Ptr)
+      (ys : List Ptr) → IsApart (g ∷ (xs ++ ys)) → IsFresh p (g ∷ (xs ++ ys))
+      → AreLinked cs (g ∷ (xs ++ (ys ++ g ∷ []))) → IsJoined cs ds (last_from g xs) p
+      → IsJoined ds es p (first_from g ys) → AreLinked es (g ∷ (xs ++ p ∷ (ys ++ g ∷ [])))
+  AreLinked-inserted {cs} {ds} {es} g xs p ys d free l j k = behind ys d free l k
+    where
+      Free : Ptr → Ptr → Type 0
+      Free q r = same_ptr q r ≡ false
+
+      ahead : (y : Ptr) → IsApart (g ∷ xs) → IsFresh p (g ∷ xs) → IsFresh y xs → Free y p → AreLinked cs (g ∷ xs)
+          → IsJoined ds es p y → AreLinked es (g ∷ (xs ++ p ∷ []))
+      ahead y a f h n row on =
+          AreLinked-unchanged on (g ∷ (xs ++ p ∷ [])) (AvoidsSource-but_last p g xs p f)
+          (AllByRecursion-append (Free y) xs (p ∷ []) h (n, tt))
+          (AreLinked-glued ds g xs p [] (AreLinked-unchanged j (g ∷ xs) (AvoidsSource-last g xs a) f.1 row)
+          (AreNeighbours-made j) tt)
+
+      behind : (zs : List Ptr) → IsApart (g ∷ (xs ++ zs)) → IsFresh p (g ∷ (xs ++ zs))
+          → AreLinked cs (g ∷ (xs ++ (zs ++ g ∷ []))) → IsJoined ds es p (first_from g zs)
+          → AreLinked es (g ∷ (xs ++ p ∷ (zs ++ g ∷ [])))
+      behind [] a f row on =
+          let cut = RowCut-linked cs g xs g [] row in
+          let whole = IsApart-left (g ∷ xs) [] a in
+          let made = ahead g whole (AllByRecursion-left (Free p) (g ∷ xs) [] f) (IsFresh-head g xs whole)
+          (same_ptr-flip p g f.0) cut.before on in
+          let c = RowCut-linked es g xs p [] made in
+          AreLinked-glued es g xs p (g ∷ []) c.before c.edge (AreNeighbours-made on, tt)
+      behind (z ∷ zs) a f row on =
+          let cut = RowCut-linked cs g xs z (zs ++ g ∷ []) row in
+          let whole = IsApart-left (g ∷ xs) (z ∷ zs) a in
+          let across = AllByRecursion-fresh_across (g ∷ xs) (z ∷ zs) a in
+          let apart = IsFresh-middle (g ∷ xs) z zs a in
+          let rest = AllByRecursion-right (Free p) xs (z ∷ zs) f.1 in
+          let made = ahead z whole (AllByRecursion-left (Free p) (g ∷ xs) (z ∷ zs) f)
+          (AllByRecursion-left (Free z) xs zs apart.1) (same_ptr-flip p z rest.0) cut.before on in
+          let c = RowCut-linked es g xs p [] made in
+          AreLinked-glued es g xs p (z ∷ (zs ++ g ∷ [])) c.before c.edge (
+            AreNeighbours-made on,
+            AreLinked-unchanged on (z ∷ (zs ++ g ∷ [])) (AvoidsSource-but_last p z zs g rest)
+                (AllByRecursion-append (Free z) zs (g ∷ []) (AllByRecursion-right (Free z) xs zs apart.1)
+                (apart.0, tt))
+                (AreLinked-unchanged j (z ∷ (zs ++ g ∷ []))
+                (AvoidsSource-but_last (last_from g xs) z zs g
+                (AllByRecursion-last (λ x. IsFresh x (z ∷ zs)) g xs across.0 across.1))
+                (AllByRecursion-append (Free p) zs (g ∷ []) rest.1 (f.0, tt)) cut.after),
+          )
+
   -- a node p comes last
   pub AreLinked-pushed : {cs ds es : List (Cell Links B)} (g : Ptr) (ps : List Ptr) (p : Ptr)
       → IsApart (g ∷ ps) → IsFresh p (g ∷ ps) → AreLinked cs (g ∷ (ps ++ g ∷ []))
       → IsJoined cs ds (prev_at cs g) p → IsJoined ds es p g → AreLinked es (g ∷ ((ps ++ p ∷ []) ++ g ∷ []))
   AreLinked-pushed {cs} {ds} {es} g ps p d free l j k =
-      let cut = RowCut-linked cs g ps g [] l in let a = last_from g ps in
-      let j' : IsJoined cs ds a p = subst (λ z. IsJoined cs ds z p) cut.edge.1 j in
-      let P : Ptr → Type 0 = λ q. same_ptr g q ≡ false in
-      let first : AreLinked ds (g ∷ (ps ++ p ∷ [])) = AreLinked-glued ds g ps p []
-      (AreLinked-unchanged j' (g ∷ ps) (AvoidsSource-last g ps d) free.1 cut.before)
-      (AreNeighbours-made j') tt in
-      let second : AreLinked es (g ∷ (ps ++ p ∷ [])) = AreLinked-unchanged k (g ∷ (ps ++ p ∷ []))
-      (AvoidsSource-but_last p g ps p free) (AllByRecursion-append P ps (p ∷ [])
-      (IsFresh-head g ps d) (same_ptr-flip p g free.0, tt)) first in
-      AreLinked-glued es g (ps ++ p ∷ []) g [] second (subst (λ z. AreNeighbours es z g)
-      (sym (last_from-push g ps p)) (AreNeighbours-made k)) tt
+      let none = sym (append-nil ps) in
+      subst (λ qs. AreLinked es (g ∷ qs)) (sym (append_assoc ps (p ∷ []) (g ∷ [])))
+      (AreLinked-inserted g ps p [] (subst (λ qs. IsApart (g ∷ qs)) none d) (subst (λ qs. IsFresh p (g ∷ qs)) none free) l
+      (subst (λ z. IsJoined cs ds z p) (RowCut-linked cs g ps g [] l).edge.1 j) k)
 
   -- a node p comes first
   pub AreLinked-first : {cs ds es : List (Cell Links B)} (g : Ptr) (ps : List Ptr) (p : Ptr)

@@ -1,24 +1,44 @@
--- A node of a ring moves to the back, or to the front.
-use Rattle.std.proofs.Common.{◌≡◌, false, ℕ, suc, ◌+◌, List, [], ◌∷◌, ◌++◌, length, Option, Some}
-use Rattle.std.proofs.Common.{sym, ap, ◌∙◌, subst, append_assoc, arith, length-append}
+-- A node of a ring moves: before another one, to the back, or to the front.
+use Rattle.std.proofs.Common.{◌≡◌, Bool, true, false, cond, ℕ, suc, ◌+◌, List, [], ◌∷◌, ◌++◌, length, Option, Some, None}
+use Rattle.std.proofs.Common.{refl, sym, ap, ◌∙◌, subst, append_assoc, append-nil, arith, length-append, true≢false}
+use Rattle.std.specs.Prelude.{IfSome}
 use Rattle.std.specs.List.{AllByRecursion}
 use denote.RawPtr.{Ptr, null_ptr}
 use Rattle.lhm_ring.specs.declared.ring.Links.{Links}
 use Rattle.lhm_ring.specs.declared.pointer.Link.{Link}
+use Rattle.lhm_ring.specs.declared.pointer.Position.{Position}
 use Rattle.lhm_ring.proofs.lists.Apart.{IsFresh, IsApart-left, IsFresh-middle, IsApart-removed, IsApart-inserted}
+use Rattle.lhm_ring.proofs.lists.Apart.{same_ptr-flip, same_ptr-equal, same_ptr-reflexive}
+use Rattle.lhm_ring.proofs.lists.ForAll.{AllByRecursion-append, AllByRecursion-left, AllByRecursion-right, AllByRecursion-removed}
+use Rattle.lhm_ring.proofs.lists.ForAll.{AllByRecursion-inserted}
+use Rattle.lhm_ring.proofs.lists.Last.{first_from, last_from, AllByRecursion-first, AllByRecursion-last}
+use Rattle.lhm_ring.proofs.lists.LinkRows.{RowCut-linked, AreNeighbours-cut, listed-append}
+use Rattle.lhm_ring.proofs.lists.Splits.{SplitAround}
+use Rattle.lhm_ring.proofs.rings.Contents.{at-content}
 use Rattle.lhm_ring.proofs.rings.Joins.{IsSpareList-unchanged, AllByRecursion-content_unchanged}
 use Rattle.lhm_ring.proofs.rings.Joins.{AllByRecursion-there_unchanged, listed-unchanged}
-use Rattle.lhm_ring.proofs.rings.Joins.{AreLinked-removed, AreLinked-pushed, AreLinked-first}
-use Rattle.lhm_ring.proofs.lists.ForAll.{AllByRecursion-append, AllByRecursion-left, AllByRecursion-right, AllByRecursion-removed}
-use Rattle.lhm_ring.proofs.lists.Last.{AllByRecursion-last}
-use Rattle.lhm_ring.proofs.rings.RingNodes.{Found-held, NodeAt-held, ring_list-listed, ring_split}
-use Rattle.lhm_ring.proofs.lists.LinkRows.{RowCut-linked, listed-append}
+use Rattle.lhm_ring.proofs.rings.Joins.{AreLinked-removed, AreLinked-inserted, AreLinked-first}
+use Rattle.lhm_ring.proofs.rings.RingCells.{IsJoined-same, led_to-some, led_to-none}
+use Rattle.lhm_ring.proofs.rings.RingNodes.{Found-held, ListCut-listed, NodeAt-held, ring_list-listed, ring_split}
 use Rattle.lhm_ring.specs.Nodes.{Cell, IsApart, links_at, same_ptr}
-use Rattle.lhm_ring.specs.Links.{next_of, prev_of, next_at, prev_at, content_at, AreLinked}
+use Rattle.lhm_ring.specs.Links.{next_of, prev_of, next_at, prev_at, content_at, AreLinked, AreNeighbours}
 use Rattle.lhm_ring.specs.Links.{IsSpareList, HasContent, IsRing, listed, one_of, IsJoined}
 use Rattle.lhm_ring.specs.Links.{ring_list, IsOwned, IsThere}
-use Rattle.lhm_ring.specs.Ring.{state, Held, State, IsHeld, AtHeld}
-use Rattle.lhm_ring.proofs.lists.Splits.{SplitAround}
+use Rattle.lhm_ring.specs.Ring.{state, Held, State, IsHeld, AtHeld, BeforeHeld, first_at}
+use Rattle.lhm_ring.specs.Pointer.{led_to, pointer_of, pointer_of_some}
+
+-- one of some pointers, among the others than another one
+split_others : (xs : List Ptr) (p : Ptr) (ys us : List Ptr) (q : Ptr) (vs : List Ptr) → xs ++ p ∷ ys ≡ us ++ q ∷ vs
+    → same_ptr p q ≡ false → SplitAround (xs ++ ys) q
+split_others [] p ys [] q vs e n =
+    let same : p ≡ q = cc in absurd (true≢false (sym (same_ptr-reflexive p) ∙ ap (same_ptr p) same ∙ n))
+split_others [] p ys (w ∷ us) q vs e n = record { before = us; after = vs; is = cc }
+split_others (x ∷ xs) p ys [] q vs e n =
+    let same : x ≡ q = cc in record { before = []; after = xs ++ ys; is = ap (λ z. z ∷ (xs ++ ys)) same }
+split_others (x ∷ xs) p ys (w ∷ us) q vs e n =
+    let same : x ≡ w = cc in let rest : xs ++ p ∷ ys ≡ us ++ q ∷ vs = cc in
+    let on = split_others xs p ys us q vs rest n in
+    record { before = w ∷ on.before; after = on.after; is = λ i. same i ∷ on.is i }
 
 module _ {B : Type 0} where
   pub listed-one : (cs : List (Cell Links B)) (p : Ptr) (t : Held B) → content_at cs p ≡ Some t → listed cs (p ∷ []) ≡ t ∷ []
@@ -30,11 +50,20 @@ module _ {B : Type 0} where
       → IsJoined cs ds l.prev.ptr l.next.ptr → IsJoined cs ds (prev_at cs p) (next_at cs p)
   IsJoined-past {cs} {ds} p e = subst (λ (z : Ptr × Ptr). IsJoined cs ds z.0 z.1) (λ i. (sym (ap prev_of e) i, sym (ap next_of e) i))
 
-  -- what comes first behind g is there
-  is_there-behind : (cs : List (Cell Links B)) (g : Ptr) (ys : List Ptr) → IsThere cs null_ptr
-      → AllByRecursion (IsThere cs) ys → AreLinked cs (g ∷ (ys ++ null_ptr ∷ [])) → IsThere cs (next_at cs g)
-  is_there-behind cs g [] n a l = subst (λ q. IsThere cs q) (sym l.0.0) n
-  is_there-behind cs g (y ∷ ys) n a l = subst (λ q. IsThere cs q) (sym l.0.0) a.0
+  -- the first that is held, or null
+  pub first_from-led_to : (cs : List (Cell Links B)) (q : Ptr) (ps : List Ptr) → AllByRecursion (HasContent cs) ps
+      → led_to q ≡ first_at (listed cs ps) → first_from null_ptr ps ≡ q
+  unfolding listed
+  first_from-led_to cs q [] h e = sym (led_to-none q e)
+  first_from-led_to cs q (p ∷ ps) h e =
+      sym (led_to-some q p (e ∙ ap (λ o. first_at (one_of o ++ listed cs ps)) h.0.1 ∙ ap Some (at-content cs p h.0.1)))
+
+  -- where the pointers ps are cut if a node comes right before b, or for null at the back
+  pub record PlaceIn (cs : List (Cell Links B)) (ps : List Ptr) (b : Ptr) : Type 0 where
+    pub before : List Ptr
+    pub after : List Ptr
+    pub is : ps ≡ before ++ after
+    pub prev_is : prev_at cs b ≡ last_from null_ptr before
 
 -- a node in the middle of a ring
 module _ {B : Type 0} {cs : List (Cell Links B)} {ps : List Ptr} {spare : Option Ptr}
@@ -50,6 +79,9 @@ module _ {B : Type 0} {cs : List (Cell Links B)} {ps : List Ptr} {spare : Option
 
   abbrev There : Ptr → Type 0
   There q = IsThere cs q
+
+  abbrev Free : Ptr → Type 0
+  Free q = same_ptr p q ≡ false
 
   pub AreLinked-row : AreLinked cs (null_ptr ∷ (us ++ p ∷ (vs ++ null_ptr ∷ [])))
   AreLinked-row = subst (λ qs. AreLinked cs (null_ptr ∷ qs)) (append_assoc us (p ∷ vs) (null_ptr ∷ [])) r.linked
@@ -70,8 +102,9 @@ module _ {B : Type 0} {cs : List (Cell Links B)} {ps : List Ptr} {spare : Option
       (AllByRecursion-left There us (p ∷ vs) AllByRecursion-there))
 
   pub There-next : There (next_at cs p)
-  There-next = is_there-behind cs p vs r.there.0 (AllByRecursion-right There us (p ∷ vs) AllByRecursion-there).1
-      (RowCut-linked cs null_ptr us p (vs ++ null_ptr ∷ []) AreLinked-row).after
+  There-next = subst There
+      (sym (AreNeighbours-cut cs p [] null_ptr vs (RowCut-linked cs null_ptr us p (vs ++ null_ptr ∷ []) AreLinked-row).after).0)
+      (AllByRecursion-first There null_ptr vs r.there.0 (AllByRecursion-right There us (p ∷ vs) AllByRecursion-there).1)
 
   -- p behind the other held nodes
   IsApart-whole : IsApart ((null_ptr ∷ us) ++ p ∷ (vs ++ ss))
@@ -87,10 +120,12 @@ module _ {B : Type 0} {cs : List (Cell Links B)} {ps : List Ptr} {spare : Option
   pub IsFresh-spares : IsFresh p ss
   IsFresh-spares = AllByRecursion-right (λ q. same_ptr p q ≡ false) (us ++ vs) ss IsFresh-others.1
 
+  IsApart-others : IsApart (null_ptr ∷ ((us ++ vs) ++ ss))
+  IsApart-others = subst (λ qs. IsApart (null_ptr ∷ qs)) (sym (append_assoc us vs ss))
+      (IsApart-removed (null_ptr ∷ us) p (vs ++ ss) IsApart-whole)
+
   pub IsApart-shifted : IsApart (null_ptr ∷ ((us ++ vs) ++ p ∷ ss))
-  IsApart-shifted =
-      IsApart-inserted (null_ptr ∷ (us ++ vs)) p ss IsFresh-others
-      (subst (λ qs. IsApart (null_ptr ∷ qs)) (sym (append_assoc us vs ss)) (IsApart-removed (null_ptr ∷ us) p (vs ++ ss) IsApart-whole))
+  IsApart-shifted = IsApart-inserted (null_ptr ∷ (us ++ vs)) p ss IsFresh-others IsApart-others
 
   pub AllByRecursion-shifted : AllByRecursion There (null_ptr ∷ ((us ++ vs) ++ p ∷ ss))
   AllByRecursion-shifted = (
@@ -105,96 +140,85 @@ module _ {B : Type 0} {cs : List (Cell Links B)} {ps : List Ptr} {spare : Option
         (sym (append_assoc us vs (null_ptr ∷ []))) (AreLinked-removed null_ptr us p vs IsApart-row
         AreLinked-row j)
 
-    pub is_there-last : IsThere ds (prev_at ds null_ptr)
-    is_there-last =
-        let T : Ptr → Type 0 = λ q. IsThere ds q in
-        subst T (sym (RowCut-linked ds null_ptr (us ++ vs) null_ptr [] AreLinked-joined).edge.1)
-        (AllByRecursion-last T null_ptr (us ++ vs) (j.there null_ptr ∙ r.there.0)
-        (AllByRecursion-there_unchanged j (us ++ vs)
-        (AllByRecursion-removed There us p vs AllByRecursion-there)))
+    -- the links of the node itself still say where it was
+    pub prev_at-own : prev_at ds p ≡ last_from null_ptr us
+    prev_at-own =
+        let cut = RowCut-linked cs null_ptr us p (vs ++ null_ptr ∷ []) AreLinked-row in
+        let free = AllByRecursion-first Free null_ptr vs IsFresh-others.0 (AllByRecursion-right Free us vs IsFresh-rest) in
+        let other = ap (λ q. same_ptr q p) (AreNeighbours-cut cs p [] null_ptr vs cut.after).0 ∙ same_ptr-flip p (first_from null_ptr vs) free in
+        j.prev p ∙ ap (λ t. cond t (prev_at cs p) (prev_at cs p)) other ∙ cut.edge.1
 
-    pub is_there-first : IsThere ds (next_at ds null_ptr)
-    is_there-first = is_there-behind ds null_ptr (us ++ vs) (j.there null_ptr ∙ r.there.0)
-        (AllByRecursion-there_unchanged j (us ++ vs)
-        (AllByRecursion-removed There us p vs AllByRecursion-there)) AreLinked-joined
+    -- the others, cut in two
+    module _ (ahead behind : List Ptr) (cut : us ++ vs ≡ ahead ++ behind) where
+      row : AreLinked ds (null_ptr ∷ (ahead ++ (behind ++ null_ptr ∷ [])))
+      row = subst (λ qs. AreLinked ds (null_ptr ∷ qs))
+          (ap (λ qs. qs ++ null_ptr ∷ []) cut ∙ append_assoc ahead behind (null_ptr ∷ [])) AreLinked-joined
 
-    module _ {es fs : List (Cell Links B)} (k : IsJoined ds es p (next_at ds null_ptr)) (l : IsJoined es fs null_ptr p) where
-      pub length-to_front : length ps ≡ length (p ∷ (us ++ vs))
-      length-to_front = ap length s.is ∙ omega (arith, length-append us (p ∷ vs), length-append us vs)
+      -- the last of those ahead and the first of those behind
+      pub AreNeighbours-edge : AreNeighbours ds (last_from null_ptr ahead) (first_from null_ptr behind)
+      AreNeighbours-edge = AreNeighbours-cut ds null_ptr ahead null_ptr behind row
 
-      through : (P : List (Cell Links B) → Type 0) → (P cs → P ds) → (P ds → P es) → (P es → P fs) → P cs → P fs
-      through P x y z a = z (y (x a))
+      All-others : (P : Ptr → Type 0) → AllByRecursion P (us ++ p ∷ vs) → AllByRecursion P (ahead ++ behind)
+      All-others P a = subst (AllByRecursion P) cut (AllByRecursion-removed P us p vs a)
 
-      pub IsRing-to_front : IsRing fs (p ∷ (us ++ vs)) spare ss
-      IsRing-to_front = record {
-        linked = AreLinked-first null_ptr (us ++ vs) p
-            (IsApart-removed (null_ptr ∷ us) p vs IsApart-row)
-            (IsFresh-middle (null_ptr ∷ us) p vs IsApart-row) AreLinked-joined k l;
-        chained = through (λ zs. IsSpareList zs spare ss) (IsSpareList-unchanged j spare ss)
-            (IsSpareList-unchanged k spare ss) (IsSpareList-unchanged l spare ss) r.chained;
-        held = let qs = p ∷ (us ++ vs) in let P = HasContent cs in
-            through (λ zs. AllByRecursion (HasContent zs) qs) (AllByRecursion-content_unchanged j qs)
-            (AllByRecursion-content_unchanged k qs) (AllByRecursion-content_unchanged l qs)
-            ((AllByRecursion-right P us (p ∷ vs) r.held).0, AllByRecursion-removed P us p vs r.held);
-        there = let qs = null_ptr ∷ p ∷ ((us ++ vs) ++ ss) in
-            through (λ zs. AllByRecursion (IsThere zs) qs) (AllByRecursion-there_unchanged j qs)
-            (AllByRecursion-there_unchanged k qs) (AllByRecursion-there_unchanged l qs) (
-              r.there.0,
-              (
-                There-node,
-                AllByRecursion-append There (us ++ vs) ss
-                    (AllByRecursion-removed There us p vs AllByRecursion-there)
+      There-others : AllByRecursion There (ahead ++ behind)
+      There-others = All-others There AllByRecursion-there
+
+      pub is_there-ahead : IsThere ds (last_from null_ptr ahead)
+      is_there-ahead = j.there (last_from null_ptr ahead)
+          ∙ AllByRecursion-last There null_ptr ahead r.there.0 (AllByRecursion-left There ahead behind There-others)
+
+      pub is_there-behind_cut : IsThere ds (first_from null_ptr behind)
+      is_there-behind_cut = j.there (first_from null_ptr behind)
+          ∙ AllByRecursion-first There null_ptr behind r.there.0 (AllByRecursion-right There ahead behind There-others)
+
+      length-placed : length ps ≡ length (ahead ++ p ∷ behind)
+      length-placed = let e = ap length cut in ap length s.is
+          ∙ omega (arith, e, length-append us (p ∷ vs), length-append us vs, length-append ahead behind, length-append ahead (p ∷ behind))
+
+      pub AreLinked-placed : {es fs : List (Cell Links B)} → IsJoined ds es (last_from null_ptr ahead) p
+          → IsJoined es fs p (first_from null_ptr behind) → AreLinked fs (null_ptr ∷ ((ahead ++ p ∷ behind) ++ null_ptr ∷ []))
+      AreLinked-placed {es} {fs} k l =
+          subst (λ qs. AreLinked fs (null_ptr ∷ qs)) (sym (append_assoc ahead (p ∷ behind) (null_ptr ∷ [])))
+          (AreLinked-inserted null_ptr ahead p behind
+          (subst (λ qs. IsApart (null_ptr ∷ qs)) cut (IsApart-left (null_ptr ∷ (us ++ vs)) ss IsApart-others))
+          (IsFresh-others.0, subst (IsFresh p) cut IsFresh-rest) row k l)
+
+      -- the node is between them, by two more joins
+      module _ {es fs : List (Cell Links B)} {a b c d : Ptr} (k : IsJoined ds es a b) (l : IsJoined es fs c d)
+          (linked : AreLinked fs (null_ptr ∷ ((ahead ++ p ∷ behind) ++ null_ptr ∷ []))) where
+        kept : (P : List (Cell Links B) → Type 0) → (P cs → P ds) → (P ds → P es) → (P es → P fs) → P cs → P fs
+        kept P x y z a = z (y (x a))
+
+        pub IsRing-placed : IsRing fs (ahead ++ p ∷ behind) spare ss
+        IsRing-placed = record {
+          linked = linked;
+          chained = kept (λ zs. IsSpareList zs spare ss) (IsSpareList-unchanged j spare ss)
+              (IsSpareList-unchanged k spare ss) (IsSpareList-unchanged l spare ss) r.chained;
+          held = let qs = ahead ++ p ∷ behind in let P = HasContent cs in
+              kept (λ zs. AllByRecursion (HasContent zs) qs) (AllByRecursion-content_unchanged j qs)
+              (AllByRecursion-content_unchanged k qs) (AllByRecursion-content_unchanged l qs)
+              (AllByRecursion-inserted P ahead p behind (AllByRecursion-right P us (p ∷ vs) r.held).0 (All-others P r.held));
+          there = let qs = null_ptr ∷ ((ahead ++ p ∷ behind) ++ ss) in
+              kept (λ zs. AllByRecursion (IsThere zs) qs) (AllByRecursion-there_unchanged j qs)
+              (AllByRecursion-there_unchanged k qs) (AllByRecursion-there_unchanged l qs) (
+                r.there.0,
+                AllByRecursion-append There (ahead ++ p ∷ behind) ss
+                    (AllByRecursion-inserted There ahead p behind There-node There-others)
                     (AllByRecursion-right There (us ++ p ∷ vs) ss r.there.1),
-              ),
-            );
-        apart = IsApart-inserted (null_ptr ∷ []) p ((us ++ vs) ++ ss) IsFresh-others
-            (subst (λ qs. IsApart (null_ptr ∷ qs)) (sym (append_assoc us vs ss))
-            (IsApart-removed (null_ptr ∷ us) p (vs ++ ss) IsApart-whole));
-        count = l.count ∙ k.count ∙ j.count ∙ ring.count ∙ ap (λ n. suc (n + length ss)) length-to_front;
-      }
+              );
+          apart = let same = ap (λ qs. qs ++ ss) cut ∙ append_assoc ahead behind ss in
+              subst (λ qs. IsApart (null_ptr ∷ qs)) (sym (append_assoc ahead (p ∷ behind) ss))
+              (IsApart-inserted (null_ptr ∷ ahead) p (behind ++ ss) (subst (λ qs. IsFresh p (null_ptr ∷ qs)) same IsFresh-others)
+              (subst (λ qs. IsApart (null_ptr ∷ qs)) same IsApart-others));
+          count = l.count ∙ k.count ∙ j.count ∙ ring.count ∙ ap (λ n. suc (n + length ss)) length-placed;
+        }
 
-      pub listed-to_front : (t : Held B) → content_at cs p ≡ Some t
-          → listed fs (p ∷ (us ++ vs)) ≡ t ∷ (listed cs us ++ listed cs vs)
-      listed-to_front t e =
-          let qs = p ∷ (us ++ vs) in
-          listed-unchanged l qs ∙ listed-unchanged k qs ∙ listed-unchanged j qs ∙ listed-append cs (p ∷ []) (us ++ vs)
-          ∙ (λ i. listed-one cs p t e i ++ listed-append cs us vs i)
-
-    module _ {es fs : List (Cell Links B)} (k : IsJoined ds es (prev_at ds null_ptr) p) (l : IsJoined es fs p null_ptr) where
-      IsFresh-node : IsFresh p ((null_ptr ∷ us) ++ vs)
-      IsFresh-node = IsFresh-middle (null_ptr ∷ us) p vs IsApart-row
-
-      pub length-to_back : length ps ≡ length ((us ++ vs) ++ p ∷ [])
-      length-to_back = ap length s.is ∙ omega (arith, length-append us (p ∷ vs), length-append us vs, length-append (us ++ vs) (p ∷ []))
-
-      kept : (P : List (Cell Links B) → Type 0) → (P cs → P ds) → (P ds → P es) → (P es → P fs) → P cs → P fs
-      kept P x y z a = z (y (x a))
-
-      pub IsRing-to_back : IsRing fs ((us ++ vs) ++ p ∷ []) spare ss
-      IsRing-to_back = record {
-        linked = AreLinked-pushed null_ptr (us ++ vs) p
-            (IsApart-removed (null_ptr ∷ us) p vs IsApart-row) IsFresh-node AreLinked-joined k l;
-        chained = kept (λ zs. IsSpareList zs spare ss) (IsSpareList-unchanged j spare ss)
-            (IsSpareList-unchanged k spare ss) (IsSpareList-unchanged l spare ss) r.chained;
-        held = let qs = (us ++ vs) ++ p ∷ [] in let P = HasContent cs in
-            kept (λ zs. AllByRecursion (HasContent zs) qs) (AllByRecursion-content_unchanged j qs)
-            (AllByRecursion-content_unchanged k qs) (AllByRecursion-content_unchanged l qs)
-            (AllByRecursion-append P (us ++ vs) (p ∷ []) (AllByRecursion-removed P us p vs r.held)
-            ((AllByRecursion-right P us (p ∷ vs) r.held).0, tt));
-        there = let qs = null_ptr ∷ (((us ++ vs) ++ p ∷ []) ++ ss) in
-            kept (λ zs. AllByRecursion (IsThere zs) qs) (AllByRecursion-there_unchanged j qs)
-            (AllByRecursion-there_unchanged k qs) (AllByRecursion-there_unchanged l qs)
-            (subst (λ rs. AllByRecursion There (null_ptr ∷ rs)) (sym (append_assoc (us ++ vs) (p ∷ []) ss)) AllByRecursion-shifted);
-        apart = subst (λ qs. IsApart (null_ptr ∷ qs)) (sym (append_assoc (us ++ vs) (p ∷ []) ss)) IsApart-shifted;
-        count = l.count ∙ k.count ∙ j.count ∙ ring.count ∙ ap (λ n. suc (n + length ss)) length-to_back;
-      }
-
-      pub listed-to_back : (t : Held B) → content_at cs p ≡ Some t
-          → listed fs ((us ++ vs) ++ p ∷ []) ≡ (listed cs us ++ listed cs vs) ++ t ∷ []
-      listed-to_back t e =
-          let qs = (us ++ vs) ++ p ∷ [] in
-          listed-unchanged l qs ∙ listed-unchanged k qs ∙ listed-unchanged j qs ∙ listed-append cs (us ++ vs) (p ∷ [])
-          ∙ (λ i. listed-append cs us vs i ++ listed-one cs p t e i)
+        pub listed-placed : (t : Held B) → content_at cs p ≡ Some t → listed fs (ahead ++ p ∷ behind) ≡ listed cs ahead ++ t ∷ listed cs behind
+        listed-placed t e =
+            let qs = ahead ++ p ∷ behind in
+            listed-unchanged l qs ∙ listed-unchanged k qs ∙ listed-unchanged j qs ∙ listed-append cs ahead (p ∷ behind)
+            ∙ ap (λ zs. listed cs ahead ++ zs) (listed-append cs (p ∷ []) behind ∙ ap (λ zs. zs ++ listed cs behind) (listed-one cs p t e))
 
 module _ {B : Type 0} {cs : List (Cell Links B)} {spare : Link} {n m : ℕ} {v : State B} {total : ℕ}
     (ok : IsOwned cs spare n m) (w : state (ring_list cs n) m total ≡ v) where
@@ -205,61 +229,165 @@ module _ {B : Type 0} {cs : List (Cell Links B)} {spare : Link} {n m : ℕ} {v :
         let s = NodeAt-held ok w p h in let T : Ptr → Type 0 = λ q. IsThere cs q in
         (subst T (ap prev_of e) (There-prev ok.ring s), subst T (ap next_of e) (There-next ok.ring s))
 
-  -- a node that is moved to an end: those beside it are joined, the last with it, and it with the
-  -- end, or it with the first, and the end with it
+  -- a held node, once those beside it are joined
   module _ (p : Ptr) {lp : Links} (ep : links_at cs p ≡ Some lp) {ds : List (Cell Links B)}
-      (j : IsJoined cs ds lp.prev.ptr lp.next.ptr) where
+      (j : IsJoined cs ds lp.prev.ptr lp.next.ptr) (h : IsHeld v.held p) where
     past : IsJoined cs ds (prev_at cs p) (next_at cs p)
     past = IsJoined-past p ep j
 
-    pub is_there-moving : IsHeld v.held p → (IsThere ds (prev_at ds null_ptr)) × (IsThere ds p)
-    is_there-moving h =
-        let s = NodeAt-held ok w p h in (is_there-last ok.ring s past, past.there p ∙ There-node ok.ring s)
+    abbrev node : SplitAround ok.held_pointers p
+    node = NodeAt-held ok w p h
 
-    pub is_there-moving_front : IsHeld v.held p → (IsThere ds p) × (IsThere ds (next_at ds null_ptr))
-    is_there-moving_front h =
-        let s = NodeAt-held ok w p h in (past.there p ∙ There-node ok.ring s, is_there-first ok.ring s past)
+    abbrev others : List Ptr
+    others = node.before ++ node.after
 
-    module _ {es fs : List (Cell Links B)} (k : IsJoined ds es p (next_at ds null_ptr)) (l : IsJoined es fs null_ptr p) where
-      length-moved_front : (s : SplitAround ok.held_pointers p) → length (p ∷ (s.before ++ s.after)) ≡ n
-      length-moved_front s = sym (length-to_front ok.ring s past k l) ∙ ok.held_count
+    pub is_there-moved : (x : Ptr) → led_to x ≡ Some p → IsThere ds x
+    is_there-moved x is = subst (λ q. IsThere ds q) (sym (led_to-some x p is)) (past.there p ∙ There-node ok.ring node)
 
-      pub IsOwned-moved_front : IsHeld v.held p → IsOwned fs spare n m
-      IsOwned-moved_front h =
-          let s = NodeAt-held ok w p h in
-          record {
-            held_pointers = p ∷ (s.before ++ s.after);
-            spare_pointers = ok.spare_pointers;
-            ring = IsRing-to_front ok.ring s past k l;
-            held_count = length-moved_front s;
-            enough_spares = ok.enough_spares;
-            bounded = ok.bounded;
-          }
+    pub is_there-first : {q : Ptr} → q ≡ next_at ds null_ptr → IsThere ds q
+    is_there-first is = subst (λ q. IsThere ds q) (sym (is ∙ (AreNeighbours-edge ok.ring node past [] others refl).0))
+        (is_there-behind_cut ok.ring node past [] others refl)
 
-      pub AtHeld-moved_front : AtHeld v.held p (λ xs t ys. ring_list fs n ≡ t ∷ (xs ++ ys))
-      AtHeld-moved_front xs t ys h at =
-          let b = Found-held ok w p xs t ys h at in let s = b.split in
-          ring_list-listed (IsRing-to_front ok.ring s past k l) (length-moved_front s) ∙ listed-to_front ok.ring s past k l t b.here
-          ∙ (λ i. t ∷ (b.listed_before i ++ b.listed_after i))
+    -- by two more joins it is between others
+    module _ {es fs : List (Cell Links B)} {a b c d : Ptr} (k : IsJoined ds es a b) (l : IsJoined es fs c d) where
+      ring_list-placed : (s : SplitAround ok.held_pointers p) (xs ys : List Ptr) → s.before ++ s.after ≡ xs ++ ys
+          → AreLinked fs (null_ptr ∷ ((xs ++ p ∷ ys) ++ null_ptr ∷ [])) → (t : Held B) → content_at cs p ≡ Some t
+          → ring_list fs n ≡ listed cs xs ++ t ∷ listed cs ys
+      ring_list-placed s xs ys e linked t here =
+          ring_list-listed (IsRing-placed ok.ring s past xs ys e k l linked) (sym (length-placed ok.ring s past xs ys e) ∙ ok.held_count)
+          ∙ listed-placed ok.ring s past xs ys e k l linked t here
 
-    module _ {es fs : List (Cell Links B)} (k : IsJoined ds es (prev_at ds null_ptr) p) (l : IsJoined es fs p null_ptr) where
-      length-moved : (s : SplitAround ok.held_pointers p) → length ((s.before ++ s.after) ++ p ∷ []) ≡ n
-      length-moved s = sym (length-to_back ok.ring s past k l) ∙ ok.held_count
+      IsOwned-placed : (xs ys : List Ptr) → others ≡ xs ++ ys → AreLinked fs (null_ptr ∷ ((xs ++ p ∷ ys) ++ null_ptr ∷ []))
+          → IsOwned fs spare n m
+      IsOwned-placed xs ys e linked = record {
+        held_pointers = xs ++ p ∷ ys;
+        spare_pointers = ok.spare_pointers;
+        ring = IsRing-placed ok.ring node past xs ys e k l linked;
+        held_count = sym (length-placed ok.ring node past xs ys e) ∙ ok.held_count;
+        enough_spares = ok.enough_spares;
+        bounded = ok.bounded;
+      }
 
-      pub IsOwned-moved : IsHeld v.held p → IsOwned fs spare n m
-      IsOwned-moved h =
-          let s = NodeAt-held ok w p h in
-          record {
-            held_pointers = (s.before ++ s.after) ++ p ∷ [];
-            spare_pointers = ok.spare_pointers;
-            ring = IsRing-to_back ok.ring s past k l;
-            held_count = length-moved s;
-            enough_spares = ok.enough_spares;
-            bounded = ok.bounded;
-          }
+    -- it goes to the front
+    module _ {q : Ptr} (q_is : q ≡ next_at ds null_ptr) {x : Ptr} (x_is : led_to x ≡ Some p) {z : Ptr} (z_is : led_to z ≡ None)
+        {es fs : List (Cell Links B)} (k : IsJoined ds es x q) (l : IsJoined es fs z x) where
+      AreLinked-front : (s : SplitAround ok.held_pointers p) → AreLinked fs (null_ptr ∷ p ∷ ((s.before ++ s.after) ++ null_ptr ∷ []))
+      AreLinked-front s =
+          let moved = led_to-some x p x_is in
+          AreLinked-first null_ptr (s.before ++ s.after) p
+          (IsApart-removed (null_ptr ∷ s.before) p s.after (IsApart-row ok.ring s))
+          (IsFresh-middle (null_ptr ∷ s.before) p s.after (IsApart-row ok.ring s)) (AreLinked-joined ok.ring s past)
+          (IsJoined-same moved q_is k) (IsJoined-same (led_to-none z z_is) moved l)
 
-      pub AtHeld-moved : AtHeld v.held p (λ xs t ys. ring_list fs n ≡ (xs ++ ys) ++ t ∷ [])
-      AtHeld-moved xs t ys h at =
-          let b = Found-held ok w p xs t ys h at in let s = b.split in
-          ring_list-listed (IsRing-to_back ok.ring s past k l) (length-moved s) ∙ listed-to_back ok.ring s past k l t b.here
-          ∙ (λ i. (b.listed_before i ++ b.listed_after i) ++ t ∷ [])
+      pub IsOwned-front : IsOwned fs spare n m
+      IsOwned-front = IsOwned-placed k l [] others refl (AreLinked-front node)
+
+      pub AtHeld-front : AtHeld v.held p (λ xs t ys. ring_list fs n ≡ t ∷ (xs ++ ys))
+      unfolding listed
+      AtHeld-front xs t ys e at =
+          let f = Found-held ok w p xs t ys e at in let s = f.split in
+          ring_list-placed k l s [] (s.before ++ s.after) refl (AreLinked-front s) t f.here
+          ∙ ap (λ zs. t ∷ zs) (listed-append cs s.before s.after ∙ (λ i. f.listed_before i ++ f.listed_after i))
+
+    -- what is behind the last is null
+    pub next_at-back : {z : Ptr} → led_to z ≡ None → {q : Ptr} → q ≡ prev_at ds null_ptr → z ≡ next_at ds q
+    next_at-back {z} none is =
+        let edge = AreNeighbours-edge ok.ring node past others [] (sym (append-nil others)) in
+        led_to-none z none ∙ sym (ap (next_at ds) (is ∙ edge.1) ∙ edge.0)
+
+    abbrev NewPlace : Ptr → Type 0
+    NewPlace = PlaceIn ds others
+
+    -- what is before the first of those behind a cut
+    prev_at-cut : (s : SplitAround ok.held_pointers p) (xs ys : List Ptr) → s.before ++ s.after ≡ xs ++ ys
+        → prev_at ds (first_from null_ptr ys) ≡ last_from null_ptr xs
+    prev_at-cut s xs ys e = (AreNeighbours-edge ok.ring s past xs ys e).1
+
+    -- the place before q, or where the node was
+    place_at : (q : Ptr) → IsHeld v.held q → (y : Bool) → same_ptr p q ≡ y → NewPlace q
+    place_at q g true e = subst NewPlace (same_ptr-equal p q e)
+        (record { before = node.before; after = node.after; is = refl; prev_is = prev_at-own ok.ring node past })
+    place_at q g false e =
+        let at = NodeAt-held ok w q g in
+        let cut = split_others node.before p node.after at.before q at.after (sym node.is ∙ at.is) e in
+        record {
+          before = cut.before;
+          after = q ∷ cut.after;
+          is = cut.is;
+          prev_is = prev_at-cut node cut.before (q ∷ cut.after) cut.is;
+        }
+
+    -- it goes before the node that b is, or to the back
+    module _ (b : Ptr) {o : Option Ptr} (is : led_to b ≡ o) (there : IfSome o (IsHeld v.held)) where
+      place_of : (u : Option Ptr) → led_to b ≡ u → IfSome u (IsHeld v.held) → NewPlace b
+      place_of None e g =
+          let all = sym (append-nil others) in
+          subst NewPlace (sym (led_to-none b e))
+          (record { before = others; after = []; is = all; prev_is = prev_at-cut node others [] all })
+      place_of (Some q) e g = subst NewPlace (sym (led_to-some b q e)) (place_at q g (same_ptr p q) refl)
+
+      place : NewPlace b
+      place = place_of o is there
+
+      -- that node, or the ends
+      there_of : (u : Option Ptr) → led_to b ≡ u → IfSome u (IsHeld v.held) → IsThere cs b
+      there_of None e g = subst (λ q. IsThere cs q) (sym (led_to-none b e)) ok.ring.there.0
+      there_of (Some q) e g = subst (λ q. IsThere cs q) (sym (led_to-some b q e)) (There-node ok.ring (NodeAt-held ok w q g))
+
+      pub is_there-before : IsThere ds b
+      is_there-before = past.there b ∙ there_of o is there
+
+      next_at-place : (s : SplitAround ok.held_pointers p) (at : PlaceIn ds (s.before ++ s.after) b)
+          → next_at ds (prev_at ds b) ≡ first_from null_ptr at.after
+      next_at-place s at = ap (next_at ds) at.prev_is ∙ (AreNeighbours-edge ok.ring s past at.before at.after at.is).0
+
+      -- between the one before that and the one behind
+      module _ {q : Ptr} (q_is : q ≡ prev_at ds b) where
+        pub is_there-previous : IsThere ds q
+        is_there-previous = subst (λ z. IsThere ds z) (sym (q_is ∙ place.prev_is)) (is_there-ahead ok.ring node past place.before place.after place.is)
+
+        module _ {z : Ptr} (z_is : z ≡ next_at ds q) where
+          pub is_there-next : IsThere ds z
+          is_there-next = subst (λ x. IsThere ds x) (sym (z_is ∙ ap (next_at ds) q_is ∙ next_at-place node place))
+              (is_there-behind_cut ok.ring node past place.before place.after place.is)
+
+          module _ {x : Ptr} (x_is : led_to x ≡ Some p) {es fs : List (Cell Links B)} (k : IsJoined ds es q x) (l : IsJoined es fs x z) where
+            linked_at : (s : SplitAround ok.held_pointers p) (at : PlaceIn ds (s.before ++ s.after) b)
+                → AreLinked fs (null_ptr ∷ ((at.before ++ p ∷ at.after) ++ null_ptr ∷ []))
+            linked_at s at = let moved = led_to-some x p x_is in
+                AreLinked-placed ok.ring s past at.before at.after at.is (IsJoined-same (q_is ∙ at.prev_is) moved k)
+                (IsJoined-same moved (z_is ∙ ap (next_at ds) q_is ∙ next_at-place s at) l)
+
+            pub IsOwned-before : IsOwned fs spare n m
+            IsOwned-before = IsOwned-placed k l place.before place.after place.is (linked_at node place)
+
+            ring_list-before : (s : SplitAround ok.held_pointers p) (at : PlaceIn ds (s.before ++ s.after) b) (t : Held B)
+                → content_at cs p ≡ Some t → ring_list fs n ≡ listed cs at.before ++ t ∷ listed cs at.after
+            ring_list-before s at = ring_list-placed k l s at.before at.after at.is (linked_at s at)
+
+            pub AtHeld-before : AtHeld v.held p (λ xs t ys. BeforeHeld (xs ++ ys) o (λ us vs. ring_list fs n ≡ us ++ t ∷ vs))
+            AtHeld-before xs t ys e at us vs cut o_is =
+                let f = Found-held ok w p xs t ys e at in let s = f.split in
+                let P = HasContent cs in
+                let held = AllByRecursion-removed P s.before p s.after (ring_split ok.ring s).held in
+                let c = ListCut-listed cs (s.before ++ s.after) held us vs
+                (listed-append cs s.before s.after ∙ (λ i. f.listed_before i ++ f.listed_after i) ∙ cut) in
+                let behind = AllByRecursion-right P c.before c.after (subst (AllByRecursion P) c.is held) in
+                let first : first_from null_ptr c.after ≡ b = first_from-led_to cs b c.after behind
+                (is ∙ o_is ∙ ap first_at (sym c.listed_after)) in
+                let prev = ap (prev_at ds) (sym first) ∙ prev_at-cut s c.before c.after c.is in
+                ring_list-before s (record { before = c.before; after = c.after; is = c.is; prev_is = prev }) t f.here
+                ∙ (λ i. c.listed_before i ++ t ∷ c.listed_after i)
+
+            -- before itself it stays
+            pub ring_list-own : o ≡ Some p → ring_list fs n ≡ v.held
+            ring_list-own own =
+                let f = Found-held ok w p h.before h.node h.after h.is h.at_is in let s = f.split in
+                let prev = ap (prev_at ds) (led_to-some b p (is ∙ own)) ∙ prev_at-own ok.ring s past in
+                ring_list-before s (record { before = s.before; after = s.after; is = refl; prev_is = prev }) h.node f.here
+                ∙ (λ i. f.listed_before i ++ h.node ∷ f.listed_after i) ∙ sym h.is
+
+-- what is asked of a place that may be none
+pub IfSome-pointer : {K V : Type 0} (P : Ptr → Type 0) (o : Option (Position K V)) → IfSome o (λ at. P (pointer_of at)) → IfSome (pointer_of_some o) P
+IfSome-pointer P None h = tt
+IfSome-pointer P (Some at) h = h

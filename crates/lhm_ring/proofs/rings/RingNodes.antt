@@ -5,6 +5,7 @@ use denote.RawPtr.{Ptr, null_ptr}
 use Rattle.lhm_ring.specs.declared.ring.Links.{Links}
 use Rattle.lhm_ring.specs.declared.pointer.Link.{Link}
 use Rattle.lhm_ring.proofs.rings.Contents.{at-content}
+use Rattle.lhm_ring.proofs.lists.ForAll.{AllByRecursion-right}
 use Rattle.lhm_ring.proofs.lists.LinkRows.{follow-row}
 use Rattle.lhm_ring.specs.Nodes.{Cell}
 use Rattle.lhm_ring.specs.Links.{HasContent, IsRing, follow, listed, one_of, ring_list, IsOwned, content_at}
@@ -12,6 +13,31 @@ use Rattle.lhm_ring.specs.Ring.{state, State, IsHeld, AtHeld, Held}
 use Rattle.lhm_ring.proofs.lists.Splits.{SplitAround}
 
 module _ {B : Type 0} where
+  -- pointers, where what they hold is cut
+  pub record ListCut (cs : List (Cell Links B)) (ps : List Ptr) (us vs : List (Held B)) : Type 0 where
+    pub before : List Ptr
+    pub after : List Ptr
+    pub is : ps ≡ before ++ after
+    pub listed_before : listed cs before ≡ us
+    pub listed_after : listed cs after ≡ vs
+
+  pub ListCut-listed : (cs : List (Cell Links B)) (ps : List Ptr) → AllByRecursion (HasContent cs) ps
+      → (us vs : List (Held B)) → listed cs ps ≡ us ++ vs → ListCut cs ps us vs
+  unfolding listed
+  ListCut-listed cs ps h [] vs e = record { before = []; after = ps; is = refl; listed_before = refl; listed_after = e }
+  ListCut-listed cs [] h (u ∷ us) vs e = absurd cc
+  ListCut-listed cs (p ∷ ps) h (u ∷ us) vs e =
+      let e' : h.0.0 ∷ listed cs ps ≡ u ∷ (us ++ vs) = sym (ap (λ o. one_of o ++ listed cs ps) h.0.1) ∙ e in
+      let first : h.0.0 ≡ u = cc in let rest : listed cs ps ≡ us ++ vs = cc in
+      let on = ListCut-listed cs ps h.1 us vs rest in
+      record {
+        before = p ∷ on.before;
+        after = on.after;
+        is = ap (λ qs. p ∷ qs) on.is;
+        listed_before = ap (λ o. one_of o ++ listed cs on.before) h.0.1 ∙ (λ i. first i ∷ on.listed_before i);
+        listed_after = on.listed_after;
+      }
+
   -- where a ring is cut at p, if what it lists is
   pub record CutAt (cs : List (Cell Links B)) (ps : List Ptr) (us : List (Held B)) (t : Held B)
       (vs : List (Held B)) (p : Ptr) : Type 0 where
@@ -20,33 +46,29 @@ module _ {B : Type 0} where
     pub listed_before : listed cs split.before ≡ us
     pub listed_after : listed cs split.after ≡ vs
 
+  CutAt-cut : (cs : List (Cell Links B)) {ps : List Ptr} {us : List (Held B)} (t : Held B) (vs : List (Held B))
+      (xs ys : List Ptr) → AllByRecursion (HasContent cs) ys → ps ≡ xs ++ ys → listed cs xs ≡ us → listed cs ys ≡ t ∷ vs
+      → CutAt cs ps us t vs t.at
+  unfolding listed
+  CutAt-cut cs t vs xs [] h is before e = absurd cc
+  CutAt-cut cs t vs xs (p ∷ ys) h is before e =
+      let e' : h.0.0 ∷ listed cs ys ≡ t ∷ vs = sym (ap (λ o. one_of o ++ listed cs ys) h.0.1) ∙ e in
+      let first : h.0.0 ≡ t = cc in let rest : listed cs ys ≡ vs = cc in
+      let at : p ≡ t.at = sym (at-content cs p h.0.1) ∙ ap (λ (z : Held B). z.at) first in
+      record {
+        split = record { before = xs; after = ys; is = is ∙ ap (λ q. xs ++ q ∷ ys) at };
+        here = ap (content_at cs) (sym at) ∙ h.0.1 ∙ ap (λ z. Some z) first;
+        listed_before = before;
+        listed_after = rest;
+      }
+
   pub CutAt-listed : (cs : List (Cell Links B)) (ps : List Ptr) → AllByRecursion (HasContent cs) ps
       → (us : List (Held B)) (t : Held B) (vs : List (Held B)) → listed cs ps ≡ us ++ t ∷ vs
       → CutAt cs ps us t vs t.at
-  unfolding listed
-  CutAt-listed cs [] h [] t vs e = absurd cc
-  CutAt-listed cs [] h (a ∷ us) t vs e = absurd cc
-  CutAt-listed cs (p ∷ ps) h [] t vs e =
-      let e' : h.0.0 ∷ listed cs ps ≡ t ∷ vs = sym (ap (λ o. one_of o ++ listed cs ps) h.0.1) ∙ e in
-      let first : h.0.0 ≡ t = cc in let rest : listed cs ps ≡ vs = cc in
-      let at : p ≡ t.at = sym (at-content cs p h.0.1) ∙ ap (λ (z : Held B). z.at) first in
-      record {
-        split = record { before = []; after = ps; is = ap (λ q. q ∷ ps) at };
-        here = ap (content_at cs) (sym at) ∙ h.0.1 ∙ ap (λ z. Some z) first;
-        listed_before = refl;
-        listed_after = rest;
-      }
-  CutAt-listed cs (p ∷ ps) h (a ∷ us) t vs e =
-      let e' : h.0.0 ∷ listed cs ps ≡ a ∷ (us ++ t ∷ vs) = sym (ap (λ o. one_of o ++ listed cs ps) h.0.1) ∙ e in
-      let first : h.0.0 ≡ a = cc in let rest : listed cs ps ≡ us ++ t ∷ vs = cc in
-      let on = CutAt-listed cs ps h.1 us t vs rest in
-      record {
-        split = record { before = p ∷ on.split.before; after = on.split.after; is = ap (λ qs. p ∷ qs) on.split.is };
-        here = on.here;
-        listed_before = ap (λ o. one_of o ++ listed cs on.split.before) h.0.1
-            ∙ ap (λ l. h.0.0 ∷ l) on.listed_before ∙ ap (λ z. z ∷ us) first;
-        listed_after = on.listed_after;
-      }
+  CutAt-listed cs ps h us t vs e =
+      let c = ListCut-listed cs ps h us (t ∷ vs) e in
+      CutAt-cut cs t vs c.before c.after
+      (AllByRecursion-right (HasContent cs) c.before c.after (subst (AllByRecursion (HasContent cs)) c.is h)) c.is c.listed_before c.listed_after
 
 -- what a ring lists
 module _ {B : Type 0} where

@@ -1,9 +1,11 @@
 -- Positions and indexes: what lies at an index, and where a position is once a triple moved.
-use Rattle.std.proofs.Common.{◌≡◌, ℕ, zero, suc, ◌+◌, ◌-◌, ◌<◌, ◌≢◌, true, false, cond, List, [], ◌∷◌, ◌++◌, map, length, remove, slice_get}
-use Rattle.std.proofs.Common.{Option, Some, None, option_map, refl, sym, ap, ap₂, ◌∙◌, subst, arith, length-append}
+use Rattle.std.proofs.Common.{◌≡◌, ℕ, zero, suc, ◌+◌, ◌-◌, ◌<◌, ◌≤◌, ◌≢◌, Bool, true, false, cond, List, [], ◌∷◌, ◌++◌, map, length, take, drop}
+use Rattle.std.proofs.Common.{remove, slice_get, Option, Some, None, option_map, refl, sym, ap, ap₂, ◌∙◌, subst, arith, length-append, append-nil}
+use Rattle.std.specs.Prelude.{IfSome, nat_lt}
 use Rattle.std.specs.Option.{option_to_list}
 use Rattle.std.specs.List.Sorted.{IsPermutation}
-use Rattle.std.proofs.lemmas.List.{map-append, length-map}
+use Rattle.std.proofs.lemmas.Bool.{ltb-true, ltb-false}
+use Rattle.std.proofs.lemmas.List.{map-append, length-map, take-append-drop, take-map, drop-map}
 use Rattle.std.proofs.lemmas.List.Sorted.{IsPermutation-refl, IsPermutation-cons, IsPermutation-trans, IsPermutation-append_comm}
 use Rattle.std.proofs.lemmas.Option.{slice_get-map, slice_get_within}
 use denote.RawPtr.{Ptr}
@@ -12,8 +14,8 @@ use Rattle.lhm_ring.proofs.lists.Options.{Some-injective, none_some}
 use Rattle.lhm_ring.proofs.indexes.Entries.{pointers-entries}
 use Rattle.lhm_ring.specs.Index.{entries}
 use Rattle.lhm_ring.specs.Nodes.{same_ptr, IsApart}
-use Rattle.lhm_ring.specs.Positions.{IsAt, index_of, to_back_at, to_front_at}
-use Rattle.lhm_ring.specs.Ring.{Held, IsHeld, AtHeld, first_at, last_at, last_of}
+use Rattle.lhm_ring.specs.Positions.{IsAt, PlaceAt, index_of, insert_at, to_back_at, to_front_at, to_before_at}
+use Rattle.lhm_ring.specs.Ring.{Held, IsHeld, AtHeld, BeforeHeld, first_at, last_at, last_of}
 
 -- the element right after the first ones, and the list without it
 pub slice_get-append : {X : Type 0} (xs : List X) (x : X) (ys : List X) → slice_get (xs ++ x ∷ ys) (length xs) ≡ Some x
@@ -23,6 +25,28 @@ slice_get-append (y ∷ xs) x ys = slice_get-append xs x ys
 pub remove-append : {X : Type 0} (xs : List X) (x : X) (ys : List X) → remove (xs ++ x ∷ ys) (length xs) ≡ xs ++ ys
 remove-append [] x ys = refl
 remove-append (y ∷ xs) x ys = ap (λ l. y ∷ l) (remove-append xs x ys)
+
+-- where the others are once one is out, and the list once it is back
+module _ {X : Type 0} where
+  slice_get-remove_before : (xs : List X) (i j : ℕ) → j < i → slice_get (remove xs i) j ≡ slice_get xs j
+  slice_get-remove_before [] zero j h = refl
+  slice_get-remove_before [] (suc i) j h = refl
+  slice_get-remove_before (x ∷ xs) zero j h = absurd (omega (arith, h))
+  slice_get-remove_before (x ∷ xs) (suc i) zero h = refl
+  slice_get-remove_before (x ∷ xs) (suc i) (suc j) h = slice_get-remove_before xs i j (omega (arith, h))
+
+  slice_get-remove_behind : (xs : List X) (i j : ℕ) → i ≤ j → slice_get (remove xs i) j ≡ slice_get xs (suc j)
+  slice_get-remove_behind [] zero j h = refl
+  slice_get-remove_behind [] (suc i) j h = refl
+  slice_get-remove_behind (x ∷ xs) zero j h = refl
+  slice_get-remove_behind (x ∷ xs) (suc i) zero h = absurd (omega (arith, h))
+  slice_get-remove_behind (x ∷ xs) (suc i) (suc j) h = slice_get-remove_behind xs i j (omega (arith, h))
+
+  insert_at-remove : (xs : List X) (i : ℕ) → insert_at i (option_to_list (slice_get xs i)) (remove xs i) ≡ xs
+  insert_at-remove [] zero = refl
+  insert_at-remove [] (suc i) = refl
+  insert_at-remove (x ∷ xs) zero = refl
+  insert_at-remove (x ∷ xs) (suc i) = ap (λ ys. x ∷ ys) (insert_at-remove xs i)
 
 -- a function of each element
 module _ {X Y : Type 0} (f : X → Y) where
@@ -46,6 +70,16 @@ module _ {X Y : Type 0} (f : X → Y) where
   pub map-to_front_at : (xs : List X) (i : ℕ) → map f (to_front_at xs i) ≡ to_front_at (map f xs) i
   map-to_front_at xs i = map-append f (option_to_list (slice_get xs i)) (remove xs i)
       ∙ ap₂ (λ ys zs. ys ++ zs) (map-at xs i) (map-remove xs i)
+
+  map-insert_at : (k : ℕ) (ys zs : List X) → map f (insert_at k ys zs) ≡ insert_at k (map f ys) (map f zs)
+  map-insert_at k ys zs = map-append f (take k zs) (ys ++ drop k zs)
+      ∙ ap₂ (λ us vs. us ++ vs) (sym (take-map f k zs))
+      (map-append f ys (drop k zs) ∙ ap (λ vs. map f ys ++ vs) (sym (drop-map f k zs)))
+
+  pub map-to_before_at : (xs : List X) (i j : ℕ) → map f (to_before_at xs i j) ≡ to_before_at (map f xs) i j
+  map-to_before_at xs i j =
+      let k = j - cond (nat_lt i j) 1 0 in
+      map-insert_at k (option_to_list (slice_get xs i)) (remove xs i) ∙ ap₂ (insert_at k) (map-at xs i) (map-remove xs i)
 
 module _ {X : Type 0} where
   pub IsPermutation-to_back_at : (xs : List X) (i : ℕ) → IsPermutation xs (to_back_at xs i)
@@ -132,6 +166,12 @@ module _ {B : Type 0} where
   index_of-held {p = p} h = subst (λ (ks : List (Held B)). index_of p ks < length ks) (sym h.is)
       (index_of-within p h.before h.node h.after h.at_is)
 
+  first_at-drop : (hs : List (Held B)) (k : ℕ) → first_at (drop k hs) ≡ slice_get (map (λ t. t.at) hs) k
+  first_at-drop [] zero = refl
+  first_at-drop [] (suc k) = refl
+  first_at-drop (t ∷ hs) zero = refl
+  first_at-drop (t ∷ hs) (suc k) = first_at-drop hs k
+
   -- what is made of the list at an index of p, by what is made of it at p
   module _ (hs : List (Held B)) {p : Ptr} (i : ℕ) (at : IsAt hs p i) where
     pub cut_at : CutAt hs p i
@@ -166,6 +206,48 @@ module _ {B : Type 0} where
         ∙ sym (ap₂ (λ o xs. option_to_list o ++ xs) slice_get-at
         ((λ j. remove (h.is j) (sym cut_at.long j)) ∙ remove-append h.before h.node h.after))
 
+    -- where it is put among the others
+    module _ {ws : List (Held B)} {o : Option Ptr} (j : ℕ) (place : PlaceAt hs o j)
+        (moved : AtHeld hs p (λ xs t ys. BeforeHeld (xs ++ ys) o (λ us vs. ws ≡ us ++ t ∷ vs)))
+        (stays : o ≡ Some p → ws ≡ hs) where
+      put_at : (k : ℕ) → slice_get (map (λ t. t.at) (remove hs i)) k ≡ o
+          → ws ≡ insert_at k (option_to_list (slice_get hs i)) (remove hs i)
+      put_at k is =
+          let h = cut_at.held in let rest = remove hs i in
+          let others = (λ l. remove (h.is l) (sym cut_at.long l)) ∙ remove-append h.before h.node h.after in
+          moved h.before h.node h.after h.is h.at_is (take k rest) (drop k rest)
+          (sym others ∙ sym (take-append-drop k rest)) (sym is ∙ sym (first_at-drop rest k))
+          ∙ ap (λ z. take k rest ++ (option_to_list z ++ drop k rest)) (sym slice_get-at)
+
+      put_before : j < i → ws ≡ insert_at j (option_to_list (slice_get hs i)) (remove hs i)
+      put_before less = put_at j (ap (λ ps. slice_get ps j) (map-remove (λ (t : Held B). t.at) hs i)
+          ∙ slice_get-remove_before (map (λ t. t.at) hs) i j less ∙ place)
+
+      put_behind : i < j → ws ≡ insert_at (j - 1) (option_to_list (slice_get hs i)) (remove hs i)
+      put_behind less =
+          let one : suc (j - 1) ≡ j = omega (arith, less) in
+          put_at (j - 1) (ap (λ ps. slice_get ps (j - 1)) (map-remove (λ (t : Held B). t.at) hs i)
+          ∙ slice_get-remove_behind (map (λ t. t.at) hs) i (j - 1) (omega (arith, less))
+          ∙ ap (slice_get (map (λ t. t.at) hs)) one ∙ place)
+
+      put_back_at : i ≡ j → ws ≡ insert_at j (option_to_list (slice_get hs i)) (remove hs i)
+      put_back_at same =
+          stays (sym place ∙ ap (slice_get (map (λ t. t.at) hs)) (sym same) ∙ at)
+          ∙ sym (insert_at-remove hs i) ∙ ap (λ k. insert_at k (option_to_list (slice_get hs i)) (remove hs i)) same
+
+      not_behind : (y : Bool) → nat_lt j i ≡ y → j ≤ i → ws ≡ insert_at j (option_to_list (slice_get hs i)) (remove hs i)
+      not_behind true e le = put_before (ltb-true j i e)
+      not_behind false e le = put_back_at (omega (arith, ltb-false j i e, le))
+
+      pub to_before_at-at : ws ≡ to_before_at hs i j
+      to_before_at-at = (elim (nat_lt i j) as (λ y. nat_lt i j ≡ y
+          → ws ≡ insert_at (j - cond y 1 0) (option_to_list (slice_get hs i)) (remove hs i)) [
+            | true ↦ λ e. put_behind (ltb-true i j e)
+            | false ↦ λ e. let all : j ≡ j - 0 = omega arith in
+                not_behind (nat_lt j i) refl (omega (arith, ltb-false i j e))
+                ∙ ap (λ k. insert_at k (option_to_list (slice_get hs i)) (remove hs i)) all
+          ]) refl
+
     -- once it moved to the front, it has the first index, and each of another index is behind it
     pub index_of-front : index_of p (to_front_at hs i) ≡ 0
     index_of-front =
@@ -184,6 +266,65 @@ module _ {B : Type 0} where
           | true ↦ λ e. absurd (others (ap (λ r. index_of r hs) (same_ptr-equal p q e)))
           | false ↦ λ e. refl
         ]) refl
+
+  -- a triple that is put among the others
+  pub record MovedTo {hs : List (Held B)} {p : Ptr} (h : IsHeld hs p) (ks : List (Held B)) : Type 0 where
+    pub before : List (Held B)
+    pub after : List (Held B)
+    pub cut : h.before ++ h.after ≡ before ++ after
+    pub is : ks ≡ before ++ h.node ∷ after
+
+  pub length-moved_to : {hs ks : List (Held B)} {p : Ptr} {h : IsHeld hs p} → MovedTo h ks → length ks ≡ length hs
+  length-moved_to {h = h} m =
+      let a = ap length m.is in let b = ap length h.is in let c = ap length m.cut in
+      omega (
+        arith,
+        a,
+        b,
+        c,
+        length-append m.before (h.node ∷ m.after),
+        length-append m.before m.after,
+        length-append h.before h.after,
+        length-append h.before (h.node ∷ h.after),
+      )
+
+  pub MovedTo-back : {hs ks : List (Held B)} {p : Ptr} (h : IsHeld hs p) → AtHeld hs p (λ xs t ys. ks ≡ (xs ++ ys) ++ t ∷ []) → MovedTo h ks
+  MovedTo-back h last = let others = h.before ++ h.after in
+      record { before = others; after = []; cut = sym (append-nil others); is = last h.before h.node h.after h.is h.at_is }
+
+  pub MovedTo-front : {hs ks : List (Held B)} {p : Ptr} (h : IsHeld hs p) → AtHeld hs p (λ xs t ys. ks ≡ t ∷ (xs ++ ys)) → MovedTo h ks
+  MovedTo-front h first = record { before = []; after = h.before ++ h.after; cut = refl; is = first h.before h.node h.after h.is h.at_is }
+
+  pub MovedTo-to_before_at : {hs ks : List (Held B)} {p : Ptr} (h : IsHeld hs p) (j : ℕ) → ks ≡ to_before_at hs (length h.before) j → MovedTo h ks
+  MovedTo-to_before_at {hs} h j is =
+      let k = j - cond (nat_lt (length h.before) j) 1 0 in let others = h.before ++ h.after in record {
+        before = take k others;
+        after = drop k others;
+        cut = sym (take-append-drop k others);
+        is = is ∙ ap₂ (λ o zs. insert_at k (option_to_list o) zs)
+            (ap (λ zs. slice_get zs (length h.before)) h.is ∙ slice_get-append h.before h.node h.after)
+            (ap (λ zs. remove zs (length h.before)) h.is ∙ remove-append h.before h.node h.after);
+      }
+
+  -- a place has an index
+  abbrev pub place_index : (hs : List (Held B)) (o : Option Ptr) → IfSome o (IsHeld hs) → ℕ
+  place_index hs None h = length hs
+  place_index hs (Some q) h = length h.before
+
+  PlaceAt-length : (hs : List (Held B)) → PlaceAt hs None (length hs)
+  PlaceAt-length [] = refl
+  PlaceAt-length (t ∷ hs) = PlaceAt-length hs
+
+  pub PlaceAt-place_index : (hs : List (Held B)) (o : Option Ptr) (h : IfSome o (IsHeld hs)) → PlaceAt hs o (place_index hs o h)
+  PlaceAt-place_index hs None h = PlaceAt-length hs
+  PlaceAt-place_index hs (Some q) h = IsAt-split h.before h.node h.after h.is h.at_is
+
+  pub moved_to : {hs ks : List (Held B)} {p : Ptr} (h : IsHeld hs p) {o : Option Ptr} → IfSome o (IsHeld hs)
+      → AtHeld hs p (λ xs t ys. BeforeHeld (xs ++ ys) o (λ us vs. ks ≡ us ++ t ∷ vs)) → (o ≡ Some p → ks ≡ hs) → MovedTo h ks
+  moved_to {hs} h {o} there moved stays =
+      let j = place_index hs o there in
+      MovedTo-to_before_at h j (to_before_at-at hs (length h.before) (IsAt-split h.before h.node h.after h.is h.at_is) j
+      (PlaceAt-place_index hs o there) moved stays)
 
   -- among other positions the last has the last index
   pub index_of-last : (p : Ptr) (hs : List (Held B)) (t : Held B) → t.at ≡ p
@@ -233,9 +374,13 @@ module _ {B : Type 0} where
 
 -- without chain links
 module _ {K V : Type 0} where
+  pub PlaceAt-entries : (hs : List (Held (K × V))) {es : List (Held (K × V))} {o : Option Ptr} (i : ℕ) → entries hs ≡ es → PlaceAt es o i
+      → PlaceAt hs o i
+  PlaceAt-entries hs i same at = ap (λ ps. slice_get ps i) (sym (pointers-entries hs) ∙ ap (map (λ t. t.at)) same) ∙ at
+
   pub IsAt-entries : (hs : List (Held (K × V))) {es : List (Held (K × V))} {p : Ptr} (i : ℕ) → entries hs ≡ es → IsAt es p i
       → IsAt hs p i
-  IsAt-entries hs i same at = ap (λ ps. slice_get ps i) (sym (pointers-entries hs) ∙ ap (map (λ t. t.at)) same) ∙ at
+  IsAt-entries hs i same at = PlaceAt-entries hs i same at
 
   pub index_of-entries : (p : Ptr) (hs : List (Held (K × V))) → index_of p (entries hs) ≡ index_of p hs
   index_of-entries p [] = refl

@@ -1,8 +1,8 @@
 -- A table: what it shows of the nodes of its ring, which stand there without their links.
 use Rattle.std.proofs.Common.{◌≡◌, ℕ, ◌+◌, ◌-◌, ◌^◌, ◌<◌, ◌≤◌, ◌≢◌, cond, List, [], ◌∷◌, ◌++◌, length}
-use Rattle.std.proofs.Common.{length-append, map, Option, None, refl, sym, ap, ◌∙◌, subst, inl, inr}
+use Rattle.std.proofs.Common.{length-append, map, Option, Some, None, refl, sym, ap, ◌∙◌, subst, inl, inr}
 use Rattle.std.proofs.Common.{arith}
-use Rattle.std.specs.Prelude.{Result, Ok, Err, OnOk, OnErr}
+use Rattle.std.specs.Prelude.{Result, Ok, Err, OnOk, OnErr, IfSome}
 use Rattle.std.proofs.lemmas.Bool.{eq-eqb, ne_eqb}
 use Rattle.std.proofs.lemmas.List.{length-map}
 use denote.RawPtr.{Ptr}
@@ -10,22 +10,29 @@ use Rattle.lhm_ring.proofs.indexes.BucketCounts.{buckets-raised, buckets-below, 
 use Rattle.lhm_ring.proofs.indexes.Entries.{AtHeld-entries, IsHeld-entries, entries-append}
 use Rattle.lhm_ring.proofs.indexes.Entries.{entries-change_at, first_at-entries, length-entries}
 use Rattle.lhm_ring.proofs.indexes.Entries.{length-same_entries, pointers-entries, triples-entries}
-use Rattle.lhm_ring.proofs.indexes.IndexMoves.{spots-value, spots-rekeyed, PutsIn-last}
+use Rattle.lhm_ring.proofs.indexes.IndexMoves.{spots-value, spots-rekeyed}
 use Rattle.lhm_ring.proofs.indexes.Spots.{PutsIn-spots}
 use Rattle.lhm_ring.proofs.tables.IndexedRing.{IsIndexed-value, IsIndexed-same_spots, IsIndexed-moved}
+use Rattle.lhm_ring.proofs.tables.Positions.{MovedTo, length-moved_to}
+use Rattle.lhm_ring.specs.declared.pointer.Position.{Position}
 use Rattle.lhm_ring.specs.Nodes.{IsApart}
+use Rattle.lhm_ring.specs.Pointer.{pointer_of}
 use Rattle.lhm_ring.specs.Ring.{Held, State, state, IsHeld, AtHeld, ChangesOnly, linked_to, first_at, change_at, triples, revalued, rekeyed}
 use Rattle.lhm_ring.specs.RingAfterLoan.{with_value}
 use Rattle.lhm_ring.specs.Index.{Indexes, PutsIn, spot, spots, entries, HoldsOthers}
 use Rattle.lhm_ring.specs.Buckets.{BucketState, buckets, rechained_raised, made_raised}
 use Rattle.lhm_ring.specs.Links.{nodes_grown, least_more}
 use Rattle.lhm_ring.specs.TableAfterLoan.{with_value as write}
-use Rattle.lhm_ring.specs.Table.{IsTable, TableState, WritesOnly, table_of}
+use Rattle.lhm_ring.specs.Table.{IsTable, KeepsCounts, TableState, WritesOnly, table_of}
 
 -- a table that is seen as m
 module _ {K V : Type 0} (s : State (K × V)) (r : ℕ) {m : TableState (K × V)} (seen : table_of s r ≡ m) where
   pub IsHeld-table : (p : Ptr) → IsHeld m.held p → IsHeld s.held p
   IsHeld-table p h = IsHeld-entries s.held p (subst (λ (z : TableState (K × V)). IsHeld z.held p) (sym seen) h)
+
+  pub IfSome-table : (o : Option (Position K V)) → IfSome o (λ at. IsHeld m.held (pointer_of at)) → IfSome o (λ at. IsHeld s.held (pointer_of at))
+  IfSome-table None h = tt
+  IfSome-table (Some at) h = IsHeld-table (pointer_of at) h
 
   -- what holds at a position of nodes with the entries of the table
   pub AtHeld-same_entries : (ks : List (Held (K × V))) → entries ks ≡ entries s.held
@@ -57,6 +64,17 @@ module _ {K V : Type 0} (s : State (K × V)) (r : ℕ) {m : TableState (K × V)}
 
   pub spares-table : length m.held < m.capacity → 0 < s.spares
   spares-table room = let l = length-table in let c = length-capacity in omega (arith, l, c, room)
+
+  -- a pair was moved
+  pub KeepsCounts-moved : {t : State (K × V)} {p : Ptr} {h : IsHeld s.held p} → MovedTo h t.held
+      → t.spares ≡ s.spares → t.nodes ≡ s.nodes → KeepsCounts m (table_of t r)
+  KeepsCounts-moved moved spares made =
+      let long = length-moved_to moved in let all = length-capacity in
+      record {
+        capacity = omega (arith, long, spares, all);
+        rechained = ap (λ (z : TableState (K × V)). z.rechained) seen;
+        made = made ∙ ap (λ (z : TableState (K × V)). z.made) seen;
+      }
 
   -- a value was written at p
   pub table_of-value : (p : Ptr) (w : V) → table_of (with_value s p w) r ≡ write m p w
@@ -140,53 +158,19 @@ module _ {K V : Type 0} {i : BucketState} {s : State (K × V)} {r : ℕ} (table 
           nodes_within = omega (arith, made, table.nodes_within);
         }
 
-  -- a pair was moved: to the back, or to the front
-  IsTable-moved : {t : State (K × V)} {p : Ptr} (h : IsHeld s.held p)
-      → PutsIn (spot h.node) (spots (h.before ++ h.after)) (spots t.held)
-      → length t.held ≡ length s.held → t.spares ≡ s.spares → t.nodes ≡ s.nodes → IsTable i t r
-  IsTable-moved {t} h puts long spares made = record {
-    indexed = IsIndexed-moved i s t table.indexed spares h puts long;
-    few = table.few;
-    limit = omega (arith, long, spares, table.limit);
-    nodes_within = omega (arith, made, table.nodes_within);
-  }
-
-  pub length-moved : (t : State (K × V)) (p : Ptr) → IsHeld s.held p
-      → AtHeld s.held p (λ xs x ys. t.held ≡ (xs ++ ys) ++ x ∷ []) → length t.held ≡ length s.held
-  length-moved t p h last =
-      let a = ap length (last h.before h.node h.after h.is h.at_is) in
-      let b = ap length h.is in
-      let f = length-append (h.before ++ h.after) (h.node ∷ []) in
-      let g = length-append h.before h.after in
-      let k = length-append h.before (h.node ∷ h.after) in
-      omega (arith, a, b, f, g, k)
-
-  pub IsTable-to_back : {t : State (K × V)} (p : Ptr) → IsHeld s.held p
-      → AtHeld s.held p (λ xs x ys. t.held ≡ (xs ++ ys) ++ x ∷ []) → t.spares ≡ s.spares
-      → t.nodes ≡ s.nodes → IsTable i t r
-  IsTable-to_back {t} p h last spares made =
-      IsTable-moved h
-      (subst (λ (v : List (Held (K × V))). PutsIn (spot h.node) (spots (h.before ++ h.after)) (spots v))
-      (sym (last h.before h.node h.after h.is h.at_is)) (PutsIn-last (h.before ++ h.after) h.node))
-      (length-moved t p h last) spares made
-
-  pub length-moved_front : (t : State (K × V)) (p : Ptr) → IsHeld s.held p
-      → AtHeld s.held p (λ xs x ys. t.held ≡ x ∷ (xs ++ ys)) → length t.held ≡ length s.held
-  length-moved_front t p h first =
-      let a = ap length (first h.before h.node h.after h.is h.at_is) in
-      let b = ap length h.is in
-      let g = length-append h.before h.after in
-      let k = length-append h.before (h.node ∷ h.after) in
-      omega (arith, a, b, g, k)
-
-  pub IsTable-to_front : {t : State (K × V)} (p : Ptr) → IsHeld s.held p
-      → AtHeld s.held p (λ xs x ys. t.held ≡ x ∷ (xs ++ ys)) → t.spares ≡ s.spares
-      → t.nodes ≡ s.nodes → IsTable i t r
-  IsTable-to_front {t} p h first spares made =
-      IsTable-moved h
-      (subst (λ (v : List (Held (K × V))). PutsIn (spot h.node) (spots (h.before ++ h.after)) (spots v))
-      (sym (first h.before h.node h.after h.is h.at_is)) (PutsIn-spots [] h.node (h.before ++ h.after)))
-      (length-moved_front t p h first) spares made
+  -- a pair was moved
+  pub IsTable-moved : {t : State (K × V)} {p : Ptr} {h : IsHeld s.held p} (m : MovedTo h t.held)
+      → t.spares ≡ s.spares → t.nodes ≡ s.nodes → IsTable i t r
+  IsTable-moved {t} {h = h} m spares made =
+      let long = length-moved_to m in
+      let puts = subst (λ (v : List (Held (K × V)) × List (Held (K × V))). PutsIn (spot h.node) (spots v.0) (spots v.1))
+      (λ j. (sym m.cut j, sym m.is j)) (PutsIn-spots m.before h.node m.after) in
+      record {
+        indexed = IsIndexed-moved i s t table.indexed spares h puts long;
+        few = table.few;
+        limit = omega (arith, long, spares, table.limit);
+        nodes_within = omega (arith, made, table.nodes_within);
+      }
 
   -- the node at p was removed from its chain, and then from the ring
   module _ {i' : BucketState} {t w : State (K × V)} {p : Ptr}

@@ -1,11 +1,11 @@
-use Rattle.std.proofs.Common.{◌∙◌, ap, sym, subst}
-use Rattle.lhm_ring.proofs.rings.Moves.{is_there-neighbours, is_there-moving, IsOwned-moved, AtHeld-moved}
-use Rattle.lhm_ring.proofs.rings.RingCells.{links_at-ring_cells, prev_at-null, is_there-nowhere, led_to-some, led_to-none, IsJoined-same}
+use Rattle.std.proofs.Common.{◌++◌, [], refl, ◌∙◌, ap, sym, append-nil}
+use Rattle.lhm_ring.proofs.rings.Moves.{is_there-neighbours, is_there-moved, is_there-previous, next_at-back, IsOwned-before, AtHeld-before}
+use Rattle.lhm_ring.proofs.rings.RingCells.{links_at-ring_cells, prev_at-null, is_there-nowhere}
 use Rattle.lhm_ring.proofs.rings.HeldPointers.{IsApart-held}
 use Rattle.lhm_ring.proofs.memory.Places.{IsLaid-same}
 use Rattle.lhm_ring.proofs.rings.Insides.{IsAt-inside}
 use Rattle.lhm_ring.proofs.ring.Ring.move_to_back.Goals as goal
-use Rattle.lhm_ring.specs.Links.{ring_cells, IsThere}
+use denote.RawPtr.{null_ptr}
 
 pub links-links-requires : goal.links-links-requires
 links-links-requires g c = IsAt-inside c.self.inside c.self.invariant c.self.view_is c.args.at.block c.requires
@@ -18,21 +18,20 @@ join-requires g c =
 
 pub join-requires-2 : goal.join-requires-2
 join-requires-2 g c =
-    let i = c.self.inside in let p = c.args.at.pointer.ptr in let ds = ring_cells c.join.new.ends c.join.new.nodes.cells in
+    let i = c.self.inside in let p = c.args.at.pointer.ptr in
     let e = links_at-ring_cells i.ends i.nodes.cells p c.args.at.block ∙ c.links-links.ensures in
-    let t = is_there-moving c.self.invariant.ring c.self.view_is p e c.join.ensures.joined c.requires in (
-      subst (IsThere ds) (prev_at-null c.join.new.ends c.join.new.nodes.cells) t.0,
-      subst (IsThere ds) (sym (led_to-some c.to-moved.result.ptr p c.to-moved.ensures)) t.1,
+    let ok = c.self.invariant.ring in (
+      is_there-previous ok c.self.view_is p e c.join.ensures.joined c.requires null_ptr refl tt
+          (sym (prev_at-null c.join.new.ends c.join.new.nodes.cells)),
+      is_there-moved ok c.self.view_is p e c.join.ensures.joined c.requires c.to-moved.result.ptr c.to-moved.ensures,
     )
 
 pub join-requires-3 : goal.join-requires-3
 join-requires-3 g c =
-    let i = c.self.inside in let p = c.args.at.pointer.ptr in let ds = ring_cells c.join.new.ends c.join.new.nodes.cells in
-    let e = links_at-ring_cells i.ends i.nodes.cells p c.args.at.block ∙ c.links-links.ensures in
-    let t = is_there-moving c.self.invariant.ring c.self.view_is p e c.join.ensures.joined c.requires in
-    let ends = c.join-2.new.ends in let zs = c.join-2.new.nodes.cells in (
+    let i = c.self.inside in let p = c.args.at.pointer.ptr in
+    let e = links_at-ring_cells i.ends i.nodes.cells p c.args.at.block ∙ c.links-links.ensures in (
       c.join-2.ensures.joined.there c.to-moved.result.ptr
-          ∙ subst (IsThere ds) (sym (led_to-some c.to-moved.result.ptr p c.to-moved.ensures)) t.1,
+          ∙ is_there-moved c.self.invariant.ring c.self.view_is p e c.join.ensures.joined c.requires c.to-moved.result.ptr c.to-moved.ensures,
       is_there-nowhere c.join-2.new.ends c.join-2.new.nodes.cells c.none.result.ptr c.none.ensures,
     )
 
@@ -40,11 +39,11 @@ pub invariant_of-self : goal.invariant_of-self
 invariant_of-self g c =
     let i = c.self.inside in let p = c.args.at.pointer.ptr in
     let e = links_at-ring_cells i.ends i.nodes.cells p c.args.at.block ∙ c.links-links.ensures in
-    let node = led_to-some c.to-moved.result.ptr p c.to-moved.ensures in
-    let k = IsJoined-same (sym (prev_at-null c.join.new.ends c.join.new.nodes.cells)) node c.join-2.ensures.joined in
-    let l = IsJoined-same node (led_to-none c.none.result.ptr c.none.ensures) c.join-3.ensures.joined in
+    let last = sym (prev_at-null c.join.new.ends c.join.new.nodes.cells) in
     record {
-      ring = IsOwned-moved c.self.invariant.ring c.self.view_is p e c.join.ensures.joined k l c.requires;
+      ring = IsOwned-before c.self.invariant.ring c.self.view_is p e c.join.ensures.joined c.requires null_ptr refl tt last
+          (next_at-back c.self.invariant.ring c.self.view_is p e c.join.ensures.joined c.requires c.none.ensures last)
+          c.to-moved.ensures c.join-2.ensures.joined c.join-3.ensures.joined;
       laid = IsLaid-same c.self.invariant.laid (c.join-3.ensures.land.0 ∙ c.join-2.ensures.land.0
           ∙ c.join.ensures.land.0) (c.join-3.ensures.land.1 ∙ c.join-2.ensures.land.1
           ∙ c.join.ensures.land.1);
@@ -54,11 +53,12 @@ pub returns : goal.returns
 returns g c =
     let i = c.self.inside in let p = c.args.at.pointer.ptr in
     let e = links_at-ring_cells i.ends i.nodes.cells p c.args.at.block ∙ c.links-links.ensures in
-    let node = led_to-some c.to-moved.result.ptr p c.to-moved.ensures in
-    let k = IsJoined-same (sym (prev_at-null c.join.new.ends c.join.new.nodes.cells)) node c.join-2.ensures.joined in
-    let l = IsJoined-same node (led_to-none c.none.result.ptr c.none.ensures) c.join-3.ensures.joined in
+    let last = sym (prev_at-null c.join.new.ends c.join.new.nodes.cells) in
+    let moved = AtHeld-before c.self.invariant.ring c.self.view_is p e c.join.ensures.joined c.requires null_ptr refl tt last
+    (next_at-back c.self.invariant.ring c.self.view_is p e c.join.ensures.joined c.requires c.none.ensures last)
+    c.to-moved.ensures c.join-2.ensures.joined c.join-3.ensures.joined in
     record {
-      last = AtHeld-moved c.self.invariant.ring c.self.view_is p e c.join.ensures.joined k l;
+      last = λ xs t ys is at. moved xs t ys is at (xs ++ ys) [] (sym (append-nil (xs ++ ys))) refl;
       spares = ap (λ z. z.spares) c.self.view_is;
       nodes = ap (λ z. z.nodes) c.self.view_is;
       apart = IsApart-held c.self.invariant.ring c.self.view_is;

@@ -1,6 +1,6 @@
 use Rattle.std.proofs.Common.{None, refl, ap, ◌∙◌, arith}
-use Rattle.lhm_ring.proofs.tables.Positions.{to_back_at-at, map-to_back_at, index_of-to_back, IsAt-entries, index_of-entries}
-use Rattle.lhm_ring.proofs.tables.Tables.{IsHeld-table, length-capacity, IsTable-to_back, length-moved}
+use Rattle.lhm_ring.proofs.tables.Positions.{MovedTo-back, to_back_at-at, map-to_back_at, index_of-to_back, IsAt-entries, index_of-entries}
+use Rattle.lhm_ring.proofs.tables.Tables.{IsHeld-table, IsTable-moved, KeepsCounts-moved}
 use Rattle.lhm_ring.proofs.indexes.Entries.{length-entries}
 use Rattle.lhm_ring.proofs.table.Table.move_to_back.Goals as goal
 use Rattle.lhm_ring.specs.Pointer.{pointer_of}
@@ -13,9 +13,8 @@ move_to_back-requires g c = IsHeld-table c.self.inside.ring c.self.inside.rechai
 pub invariant_of-self : goal.invariant_of-self
 invariant_of-self g c =
     let moved = c.move_to_back.ensures in
-    IsTable-to_back c.self.invariant (pointer_of c.args.at)
-    (IsHeld-table c.self.inside.ring c.self.inside.rechained c.self.view_is (pointer_of c.args.at)
-    c.requires) moved.last moved.spares moved.nodes
+    let h = IsHeld-table c.self.inside.ring c.self.inside.rechained c.self.view_is (pointer_of c.args.at) c.requires in
+    IsTable-moved c.self.invariant (MovedTo-back h moved.last) moved.spares moved.nodes
 
 pub returns-clause-held : goal.returns-clause-held
 returns-clause-held g c =
@@ -32,13 +31,6 @@ returns-clause-last g c =
 
 pub returns-clause-keeps : goal.returns-clause-keeps
 returns-clause-keeps g c =
-    let moved = c.move_to_back.ensures in
-    let long = length-moved c.self.invariant c.move_to_back.new.self (pointer_of c.args.at)
-    (IsHeld-table c.self.inside.ring c.self.inside.rechained c.self.view_is (pointer_of c.args.at)
-    c.requires) moved.last in
-    let all = length-capacity c.self.inside.ring c.self.inside.rechained c.self.view_is in
-    record {
-      capacity = omega (arith, long, moved.spares, all);
-      rechained = ap (λ s. s.rechained) c.self.view_is;
-      made = moved.nodes ∙ ap (λ s. s.made) c.self.view_is;
-    }
+    let s = c.self.inside.ring in let r = c.self.inside.rechained in let moved = c.move_to_back.ensures in
+    let h = IsHeld-table s r c.self.view_is (pointer_of c.args.at) c.requires in
+    KeepsCounts-moved s r c.self.view_is (MovedTo-back h moved.last) moved.spares moved.nodes

@@ -1,6 +1,6 @@
-use Rattle.std.proofs.Common.{None, refl, ap, ◌∙◌, arith}
-use Rattle.lhm_ring.proofs.tables.Positions.{to_front_at-at, map-to_front_at, IsAt-entries}
-use Rattle.lhm_ring.proofs.tables.Tables.{IsHeld-table, length-capacity, IsTable-to_front, length-moved_front}
+use Rattle.std.proofs.Common.{None, refl, ap, ◌∙◌}
+use Rattle.lhm_ring.proofs.tables.Positions.{MovedTo-front, to_front_at-at, map-to_front_at, IsAt-entries}
+use Rattle.lhm_ring.proofs.tables.Tables.{IsHeld-table, IsTable-moved, KeepsCounts-moved}
 use Rattle.lhm_ring.proofs.table.Table.move_to_front.Goals as goal
 use Rattle.lhm_ring.specs.Pointer.{pointer_of}
 use Rattle.lhm_ring.specs.Ring.{linked_to}
@@ -12,9 +12,8 @@ move_to_front-requires g c = IsHeld-table c.self.inside.ring c.self.inside.recha
 pub invariant_of-self : goal.invariant_of-self
 invariant_of-self g c =
     let moved = c.move_to_front.ensures in
-    IsTable-to_front c.self.invariant (pointer_of c.args.at)
-    (IsHeld-table c.self.inside.ring c.self.inside.rechained c.self.view_is (pointer_of c.args.at)
-    c.requires) moved.first moved.spares moved.nodes
+    let h = IsHeld-table c.self.inside.ring c.self.inside.rechained c.self.view_is (pointer_of c.args.at) c.requires in
+    IsTable-moved c.self.invariant (MovedTo-front h moved.first) moved.spares moved.nodes
 
 pub returns-clause-held : goal.returns-clause-held
 returns-clause-held g c =
@@ -24,13 +23,6 @@ returns-clause-held g c =
 
 pub returns-clause-keeps : goal.returns-clause-keeps
 returns-clause-keeps g c =
-    let moved = c.move_to_front.ensures in
-    let long = length-moved_front c.self.invariant c.move_to_front.new.self (pointer_of c.args.at)
-    (IsHeld-table c.self.inside.ring c.self.inside.rechained c.self.view_is (pointer_of c.args.at)
-    c.requires) moved.first in
-    let all = length-capacity c.self.inside.ring c.self.inside.rechained c.self.view_is in
-    record {
-      capacity = omega (arith, long, moved.spares, all);
-      rechained = ap (λ s. s.rechained) c.self.view_is;
-      made = moved.nodes ∙ ap (λ s. s.made) c.self.view_is;
-    }
+    let s = c.self.inside.ring in let r = c.self.inside.rechained in let moved = c.move_to_front.ensures in
+    let h = IsHeld-table s r c.self.view_is (pointer_of c.args.at) c.requires in
+    KeepsCounts-moved s r c.self.view_is (MovedTo-front h moved.first) moved.spares moved.nodes

@@ -1,0 +1,89 @@
+use Rattle.std.proofs.Common.{◌∙◌}
+use Rattle.lhm_ring.proofs.rings.Moves.{is_there-neighbours, is_there-moved, is_there-before, is_there-previous, is_there-next}
+use Rattle.lhm_ring.proofs.rings.Moves.{IsOwned-before, AtHeld-before, ring_list-own, IfSome-pointer}
+use Rattle.lhm_ring.proofs.rings.RingCells.{links_at-ring_cells}
+use Rattle.lhm_ring.proofs.rings.HeldPointers.{IsApart-held}
+use Rattle.lhm_ring.proofs.memory.Places.{IsLaid-same}
+use Rattle.lhm_ring.proofs.rings.Insides.{IsAt-inside}
+use Rattle.lhm_ring.proofs.ring.Ring.move_before.Goals as goal
+use Rattle.lhm_ring.specs.Ring.{IsHeld}
+
+pub links-links-requires : goal.links-links-requires
+links-links-requires g c = IsAt-inside c.self.inside c.self.invariant c.self.view_is c.args.at.block c.requires.at
+
+pub join-requires : goal.join-requires
+join-requires g c =
+    let i = c.self.inside in let p = c.args.at.pointer.ptr in
+    is_there-neighbours c.self.invariant.ring c.self.view_is c.requires.at
+    (links_at-ring_cells i.ends i.nodes.cells p c.args.at.block ∙ c.links-links.ensures)
+
+pub prev_of-previous-requires : goal.prev_of-previous-requires
+prev_of-previous-requires g c =
+    let i = c.self.inside in let p = c.args.at.pointer.ptr in
+    let e = links_at-ring_cells i.ends i.nodes.cells p c.args.at.block ∙ c.links-links.ensures in
+    let there = IfSome-pointer (IsHeld c.args.self.now.held) c.args.before c.requires.before in
+    is_there-before c.self.invariant.ring c.self.view_is p e c.join.ensures.joined c.requires.at c.of-place.result.ptr c.of-place.ensures there
+
+pub next_of-next-requires : goal.next_of-next-requires
+next_of-next-requires g c =
+    let i = c.self.inside in let p = c.args.at.pointer.ptr in
+    let e = links_at-ring_cells i.ends i.nodes.cells p c.args.at.block ∙ c.links-links.ensures in
+    let there = IfSome-pointer (IsHeld c.args.self.now.held) c.args.before c.requires.before in
+    is_there-previous c.self.invariant.ring c.self.view_is p e c.join.ensures.joined c.requires.at c.of-place.result.ptr c.of-place.ensures there
+    c.prev_of-previous.ensures
+
+pub join-requires-2 : goal.join-requires-2
+join-requires-2 g c =
+    let i = c.self.inside in let p = c.args.at.pointer.ptr in
+    let e = links_at-ring_cells i.ends i.nodes.cells p c.args.at.block ∙ c.links-links.ensures in
+    let there = IfSome-pointer (IsHeld c.args.self.now.held) c.args.before c.requires.before in
+    let ok = c.self.invariant.ring in (
+      is_there-previous ok c.self.view_is p e c.join.ensures.joined c.requires.at c.of-place.result.ptr c.of-place.ensures there
+          c.prev_of-previous.ensures,
+      is_there-moved ok c.self.view_is p e c.join.ensures.joined c.requires.at c.to-moved.result.ptr c.to-moved.ensures,
+    )
+
+pub join-requires-3 : goal.join-requires-3
+join-requires-3 g c =
+    let i = c.self.inside in let p = c.args.at.pointer.ptr in
+    let e = links_at-ring_cells i.ends i.nodes.cells p c.args.at.block ∙ c.links-links.ensures in
+    let there = IfSome-pointer (IsHeld c.args.self.now.held) c.args.before c.requires.before in
+    let ok = c.self.invariant.ring in (
+      c.join-2.ensures.joined.there c.to-moved.result.ptr
+          ∙ is_there-moved ok c.self.view_is p e c.join.ensures.joined c.requires.at c.to-moved.result.ptr c.to-moved.ensures,
+      c.join-2.ensures.joined.there c.next_of-next.result.ptr
+          ∙ is_there-next ok c.self.view_is p e c.join.ensures.joined c.requires.at c.of-place.result.ptr c.of-place.ensures there
+          c.prev_of-previous.ensures c.next_of-next.ensures,
+    )
+
+pub invariant_of-self : goal.invariant_of-self
+invariant_of-self g c =
+    let i = c.self.inside in let p = c.args.at.pointer.ptr in
+    let e = links_at-ring_cells i.ends i.nodes.cells p c.args.at.block ∙ c.links-links.ensures in
+    let there = IfSome-pointer (IsHeld c.args.self.now.held) c.args.before c.requires.before in
+    record {
+      ring = IsOwned-before c.self.invariant.ring c.self.view_is p e c.join.ensures.joined c.requires.at c.of-place.result.ptr c.of-place.ensures
+          there c.prev_of-previous.ensures c.next_of-next.ensures c.to-moved.ensures c.join-2.ensures.joined c.join-3.ensures.joined;
+      laid = IsLaid-same c.self.invariant.laid (c.join-3.ensures.land.0 ∙ c.join-2.ensures.land.0
+          ∙ c.join.ensures.land.0) (c.join-3.ensures.land.1 ∙ c.join-2.ensures.land.1
+          ∙ c.join.ensures.land.1);
+    }
+
+pub returns-clause-moved : goal.returns-clause-moved
+returns-clause-moved g c =
+    let i = c.self.inside in let p = c.args.at.pointer.ptr in
+    let e = links_at-ring_cells i.ends i.nodes.cells p c.args.at.block ∙ c.links-links.ensures in
+    let there = IfSome-pointer (IsHeld c.args.self.now.held) c.args.before c.requires.before in
+    AtHeld-before c.self.invariant.ring c.self.view_is p e c.join.ensures.joined c.requires.at c.of-place.result.ptr c.of-place.ensures
+    there c.prev_of-previous.ensures c.next_of-next.ensures c.to-moved.ensures c.join-2.ensures.joined c.join-3.ensures.joined
+
+pub returns-clause-stays : goal.returns-clause-stays
+returns-clause-stays g c =
+    let i = c.self.inside in let p = c.args.at.pointer.ptr in
+    let e = links_at-ring_cells i.ends i.nodes.cells p c.args.at.block ∙ c.links-links.ensures in
+    let there = IfSome-pointer (IsHeld c.args.self.now.held) c.args.before c.requires.before in
+    ring_list-own c.self.invariant.ring c.self.view_is p e c.join.ensures.joined c.requires.at c.of-place.result.ptr c.of-place.ensures
+    there c.prev_of-previous.ensures c.next_of-next.ensures c.to-moved.ensures c.join-2.ensures.joined c.join-3.ensures.joined
+
+pub returns-clause-apart : goal.returns-clause-apart
+returns-clause-apart g c = IsApart-held c.self.invariant.ring c.self.view_is
