@@ -40,7 +40,7 @@
 //!   what a lookup takes: a reference to a key, or `&str` for a `String`.
 //! - Remove: `remove`, `remove_entry`, `pop_front`, `pop_back`, `retain`, `clear`, `drain`, or by
 //!   `front_entry` or `back_entry`.
-//! - Reorder: `move_to_back`, `move_to_front`, `rotate_left`.
+//! - Reorder: `move_to_back`, `move_to_front`, `move_before`, `move_after`, `rotate_left`.
 //! - Iterate: `iter`, `iter_mut`, `keys`, `values`, `values_mut`, `into_iter`, `into_keys`,
 //!   `into_values`; `entries` or `visit` to remove or move pairs on the way.
 //! - Memory: `capacity`, `reserve`, `shrink_to_fit`.

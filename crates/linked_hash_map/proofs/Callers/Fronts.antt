@@ -5,7 +5,7 @@ use Rattle.std.specs.Cmp.{IsEquivalence}
 use Rattle.std.specs.Map.{keys_of}
 use Rattle.linked_hash_map.specs.declared.map.Mode.{Mode}
 use Rattle.linked_hash_map.specs.declared.map.Mode.TheVariants.{Touch, Keep}
-use Rattle.linked_hash_map.specs.Pairs.{first, key_or, find, value_at, without, set_value, put, put_front}
+use Rattle.linked_hash_map.specs.Pairs.{first, key_or, find, without, set_value, put, put_front}
 use Rattle.linked_hash_map.specs.Updates.{Updates}
 use Rattle.linked_hash_map.proofs.Callers.Keys.{keys_of-set_value, keys_of-without}
 use Rattle.linked_hash_map.proofs.Callers.Lookups.{eq-stored, find-put, find-without}

@@ -1,6 +1,5 @@
-use Rattle.std.proofs.Common.{◌-◌, length, slice_get, refl, sym, ap, ◌∙◌}
+use Rattle.std.proofs.Common.{slice_get, refl, sym, ap, ◌∙◌}
 use Rattle.linked_hash_map.specs.LinkedMap.{nowhere, cursor_state}
-use Rattle.linked_hash_map.specs.Pairs.{first}
 use Rattle.linked_hash_map.proofs.pairs.OccupiedEntries.{slice_get-occupied}
 use Rattle.linked_hash_map.proofs.map.LinkedHashMap.front_entry.Goals as goal
 
