@@ -1,14 +1,18 @@
 -- For callers: the pairs with one moved beside another. Each key finds what it found.
-use Rattle.std.proofs.Common.{◌≡◌, ℕ, Bool, true, false, cond, not, filter, List, ◌++◌, take, drop, Option, Some, None}
-use Rattle.std.proofs.Common.{option_map, option_to_list, refl, sym, ap, ap₂, ◌∙◌}
+use Rattle.std.proofs.Common.{◌≡◌, ℕ, suc, ◌+◌, Bool, true, false, cond, not, filter, List, [], ◌∷◌, ◌++◌, take, drop, Option, Some, None}
+use Rattle.std.proofs.Common.{option_map, option_to_list, refl, sym, ap, ap₂, ◌∙◌, arith}
 use Rattle.std.specs.Cmp.{IsEquivalence}
+use Rattle.std.specs.List.{IsDistinct}
 use Rattle.std.specs.Map.{keys_of}
 use Rattle.std.specs.Option.{option_or}
 use Rattle.std.proofs.lemmas.List.{map-append, take-append-drop, take-map, drop-map}
-use Rattle.linked_hash_map.specs.Pairs.{find, without, to_behind}
+use Rattle.std.proofs.lemmas.Map.Keys.{IsDistinct-tail}
+use Rattle.linked_hash_map.specs.Pairs.{find, without, count_before, to_behind, to_before}
 use Rattle.linked_hash_map.proofs.Callers.Keys.{keys_of-without}
 use Rattle.linked_hash_map.proofs.Callers.Lookups.{eq-find, find-same, find-without, lookup_entry-append}
 use Rattle.linked_hash_map.proofs.lists.Elements.{option_or_none}
+use Rattle.linked_hash_map.proofs.pairs.Calls.{without-absent}
+use Rattle.linked_hash_map.proofs.pairs.Indexes.{others_differ}
 
 cond-same : {X : Type 0} (b : Bool) (x : X) → cond b x x ≡ x
 cond-same true x = refl
@@ -52,3 +56,24 @@ keys_of-to_behind {K} {V} eq pairs k n =
     (map-append key one (without eq (drop n pairs) k)
     ∙ ap₂ (λ js ks. js ++ ks) (keys_of-option_to_list (find eq pairs k))
     (keys_of-without eq (drop n pairs) k ∙ ap (filter (λ j. not (eq k j))) (sym (drop-map key n pairs))))
+
+-- a pair beside itself stays in its place
+pub to_before-own : {K V : Type 0} {eq : K → K → Bool} → IsEquivalence eq → (pairs : List (K × V)) (k : K)
+    → IsDistinct eq (keys_of pairs) → to_before eq eq pairs k k ≡ pairs
+to_before-own laws [] k distinct = refl
+to_before-own {K} {V} {eq} laws (first ∷ pairs) k distinct =
+    by_test (to_before-own laws pairs k (IsDistinct-tail eq first.0 (keys_of pairs) distinct)) (eq k first.0) refl
+  where
+    by_test : to_behind eq pairs k (count_before eq pairs k) ≡ pairs → (b : Bool) → eq k first.0 ≡ b
+        → without eq (take (cond (not b) (1 + count_before eq pairs k) 0) (first ∷ pairs)) k
+        ++ (option_to_list (cond b (Some first) (find eq pairs k)) ++ without eq (drop (cond (not b) (1 + count_before eq pairs k) 0) (first ∷ pairs)) k)
+        ≡ first ∷ pairs
+    by_test rest true same =
+        ap (λ b. first ∷ cond (not b) (first ∷ without eq pairs k) (without eq pairs k)) same
+        ∙ ap (λ ps. first ∷ ps) (without-absent eq pairs k (others_differ laws k first pairs distinct same))
+    by_test rest false apart =
+        let one : 1 + count_before eq pairs k ≡ suc (count_before eq pairs k) = omega arith in
+        ap (λ n. without eq (take n (first ∷ pairs)) k ++ (option_to_list (find eq pairs k) ++ without eq (drop n (first ∷ pairs)) k)) one
+        ∙ ap (λ b. cond (not b) (first ∷ without eq (take (count_before eq pairs k) pairs) k) (without eq (take (count_before eq pairs k) pairs) k)
+        ++ (option_to_list (find eq pairs k) ++ without eq (drop (count_before eq pairs k) pairs) k)) apart
+        ∙ ap (λ ps. first ∷ ps) rest
