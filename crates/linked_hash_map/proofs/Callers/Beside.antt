@@ -26,7 +26,8 @@ module _ {K V : Type 0} {eq : K → K → Bool} (laws : IsEquivalence eq) (pairs
       (laws.symm q pair.0 ∙ sym (laws.congr k pair.0 q (eq-find laws pairs k pair found)))
 
   by_test : (b : Bool) → eq k q ≡ b
-      → option_or (cond b None (find eq (take n pairs) q)) (option_or (cond b (find eq pairs k) None) (cond b None (find eq (drop n pairs) q)))
+      → option_or (cond b None (find eq (take n pairs) q))
+      (option_or (cond b (find eq pairs k) None) (cond b None (find eq (drop n pairs) q)))
       ≡ find eq pairs q
   by_test true same = option_or_none (find eq pairs k) ∙ find-same laws pairs k q same
   by_test false apart = sym (lookup_entry-append (eq q) (take n pairs) (drop n pairs)) ∙ ap (λ ps. find eq ps q) (take-append-drop n pairs)
@@ -66,7 +67,8 @@ to_before-own {K} {V} {eq} laws (first ∷ pairs) k distinct =
   where
     by_test : to_behind eq pairs k (count_before eq pairs k) ≡ pairs → (b : Bool) → eq k first.0 ≡ b
         → without eq (take (cond (not b) (1 + count_before eq pairs k) 0) (first ∷ pairs)) k
-        ++ (option_to_list (cond b (Some first) (find eq pairs k)) ++ without eq (drop (cond (not b) (1 + count_before eq pairs k) 0) (first ∷ pairs)) k)
+        ++ (option_to_list (cond b (Some first) (find eq pairs k))
+        ++ without eq (drop (cond (not b) (1 + count_before eq pairs k) 0) (first ∷ pairs)) k)
         ≡ first ∷ pairs
     by_test rest true same =
         ap (λ b. first ∷ cond (not b) (first ∷ without eq pairs k) (without eq pairs k)) same
@@ -74,6 +76,7 @@ to_before-own {K} {V} {eq} laws (first ∷ pairs) k distinct =
     by_test rest false apart =
         let one : 1 + count_before eq pairs k ≡ suc (count_before eq pairs k) = omega arith in
         ap (λ n. without eq (take n (first ∷ pairs)) k ++ (option_to_list (find eq pairs k) ++ without eq (drop n (first ∷ pairs)) k)) one
-        ∙ ap (λ b. cond (not b) (first ∷ without eq (take (count_before eq pairs k) pairs) k) (without eq (take (count_before eq pairs k) pairs) k)
+        ∙ ap (λ b. cond (not b) (first ∷ without eq (take (count_before eq pairs k) pairs) k)
+        (without eq (take (count_before eq pairs k) pairs) k)
         ++ (option_to_list (find eq pairs k) ++ without eq (drop (count_before eq pairs k) pairs) k)) apart
         ∙ ap (λ ps. first ∷ ps) rest

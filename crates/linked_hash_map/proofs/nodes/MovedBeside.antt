@@ -29,7 +29,8 @@ module _ {X : Type 0} (xs : List X) (i j : ℕ) where
   IsPermutation-to_before_at =
       let m : ℕ = j - cond (nat_lt i j) 1 0 in let o = option_to_list (slice_get xs i) in
       let front = take m (remove xs i) in let back = drop m (remove xs i) in
-      let whole : (o ++ front) ++ back ≡ to_front_at xs i = append_assoc o front back ∙ ap (λ ys. o ++ ys) (take-append-drop m (remove xs i)) in
+      let whole : (o ++ front) ++ back ≡ to_front_at xs i =
+      append_assoc o front back ∙ ap (λ ys. o ++ ys) (take-append-drop m (remove xs i)) in
       IsPermutation-trans xs (to_front_at xs i) (to_before_at xs i j) (IsPermutation-to_front_at xs i)
       (subst (λ ys. IsPermutation ys (to_before_at xs i j)) whole
       (subst (IsPermutation ((o ++ front) ++ back)) (append_assoc front o back)
@@ -73,7 +74,8 @@ module _ {B : Type 0} where
   first-at [] = refl
   first-at (t ∷ hs) = refl
 
-  next-at : (xs : List (Held B)) (t : Held B) (ys : List (Held B)) → slice_get (map (λ u. u.at) (xs ++ t ∷ ys)) (length xs + 1) ≡ first_at ys
+  next-at : (xs : List (Held B)) (t : Held B) (ys : List (Held B))
+      → slice_get (map (λ u. u.at) (xs ++ t ∷ ys)) (length xs + 1) ≡ first_at ys
   next-at [] t ys = first-at ys
   next-at (x ∷ xs) t ys = let one : suc (length xs) + 1 ≡ suc (length xs + 1) = omega arith in
       ap (slice_get (map (λ u. u.at) (x ∷ xs ++ t ∷ ys))) one ∙ next-at xs t ys

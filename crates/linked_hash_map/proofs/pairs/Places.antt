@@ -106,7 +106,8 @@ module _ {K V : Type 0} {eq : K → K → Bool} (laws : IsEquivalence eq) {pairs
       (λ (before : i < n). let one : suc (n - 1) ≡ n = omega (arith, before) in
       let fewer : n - 1 ≡ n - cond (nat_lt i n) 1 0 = sym (ap (λ b. n - cond b 1 0) (lt-ltb i n before)) in
       cut_out n (n - 1)
-      (subst (λ (c : ℕ). (without eq (take c pairs) k ≡ take (n - 1) (remove pairs i)) × (without eq (drop c pairs) k ≡ drop (n - 1) (remove pairs i))) one
+      (subst (λ (c : ℕ). (without eq (take c pairs) k ≡ take (n - 1) (remove pairs i))
+      × (without eq (drop c pairs) k ≡ drop (n - 1) (remove pairs i))) one
       (earlier_out laws k pairs i (n - 1) index.pair distinct index.there index.same (omega (arith, before)))) fewer)
       (λ (behind : n ≤ i). let none : n - 0 ≡ n = omega arith in
       cut_out n n (later_out laws k pairs i n index.pair distinct index.there index.same behind)

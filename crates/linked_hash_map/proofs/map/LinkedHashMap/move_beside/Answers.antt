@@ -76,7 +76,8 @@ returns-clause-finds g c =
 
 pub returns-in_default-clause-found : goal.returns-in_default-clause-found
 returns-in_default-clause-found g c =
-    rw (← c.self.view_is) (sym (ap (λ o. is_some o && is_some (find g.P.Equivalent.equivalent (pairs_of c.self.inside.table.held) c.args.other))
+    let pairs = pairs_of c.self.inside.table.held in
+    rw (← c.self.view_is) (sym (ap (λ o. is_some o && is_some (find g.P.Equivalent.equivalent pairs c.args.other))
     (of-None c.in_default.is c.locate-found.ensures.absent)))
 
 pub returns-in_default-found_other-clause-found : goal.returns-in_default-found_other-clause-found
