@@ -73,6 +73,80 @@ fn follows_the_worked_row(rt: HostRuntime) {
     check!(rt; is_ring(&ring, &[], 0));
 }
 
+/// Returns the position of the second triple, if any.
+fn second(ring: &Ring<char, u64>) -> Option<Position<char, u64>>
+    ensures { IfSome result (λ at. IsHeld ring.now.held (pointer_of at)) }
+{
+    match ring.first() {
+        Some(at) => ring.next(at),
+        None => None,
+    }
+}
+
+/// Returns the position at an index below 3, if any.
+fn nth(ring: &Ring<char, u64>, index: usize) -> Option<Position<char, u64>>
+    ensures { IfSome result (λ at. IsHeld ring.now.held (pointer_of at)) }
+{
+    match (index, second(ring)) {
+        (0, _) => ring.first(),
+        (1, at) => at,
+        (2, Some(at)) => ring.next(at),
+        _ => None,
+    }
+}
+
+/// Returns the hashes of a ring as the digits of a number, front to back.
+fn forwards(ring: &Ring<char, u64>) -> u64 {
+    let mut digits: u64 = 0;
+    for (hash, _, _) in ring.iter() {
+        digits = digits.wrapping_mul(10).wrapping_add(hash);
+    }
+    digits
+}
+
+/// Returns them back to front.
+fn backwards(ring: &Ring<char, u64>) -> u64 {
+    let mut digits: u64 = 0;
+    let mut held = ring.iter();
+    for _ in 0..ring.len() {
+        if let Some((hash, _, _)) = held.next_back() {
+            digits = digits.wrapping_mul(10).wrapping_add(hash);
+        }
+    }
+    digits
+}
+
+/// Moves one of the triples 1, 2 and 3 before that at an index, or to the back, and reads them both
+/// ways.
+fn moved(rt: &impl Abort, alloc: Global, from: usize, to: usize) -> (u64, u64) {
+    let mut ring = with_spares(rt, alloc, 3);
+    put(rt, &mut ring, 1, 'a', 1);
+    put(rt, &mut ring, 2, 'b', 2);
+    put(rt, &mut ring, 3, 'c', 3);
+    let before = nth(&ring, to);
+    match nth(&ring, from) {
+        Some(at) => ring.move_before(at, before),
+        None => panic!(rt; "no such triple"),
+    }
+    (forwards(&ring), backwards(&ring))
+}
+
+#[test]
+fn moves_before_another_or_to_the_back(rt: HostRuntime) {
+    check_eq!(rt; moved(&rt, rt.alloc(), 0, 0), (123, 321));
+    check_eq!(rt; moved(&rt, rt.alloc(), 0, 1), (123, 321));
+    check_eq!(rt; moved(&rt, rt.alloc(), 0, 2), (213, 312));
+    check_eq!(rt; moved(&rt, rt.alloc(), 0, 3), (231, 132));
+    check_eq!(rt; moved(&rt, rt.alloc(), 1, 0), (213, 312));
+    check_eq!(rt; moved(&rt, rt.alloc(), 1, 1), (123, 321));
+    check_eq!(rt; moved(&rt, rt.alloc(), 1, 2), (123, 321));
+    check_eq!(rt; moved(&rt, rt.alloc(), 1, 3), (132, 231));
+    check_eq!(rt; moved(&rt, rt.alloc(), 2, 0), (312, 213));
+    check_eq!(rt; moved(&rt, rt.alloc(), 2, 1), (132, 231));
+    check_eq!(rt; moved(&rt, rt.alloc(), 2, 2), (123, 321));
+    check_eq!(rt; moved(&rt, rt.alloc(), 2, 3), (123, 321));
+}
+
 /// Drains what `follows_the_worked_row` leaves.
 fn drain_two(rt: &impl Abort, mut rest: Drain<'_, char, u64>) {
     check_eq!(rt; (rest.len(), rest.size_hint()), (2, (2, Some(2))));
