@@ -97,6 +97,8 @@ OWN_MAP_CALLS = (
     ("values_mut", 2, "steps value"),
     ("move_to_back", 4, "key"),
     ("move_to_front", 4, "key"),
+    ("move_before", 4, "key key"),
+    ("move_after", 4, "key key"),
     ("rotate_left", 2, "count"),
     ("capacity", 2, ""),
     ("rechained", 1, ""),

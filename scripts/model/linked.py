@@ -131,6 +131,19 @@ class Linked:
             self.pairs.move_to_end(key.folded, last=last)
         return pair
 
+    def move_beside(self, key, other, behind, effects):
+        """Moves the pair of a key before that of another, or one place further on. Tells whether
+        both are present: the second is looked up if the first is."""
+        if self.find(key, effects) is None or self.find(other, effects) is None:
+            return False
+        self.end_visit()
+        order = [name for name in self.pairs if name != key.folded]
+        if other.folded != key.folded:
+            place = order.index(other.folded) + behind
+            for name in [key.folded, *order[place:]]:
+                self.pairs.move_to_end(name)
+        return True
+
     def replace_key(self, key, effects):
         """Stores a key in place of the one that is the same. Returns that, or `None`."""
         pair = self.find(key, effects)

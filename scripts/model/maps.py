@@ -218,6 +218,14 @@ def move_to_front(call, map_):
     call.show(truth(map_.find_and_move(call.key(), call.effects, last=False)))
 
 
+def move_before(call, map_):
+    call.show(truth(map_.move_beside(call.key(), call.key(), 0, call.effects)))
+
+
+def move_after(call, map_):
+    call.show(truth(map_.move_beside(call.key(), call.key(), 1, call.effects)))
+
+
 def rotate_left(call, map_):
     """The call is made if there are so many pairs."""
     count = call.number()
@@ -266,7 +274,7 @@ LINES = {
     "remove_entry": remove_entry, "replace_key": replace_key, "pop_front": pop_front,
     "pop_back": pop_back, "clear": clear, "retain": retain, "drop": drop,
     "move_to_back": move_to_back, "move_to_front": move_to_front, "rotate_left": rotate_left,
-    "insert_front": insert_front,
+    "move_before": move_before, "move_after": move_after, "insert_front": insert_front,
     "mode": mode, "set_mode": set_mode, "capacity": capacity, "rechained": rechained,
     "reserve": reserve, "shrink_to_fit": shrink_to_fit, "fill": fills.fill,
     "refuse_clone": refuse_clone, **making.LINES, **comparing.LINES, **entries.LINES,

@@ -44,6 +44,8 @@ pub fn run<'a>(
     match name {
         "move_to_back" => output.show(&map.move_to_back(&line.key())),
         "move_to_front" => output.show(&map.move_to_front(&line.key())),
+        "move_before" => output.show(&map.move_before(&line.key(), &line.key())),
+        "move_after" => output.show(&map.move_after(&line.key(), &line.key())),
         "rotate_left" => rotate_left(map, line.size(), output),
         "set_mode" => map.set_mode(mode_named(line.word())),
         _ => return run_to_read(name, map, output),

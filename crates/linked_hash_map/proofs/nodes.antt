@@ -10,6 +10,7 @@ pub mod FoundKeys
 pub mod HeldPairs
 pub mod Kept
 pub mod LookupCounts
+pub mod MovedBeside
 pub mod MovedNode
 pub mod MovedToFront
 pub mod NodesFrom

@@ -7,5 +7,6 @@ pub mod Indexes
 pub mod Inserts
 pub mod IteratorLaws
 pub mod OccupiedEntries
+pub mod Places
 pub mod RehashCounts
 pub mod Written

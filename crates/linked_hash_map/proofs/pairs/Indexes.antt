@@ -71,7 +71,7 @@ module _ {K V : Type 0} {eq : K → K → Bool} (laws : IsEquivalence eq) (k : K
       (IsDistinct-head eq first.0 (keys_of pairs) distinct))
 
   -- if a later pair is that of the key, the first is not
-  first_differs : (first : K × V) (pairs : List (K × V)) (i : ℕ) (pair : K × V)
+  pub first_differs : (first : K × V) (pairs : List (K × V)) (i : ℕ) (pair : K × V)
       → IsDistinct eq (keys_of (first ∷ pairs)) → slice_get pairs i ≡ Some pair → eq k pair.0 ≡ true
       → eq k first.0 ≡ false
   first_differs first pairs i pair distinct there same =
@@ -89,7 +89,7 @@ module _ {K V : Type 0} {eq : K → K → Bool} (laws : IsEquivalence eq) (k : K
       ap (λ b. cond b (Some first) (find eq pairs k)) (first_differs first pairs i pair distinct there same)
       ∙ find_at pairs i pair (IsDistinct-tail eq first.0 (keys_of pairs) distinct) there same
 
-  without_at : (pairs : List (K × V)) (i : ℕ) (pair : K × V) → IsDistinct eq (keys_of pairs)
+  pub without_at : (pairs : List (K × V)) (i : ℕ) (pair : K × V) → IsDistinct eq (keys_of pairs)
       → slice_get pairs i ≡ Some pair → eq k pair.0 ≡ true → without eq pairs k ≡ remove pairs i
   without_at [] i pair distinct there same = absurd (true≢false (sym (ap is_some there)))
   without_at (first ∷ pairs) zero pair distinct there same =

@@ -7,7 +7,8 @@ pub returns-in-Ok-Some-clause-pairs : goal.returns-in-Ok-Some-clause-pairs
 returns-in-Ok-Some-clause-pairs g c =
     let i = c.in-Ok-Some.ensures in
     put_front-put g.K.PartialEq.eq c.args.self.now.mode c.args.self.now.pairs c.args.key c.args.value
-    (sym (is_some-value_at g.K.PartialEq.eq c.args.self.now.pairs c.args.key) ∙ sym (ap is_some i.old) ∙ ap is_some c.in-Ok-Some.field-0-is) _ _ i.pairs
+    (sym (is_some-value_at g.K.PartialEq.eq c.args.self.now.pairs c.args.key)
+    ∙ sym (ap is_some i.old) ∙ ap is_some c.in-Ok-Some.field-0-is) _ _ i.pairs
     (λ touch. c.touch_front.ensures.touch (i.settings.mode ∙ touch)) (λ keep. c.touch_front.ensures.keep (i.settings.mode ∙ keep))
 
 pub returns-in-Ok-Some-clause-updates : goal.returns-in-Ok-Some-clause-updates
