@@ -6,6 +6,8 @@ pub mod Collected
 pub mod Counted
 pub mod Counts
 pub mod Dense
+pub mod EachPair
+pub mod Ends
 pub mod Equality
 pub mod Extended
 pub mod Fronts

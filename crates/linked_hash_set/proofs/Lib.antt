@@ -1,3 +1,4 @@
+pub mod Callers
 pub mod Drained
 pub mod Kept
 pub mod LentBack

@@ -1,3 +1,4 @@
+pub mod Callers
 pub mod Insertions
 pub mod Kept
 pub mod Newest

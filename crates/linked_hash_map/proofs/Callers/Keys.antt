@@ -1,7 +1,7 @@
 -- For callers: which pairs and keys there are after each call, and how many.
 use Rattle.std.proofs.Common.{◌≡◌, ℕ, zero, suc, ◌+◌, ◌-◌, ◌≤◌, Bool, true, false, cond, not, ◌||◌, IsTrue, List, []}
 use Rattle.std.proofs.Common.{◌∷◌, ◌++◌, length, take, drop, option_map, unwrap_or}
-use Rattle.std.proofs.Common.{filter, Option, Some, None, is_some, refl, sym, ap, ap₂, ◌∙◌, subst, true≢false, arith, length-append}
+use Rattle.std.proofs.Common.{filter, Option, Some, None, is_some, refl, sym, ap, ◌∙◌, subst, true≢false, arith, length-append}
 use Rattle.std.specs.Option.{IsSome}
 use Rattle.std.specs.List.{IsDistinct, list_any}
 use Rattle.std.specs.List as lists
@@ -14,9 +14,8 @@ use Rattle.linked_hash_map.specs.Pairs.{first, without_first, without_last, key_
 use Rattle.linked_hash_map.specs.Pairs.{set_value, set_or_push, put}
 use Rattle.linked_hash_map.proofs.log.LiveKeys.{none_is}
 use Rattle.linked_hash_map.proofs.Callers.Lookups.{eq-stored}
-use Rattle.linked_hash_map.proofs.pairs.Calls.{is_some-value_at}
 -- calls with a key that is absent, and one with a key that is present
-pub use Rattle.linked_hash_map.proofs.pairs.Calls.{without-absent, to_back-absent, set_or_push-absent, put-absent, set_or_push-present}
+pub use Rattle.linked_hash_map.proofs.pairs.Calls.{find-none, set_value-none, without-absent, to_back-absent, set_or_push-absent, put-absent, set_or_push-present}
 -- how many pairs there are: one fewer exactly if the key has one; one more exactly if it has none
 pub use Rattle.linked_hash_map.proofs.pairs.Calls.{length-without, length-set_value, length-set_or_push, length-put}
 -- keys that differ still do after an insertion
@@ -45,7 +44,8 @@ key_or-lookup_entry test k (pair ∷ pairs) = by_test (test pair.0) (key_or-look
     by_test true rest = refl
     by_test false rest = rest
 
-module _ {K V : Type 0} (eq : K → K → Bool) (pairs : List (K × V)) (k : K) where
+-- by k, which is a key or looks one up
+module _ {A K V : Type 0} (eq : A → K → Bool) (pairs : List (K × V)) (k : A) where
   -- as after a `contains_key` that returned false
   pub find-absent : is_some (find eq pairs k) ≡ false → find eq pairs k ≡ None
   find-absent absent = none_is (find eq pairs k) absent
@@ -55,11 +55,16 @@ module _ {K V : Type 0} (eq : K → K → Bool) (pairs : List (K × V)) (k : K) 
   is_some-find = is_some-lookup_entry (eq k) pairs
 
   pub IsSome-find : (v : V) → value_at eq pairs k ≡ Some v → IsSome (find eq pairs k)
-  IsSome-find v found = sym (is_some-value_at eq pairs k) ∙ ap is_some found
+  IsSome-find v found = by_pair (find eq pairs k) found
+    where
+      by_pair : (o : Option (K × V)) → option_map (λ pair. pair.1) o ≡ Some v → IsSome o
+      by_pair None found = absurd (true≢false (sym (ap is_some found)))
+      by_pair (Some pair) found = refl
 
-  -- the stored key of a key, or the key itself if it has none, in words of the keys alone
-  pub key_or-find : key_or k (find eq pairs k) ≡ unwrap_or (lists.find (eq k) (keys_of pairs)) k
-  key_or-find = key_or-lookup_entry (eq k) k pairs
+-- the stored key of a key, or the key itself if it has none, in words of the keys alone
+pub key_or-find : {K V : Type 0} (eq : K → K → Bool) (pairs : List (K × V)) (k : K)
+    → key_or k (find eq pairs k) ≡ unwrap_or (lists.find (eq k) (keys_of pairs)) k
+key_or-find eq pairs k = key_or-lookup_entry (eq k) k pairs
 
 -- the keys
 keys_of-filter : {K V : Type 0} (kept : K → Bool) (pairs : List (K × V))
@@ -73,26 +78,23 @@ keys_of-filter kept (pair ∷ pairs) = by_test (kept pair.0) (keys_of-filter kep
     by_test true rest = ap (λ ks. pair.0 ∷ ks) rest
     by_test false rest = rest
 
-module _ {K V : Type 0} (eq : K → K → Bool) where
-  pub keys_of-without : (pairs : List (K × V)) (k : K)
+module _ {A K V : Type 0} (eq : A → K → Bool) where
+  pub keys_of-without : (pairs : List (K × V)) (k : A)
       → keys_of (without eq pairs k) ≡ filter (λ j. not (eq k j)) (keys_of pairs)
   keys_of-without pairs k = keys_of-filter (λ j. not (eq k j)) pairs
 
+  pub keys_of-set_value : (pairs : List (K × V)) (k : A) (v : V)
+      → keys_of (set_value eq pairs k v) ≡ keys_of pairs
+  keys_of-set_value [] k v = refl
+  keys_of-set_value (pair ∷ pairs) k v = grind (arith, keys_of-set_value pairs k v)
+
+module _ {K V : Type 0} (eq : K → K → Bool) where
   pub keys_of-to_back : (pairs : List (K × V)) (k : K) (v : V)
       → keys_of (to_back eq pairs k v)
       ≡ filter (λ j. not (eq k j)) (keys_of pairs) ++ key_or k (find eq pairs k) ∷ []
   keys_of-to_back pairs k v =
       map-append (λ (pair : K × V). pair.0) (without eq pairs k) ((key_or k (find eq pairs k), v) ∷ [])
-      ∙ ap (λ ks. ks ++ key_or k (find eq pairs k) ∷ []) (keys_of-without pairs k)
-
-  pub keys_of-set_value : (pairs : List (K × V)) (k : K) (v : V)
-      → keys_of (set_value eq pairs k v) ≡ keys_of pairs
-  keys_of-set_value [] k v = refl
-  keys_of-set_value (pair ∷ pairs) k v = ap₂ (λ j ks. j ∷ ks) (by_test (eq k pair.0)) (keys_of-set_value pairs k v)
-    where
-      by_test : (b : Bool) → (cond b (pair.0, v) pair).0 ≡ pair.0
-      by_test true = refl
-      by_test false = refl
+      ∙ ap (λ ks. ks ++ key_or k (find eq pairs k) ∷ []) (keys_of-without eq pairs k)
 
   pub keys_of-set_or_push : (pairs : List (K × V)) (k : K) (v : V)
       → keys_of (set_or_push eq pairs k v)
@@ -102,7 +104,7 @@ module _ {K V : Type 0} (eq : K → K → Bool) where
       by_test : (b : Bool)
           → keys_of (cond b (set_value eq pairs k v) (pairs ++ (k, v) ∷ []))
           ≡ cond b (keys_of pairs) (keys_of pairs ++ k ∷ [])
-      by_test true = keys_of-set_value pairs k v
+      by_test true = keys_of-set_value eq pairs k v
       by_test false = map-append (λ (pair : K × V). pair.0) pairs ((k, v) ∷ [])
 
 -- if equality decides `≡`, the key that goes to the back is the key of the call
@@ -167,7 +169,7 @@ find_drop test (suc n) (pair ∷ pairs) none = find_drop test n pairs (by_test (
     by_test true h = absurd (true≢false (ap is_some h))
     by_test false h = h
 
-pub find-drop : {K V : Type 0} (eq : K → K → Bool) (pairs : List (K × V)) (k : K) (n : ℕ)
+pub find-drop : {A K V : Type 0} (eq : A → K → Bool) (pairs : List (K × V)) (k : A) (n : ℕ)
     → find eq pairs k ≡ None → find eq (drop n pairs) k ≡ None
 find-drop eq pairs k n absent = find_drop (eq k) n pairs absent
 

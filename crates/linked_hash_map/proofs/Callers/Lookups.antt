@@ -1,7 +1,7 @@
 -- For callers: what a map has at a key after each call.
 use Rattle.std.proofs.Common.{◌≡◌, ◌-◌, Bool, true, false, cond, not, List, [], ◌∷◌, ◌++◌, length}
 use Rattle.std.proofs.Common.{length-append, drop, remove, slice_get, filter, Option, Some, None}
-use Rattle.std.proofs.Common.{is_some, option_map, refl, sym, ap, ◌∙◌, true≢false, arith}
+use Rattle.std.proofs.Common.{is_some, option_map, refl, sym, ap, ap₂, ◌∙◌, true≢false, arith}
 use Rattle.std.specs.List.{IsDistinct}
 use Rattle.std.specs.Option.{option_or}
 use Rattle.std.specs.Map.{lookup_entry, keys_of}
@@ -233,6 +233,18 @@ module _ {K V : Type 0} {eq : K → K → Bool} (laws : IsEquivalence eq) where
       → value_at eq (put eq mode pairs k v) q ≡ cond (eq k q) (Some v) (value_at eq pairs q)
   value_at-put Touch = value_at-to_back
   value_at-put Keep = value_at-set_or_push
+
+  -- after a removal and an insertion, or an insertion in Touch by the stored key
+  pub value_at-without_append : (pairs : List (K × V)) (k q : K) (v : V)
+      → value_at eq (without eq pairs k ++ (k, v) ∷ []) q ≡ cond (eq k q) (Some v) (value_at eq pairs q)
+  value_at-without_append pairs k q v = let more = value_at-append eq (without eq pairs k) k q v in
+      let others = value_at-without pairs k q in let same = laws.symm q k in
+      more ∙ by_test (eq k q) (value_at eq (without eq pairs k) q) (value_at eq pairs q) (eq q k) others same
+    where
+      by_test : (b : Bool) (o p : Option V) (c : Bool) → o ≡ cond b None p → c ≡ b
+          → option_or o (cond c (Some v) None) ≡ cond b (Some v) p
+      by_test true o p c others same = ap₂ (λ (r : Option V) (d : Bool). option_or r (cond d (Some v) None)) others same
+      by_test false o p c others same = ap₂ (λ (r : Option V) (d : Bool). option_or r (cond d (Some v) None)) others same ∙ option_or_none p
 
   -- at the key of the call
   module _ (pairs : List (K × V)) (k : K) where

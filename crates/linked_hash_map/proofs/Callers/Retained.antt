@@ -1,6 +1,6 @@
 -- For callers: what `retain` keeps, by what the closure's contract says of each call. T says what a
 -- call does: it may return this, leave this value there, and leave the closure so.
-use Rattle.std.proofs.Common.{◌≡◌, Bool, true, false, cond, List, [], ◌∷◌, map, filter, refl, ◌∙◌, subst}
+use Rattle.std.proofs.Common.{◌≡◌, Bool, true, false, cond, List, [], ◌∷◌, map, filter, refl, ap, ◌∙◌, subst}
 use Rattle.std.specs.Map.Calls.{RetainsPairs}
 use Rattle.std.proofs.lemmas.Map.Made as made
 -- the first pair
@@ -28,6 +28,19 @@ module _ {F K V : Type 0} (T : F → K → V → Bool → V → F → Type 0) (t
       let said = says pair.0 pair.1 of.returned of.value of.closure of.called in
       let rest = map-filter_from_retain_pairs pairs of.rest says (subst (λ g. RetainsPairs T g pairs of.rest) said.2 of.retained) in
       of.kept_is ∙ (λ i. cond (said.0 i) ((pair.0, said.1 i) ∷ rest i) (rest i)) ∙ cond-changed (test pair) pair (filter test pairs)
+
+-- and one that keeps all pairs
+module _ {F K V : Type 0} (T : F → K → V → Bool → V → F → Type 0) (change : K × V → V) (f : F) where
+  filter-true : (pairs : List (K × V)) → filter (λ _. true) pairs ≡ pairs
+  filter-true [] = refl
+  filter-true (pair ∷ pairs) = ap (λ ps. pair ∷ ps) (filter-true pairs)
+
+  pub map_from_retain_pairs : (pairs kept : List (K × V))
+      → ((k : K) (v : V) (b : Bool) (w : V) (g : F) → T f k v b w g
+      → (b ≡ true) × (w ≡ change (k, v)) × (g ≡ f))
+      → RetainsPairs T f pairs kept → kept ≡ map (λ pair. (pair.0, change pair)) pairs
+  map_from_retain_pairs pairs kept says r = map-filter_from_retain_pairs T (λ _. true) change f pairs kept says r
+      ∙ ap (map (λ (pair : K × V). (pair.0, change pair))) (filter-true pairs)
 
 -- and one that leaves each value as it was: what std's lemma says, with the arguments in the order
 -- of all lemmas here

@@ -2,16 +2,20 @@
 -- using(linked_hash_map::proofs::Callers::Rules::number_keys))]. At numbers a lemma is stated at
 -- their equality, so that `grind` has none to find; the first part of a conclusion shows it the
 -- call to match.
-use Rattle.std.proofs.Common.{◌≡◌, ℕ, ◌+◌, ◌≤◌, cond, not, List, [], ◌∷◌, ◌++◌, length, filter, is_some, Some, None, refl, ap, ◌∙◌, nat_eq}
+use Rattle.std.proofs.Common.{◌≡◌, ◌⊎◌, false, ℕ, ◌+◌, ◌<◌, ◌≤◌, inl, inr, sym, take, get_or, cond, not, List, [], ◌∷◌, ◌++◌, length, filter, is_some, Some, None, refl, ap, ◌∙◌, nat_eq}
+use Rattle.std.specs.Cmp.Lexicographic.{nat_list_eq_equiv}
 use Rattle.std.specs.Prelude.{String, string_eq}
 use Rattle.std.specs.declared.alloc.Global.{Global}
+use Rattle.std.specs.Str.{bytes_eq}
 use Rattle.std.specs.Cmp.{nat_eq_equiv}
 use Rattle.std.specs.Map.{keys_of}
 use Rattle.std.specs.Option.{option_or}
+use Rattle.std.specs.List.{Contains}
 use Rattle.std.proofs.lemmas.Bool.{eqb-true}
+use Rattle.std.proofs.lemmas.List.Elements.{All-weaker, All-contains_itself}
 use Rattle.linked_hash_map.specs.declared.map.Mode.{Mode}
 use Rattle.linked_hash_map.specs.declared.map.Mode.TheVariants.{Touch}
-use Rattle.linked_hash_map.specs.Pairs.{find, value_at, without, set_or_push, put}
+use Rattle.linked_hash_map.specs.Pairs.{key_or, find, value_at, without, to_back_as_is, to_front, set_or_push, put}
 use Rattle.linked_hash_map.proofs.Callers.Keys.{length-put_most, key_or-find, keys_of-to_back, keys_of-to_back_own}
 use Rattle.linked_hash_map.proofs.Callers.Keys.{keys_of-without, keys_of-set_or_push, keys_of-append, keys_of-without_first}
 use Rattle.linked_hash_map.proofs.Callers.Keys.{keys_of-without_last, first-keys_of}
@@ -19,7 +23,9 @@ use Rattle.linked_hash_map.proofs.Callers.Collected.{insert_each-append, insert_
 use Rattle.linked_hash_map.proofs.Callers.Counted.{CountsItems-start, CountsItems-counted, CountsItems-below}
 use Rattle.linked_hash_map.proofs.Callers.Counted.{CountsKnown-start, CountsKnown-counted, CountsKnown-fits}
 use Rattle.linked_hash_map.proofs.Callers.Dense.{values_of_dense_push, value_at_dense_each, eq-dense}
-use Rattle.linked_hash_map.proofs.Callers.Lookups.{value_at-append}
+use Rattle.linked_hash_map.proofs.Callers.EachPair.{All-find, All-without, All-to_back_as_is, All-put}
+use Rattle.linked_hash_map.proofs.Callers.Ends.{keys_of-take, take-keys_of, to_front-put, value_at-take}
+use Rattle.linked_hash_map.proofs.Callers.Lookups.{eq-find, eq-stored, value_at-append, value_at-without_append}
 use Rattle.linked_hash_map.proofs.Callers.Rounds.{IsTurned-start, IsTurned-turn, IsTurned-round}
 use Rattle.linked_hash_map.proofs.Callers.Turns.{cons-keys_of_first, put-without_first}
 use Rattle.linked_hash_map.proofs.Callers.Visits.{VisitKeeps-passed, VisitKeeps-removed, append-visited}
@@ -37,6 +43,57 @@ module _ {V : Type 0} (mode : Mode) (pairs : List (ℕ × V)) (k : ℕ) (v : V) 
       × (length (put nat_eq mode pairs k v) ≤ length pairs + 1)
   length-put_number = (refl, length-put_most nat_eq mode pairs k v)
 
+-- the pair that was put in, moved to the front
+module _ {V : Type 0} (mode : Mode) (pairs : List (ℕ × V)) (k : ℕ) (v : V) where
+  pub to_front-put_number : (put nat_eq mode pairs k v ≡ put nat_eq mode pairs k v)
+      × (to_front nat_eq (put nat_eq mode pairs k v) k ≡ (k, v) ∷ without nat_eq pairs k)
+  to_front-put_number = (
+    refl,
+    to_front-put nat_eq_equiv mode pairs k v
+        ∙ ap (λ (key : ℕ). (key, v) ∷ without nat_eq pairs k) (sym (eqb-true k (key_or k (find nat_eq pairs k)) (eq-stored nat_eq_equiv pairs k))),
+  )
+
+pub keys_of-without_number : {V : Type 0} (pairs : List (ℕ × V)) (k : ℕ)
+    → (without nat_eq pairs k ≡ without nat_eq pairs k)
+    × (keys_of (without nat_eq pairs k) ≡ filter (λ j. not (nat_eq k j)) (keys_of pairs))
+keys_of-without_number pairs k = (refl, keys_of-without nat_eq pairs k)
+
+-- the first of pairs, if some are kept
+pub value_at-take_number : {V : Type 0} (n : ℕ) (pairs : List (ℕ × V)) (k : ℕ) (v : V) → 0 < n
+    → (take n ((k, v) ∷ pairs) ≡ take n ((k, v) ∷ pairs)) × (value_at nat_eq (take n ((k, v) ∷ pairs)) k ≡ Some v)
+value_at-take_number n pairs k v some = (refl, value_at-take nat_eq_equiv n pairs k v some)
+
+-- each pair after a call was there, or is the one that was put in
+module _ {V : Type 0} (pairs : List (ℕ × V)) (k : ℕ) where
+  pub in-found_number : (pair : ℕ × V) → find nat_eq pairs k ≡ Some pair
+      → (find nat_eq pairs k ≡ find nat_eq pairs k) × (k ≡ pair.0) × Contains pairs pair
+  in-found_number pair found = (
+    refl,
+    eqb-true k pair.0 (eq-find nat_eq_equiv pairs k pair found),
+    All-find (Contains pairs) nat_eq pairs k (All-contains_itself pairs) pair found,
+  )
+
+  module _ (i : ℕ) (d : ℕ × V) where
+    pub in-without_number : i < length (without nat_eq pairs k)
+        → (get_or (without nat_eq pairs k) i d ≡ get_or (without nat_eq pairs k) i d)
+        × Contains pairs (get_or (without nat_eq pairs k) i d)
+    in-without_number within = (refl, All-without (Contains pairs) nat_eq pairs k (All-contains_itself pairs) i d within)
+
+    pub in-to_back_as_is_number : i < length (to_back_as_is nat_eq pairs k)
+        → (get_or (to_back_as_is nat_eq pairs k) i d ≡ get_or (to_back_as_is nat_eq pairs k) i d)
+        × Contains pairs (get_or (to_back_as_is nat_eq pairs k) i d)
+    in-to_back_as_is_number within = (refl, All-to_back_as_is (Contains pairs) nat_eq pairs k (All-contains_itself pairs) i d within)
+
+    pub in-put_number : (mode : Mode) (v : V) → i < length (put nat_eq mode pairs k v)
+        → (get_or (put nat_eq mode pairs k v) i d ≡ get_or (put nat_eq mode pairs k v) i d)
+        × ((get_or (put nat_eq mode pairs k v) i d ≡ (k, v)) ⊎ Contains pairs (get_or (put nat_eq mode pairs k v) i d))
+    in-put_number mode v within = (
+      refl,
+      All-put (λ (p : ℕ × V). (p ≡ (k, v)) ⊎ Contains pairs p) nat_eq_equiv mode pairs k v
+          (All-weaker (Contains pairs) (λ (p : ℕ × V). (p ≡ (k, v)) ⊎ Contains pairs p) (λ p there. inr there) pairs (All-contains_itself pairs))
+          (λ key same. inl (ap (λ (j : ℕ). (j, v)) (sym (eqb-true k key same)))) i d within,
+    )
+
 -- at texts
 module _ {V : Type 0} (pairs : List (String Global × V)) (k : String Global) where
   pub keys_of-without_text : (without string_eq pairs k ≡ without string_eq pairs k)
@@ -48,6 +105,18 @@ module _ {V : Type 0} (pairs : List (String Global × V)) (k : String Global) wh
       × (keys_of (set_or_push string_eq pairs k v)
       ≡ cond (is_some (find string_eq pairs k)) (keys_of pairs) (keys_of pairs ++ k ∷ []))
   keys_of-set_or_push_text v = (refl, keys_of-set_or_push string_eq pairs k v)
+
+-- what bytes find after the bytes k were put behind the others
+pub value_at-put_bytes : {V : Type 0} (pairs : List (List ℕ × V)) (k : List ℕ) (v : V)
+    → (without bytes_eq pairs k ++ (k, v) ∷ [] ≡ without bytes_eq pairs k ++ (k, v) ∷ [])
+    × (value_at bytes_eq (without bytes_eq pairs k ++ (k, v) ∷ []) k ≡ Some v)
+    × ((q : List ℕ) → bytes_eq k q ≡ false
+    → value_at bytes_eq (without bytes_eq pairs k ++ (k, v) ∷ []) q ≡ value_at bytes_eq pairs q)
+value_at-put_bytes pairs k v = let is = value_at-without_append nat_list_eq_equiv pairs k in (
+  refl,
+  is k v ∙ ap (λ b. cond b (Some v) (value_at bytes_eq pairs k)) (nat_list_eq_equiv.refl k),
+  λ q apart. is q v ∙ ap (λ b. cond b (Some v) (value_at bytes_eq pairs q)) apart,
+)
 
 -- a new number at the back, for each number that is looked up
 pub value_at-append_number : {V : Type 0} (pairs : List (ℕ × V)) (k : ℕ) (v : V)
@@ -62,8 +131,17 @@ pub ruleset new_numbers = (value_at-append_number)
 -- which keys there are, and how many, at numbers
 pub ruleset number_keys = (keys_of-put_number, length-put_number, cons-keys_of_first)
 
+-- the pair at the front, and the keys behind it, at numbers
+pub ruleset front_keys = (to_front-put_number, length-put_number, keys_of-without_number, keys_of-take, take-keys_of, value_at-take_number)
+
+-- what is true of each pair, at numbers
+pub ruleset each_pair = (in-found_number, in-without_number, in-to_back_as_is_number, in-put_number)
+
 -- the keys after an insertion in Keep, and after a removal, at texts
 pub ruleset text_keys = (keys_of-without_text, keys_of-set_or_push_text)
+
+-- what bytes find after an insertion, in a view by the bytes of the keys
+pub ruleset byte_keys = (value_at-put_bytes)
 
 -- the keys after an insertion in Touch, in words of the keys alone
 pub ruleset stored_keys = (keys_of-to_back, key_or-find)

@@ -1,6 +1,7 @@
 //! Lookups, and indexing by a key that is present.
 ghost use Rattle.std.specs.Prelude.{◌≡◌, ◌≤◌, length, map, None, option_copied, option_map, is_some, IfNone, IfSome, OnSome, Some, IsSome};
 ghost use Rattle.std.specs.List.{IsDistinct, AllByRecursion};
+ghost use Rattle.std.specs.Map.{keys_of};
 ghost use Rattle.std.specs.Map.Iter.{deref_pair};
 ghost use Rattle.std.specs.Borrow.{sem};
 ghost use Rattle.std.specs.Option.{option_copied_mut};
@@ -121,6 +122,8 @@ impl<K: Eq + Hash, V, S: BuildHasher> LinkedHashMap<K, V, S> {
         ensures updates { (v : V) → OnSome result
             (UpdatesBy K.eq self.old.pairs (set_value Q.equivalent self.old.pairs key v)
             (Q.equivalent key) (Some v)) }
+        ensures keys { (v : V) → keys_of (set_value Q.equivalent self.old.pairs key v)
+            ≡ keys_of self.old.pairs }
         ensures stays_valid { (v : V) → IsValid K.eq
             (record self.old { pairs = set_value Q.equivalent self.old.pairs key v }) }
     {

@@ -1,13 +1,11 @@
-use Rattle.std.proofs.Common.{◌≡◌, [], filter, fold, not, take}
-use Rattle.std.specs.List.{list_any}
+use Rattle.std.proofs.Common.{◌≡◌, [], fold, take}
 use Rattle.linked_hash_set.specs.Items.{push_if_absent}
+use Rattle.linked_hash_set.proofs.Callers.Removals.{without_each}
 use Rattle.upgrade.proofs.plan.plan.Given as goal
 
 abbrev pub invariant-loop-task : goal.invariant-loop-task
-invariant-loop-task g l =
-    l.plan.items ≡ fold (push_if_absent g.T.PartialEq.eq) [] (take l.task-index l.tasks)
+invariant-loop-task g l = l.plan.items ≡ fold (push_if_absent g.T.PartialEq.eq) [] (take l.task-index l.tasks)
 
 abbrev pub invariant-loop-task-2 : goal.invariant-loop-task-2
-invariant-loop-task-2 g l = l.plan.items ≡ filter
-    (λ task. not (list_any (λ other. g.T.PartialEq.eq other task) (take l.task-index l.done)))
-    (fold (push_if_absent g.T.PartialEq.eq) [] l.tasks)
+invariant-loop-task-2 g l = l.plan.items
+    ≡ without_each g.T.PartialEq.eq (fold (push_if_absent g.T.PartialEq.eq) [] l.tasks) (take l.task-index l.done)

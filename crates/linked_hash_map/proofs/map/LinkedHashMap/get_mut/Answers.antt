@@ -1,5 +1,6 @@
 use Rattle.std.proofs.Common.{Some, option_map, refl, inl, ap, sym, ◌∙◌}
-use Rattle.linked_hash_map.specs.Nodes.{beside}
+use Rattle.linked_hash_map.specs.Nodes.{beside, pairs_of}
+use Rattle.linked_hash_map.proofs.Callers.Keys.{keys_of-set_value}
 use Rattle.linked_hash_map.proofs.nodes.StoredKeys.{set_value-stored, UpdatesBy-set_value}
 use Rattle.linked_hash_map.proofs.pairs.Written.{IsValid-set_value}
 use Rattle.linked_hash_map.proofs.lists.Options.{of-Some, of-None}
@@ -33,6 +34,7 @@ returns-in-Some g c =
             ∙ sym (ap (option_map (λ pair. pair.1)) it.pair);
         valid = valid;
         updates = UpdatesBy-set_value laws respects h distinct;
+        keys = λ v. keys_of-set_value g.Q.Equivalent.equivalent (pairs_of m.table.held) c.args.key v;
         stays_valid = IsValid-set_value valid (g.Q.Equivalent.equivalent c.args.key);
       },
     )
@@ -47,6 +49,7 @@ returns-in-None g c =
         value = sym (ap (option_map (λ pair. pair.1)) (of-None c.in-None.is c.locate-found.ensures.absent));
         valid = IsValid-view m refl c.self.invariant;
         updates = λ v. tt;
+        keys = λ v. keys_of-set_value g.Q.Equivalent.equivalent (pairs_of m.table.held) c.args.key v;
         stays_valid = IsValid-set_value (IsValid-view m refl c.self.invariant) (g.Q.Equivalent.equivalent c.args.key);
       },
     )

@@ -1,5 +1,5 @@
-use Rattle.upgrade.proofs.Named.{value_at-as_texts}
+use Rattle.linked_hash_map.proofs.Callers.Texts.{value_at-by_bytes}
 use Rattle.upgrade.proofs.text_map.TextMap.get.Goals as goal
 
 pub returns : goal.returns
-returns c = let e = value_at-as_texts c.self.inside.numbers.pairs c.args.text.now in cc
+returns c = let e = value_at-by_bytes c.self.inside.numbers.pairs c.args.text.now in cc

@@ -1,0 +1,3 @@
+-- Lemmas for callers of the library, one file a subject, beside those of `linked_hash_map`. They speak
+-- only of the words of the contracts.
+pub mod Removals

@@ -1,0 +1,25 @@
+-- For callers: sets of lemmas that an attribute names, as #[tactic(auto,
+-- using(lru_cache::proofs::Callers::Rules::each_pair))].
+use Rattle.std.proofs.Common.{◌≡◌, ◌⊎◌, ℕ, ◌<◌, List, length, get_or, refl, inl, inr, ap, sym, nat_eq}
+use Rattle.std.specs.Cmp.{nat_eq_equiv}
+use Rattle.std.specs.List.{Contains}
+use Rattle.std.proofs.lemmas.Bool.{eqb-true}
+use Rattle.std.proofs.lemmas.List.Elements.{All-weaker, All-contains_itself}
+use Rattle.linked_hash_map.proofs.Callers.Rules as pairs
+use Rattle.lru_cache.specs.Cache.{inserted}
+use Rattle.lru_cache.proofs.Callers.EachPair.{All-inserted}
+
+-- each pair after an insertion of a number is the one that was put in, or was there
+pub in-inserted_number : {V : Type 0} (n : ℕ) (ps : List (ℕ × V)) (k : ℕ) (v : V) (i : ℕ) (d : ℕ × V)
+    → i < length (inserted nat_eq n ps k v)
+    → (get_or (inserted nat_eq n ps k v) i d ≡ get_or (inserted nat_eq n ps k v) i d)
+    × ((get_or (inserted nat_eq n ps k v) i d ≡ (k, v)) ⊎ Contains ps (get_or (inserted nat_eq n ps k v) i d))
+in-inserted_number {V} n ps k v i d within = (
+  refl,
+  All-inserted (λ (p : ℕ × V). (p ≡ (k, v)) ⊎ Contains ps p) nat_eq_equiv n ps k v
+      (All-weaker (Contains ps) (λ (p : ℕ × V). (p ≡ (k, v)) ⊎ Contains ps p) (λ p there. inr there) ps (All-contains_itself ps))
+      (λ key same. inl (ap (λ (j : ℕ). (j, v)) (sym (eqb-true k key same)))) i d within,
+)
+
+-- what is true of each pair, at numbers
+pub ruleset each_pair = (pairs.each_pair, in-inserted_number)
