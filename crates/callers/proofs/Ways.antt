@@ -1,5 +1,5 @@
 -- Ways up a stair, and the table of those that are known.
-use Rattle.std.proofs.Common.{◌≡◌, ℕ, zero, suc, ◌+◌, ◌-◌, ◌^◌, ◌≤◌, ◌<◌, Bool, true, false, cond, List, Option, Some, None, Result, Ok, Err, min, refl, sym, ap, ap₂, subst, ◌∙◌, arith, nat_eq}
+use Rattle.std.proofs.Common.{◌≡◌, ℕ, zero, suc, ◌+◌, ◌-◌, ◌^◌, ◌≤◌, ◌<◌, Bool, true, false, cond, List, Option, Some, Result, Ok, Err, min, refl, sym, ap, ap₂, subst, ◌∙◌, arith, nat_eq}
 use Rattle.std.specs.Cmp.{nat_eq_equiv}
 use Rattle.std.specs.Prelude.{OnOk, OnErr}
 use Rattle.linked_hash_map.specs.LinkedMap.{LinkedMap}

@@ -1,6 +1,6 @@
 //! Steps that can be undone, and then done again.
 ghost use Rattle.std.specs.Prelude.{◌≡◌, ◌+◌, ◌≤◌, ◌<◌, ◌∷◌, [], ◌++◌, length, nat_eq, IfOk, IfSome, IsNone};
-ghost use Rattle.linked_hash_map.specs.Pairs.{last, put, without, without_last};
+ghost use Rattle.linked_hash_map.specs.Pairs.{last, without, without_last};
 ghost use Rattle.linked_hash_map.specs.declared.map.Mode.{Mode};
 ghost use Rattle.lru_cache.specs.Cache.{newest};
 

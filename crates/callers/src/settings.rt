@@ -1,5 +1,5 @@
 //! Settings by name, with defaults and with what overrides them.
-ghost use Rattle.std.specs.Prelude.{◌≡◌, ℕ, List, [], Some, false, is_some, IfOk, OnOk, OnErr, string_bytes};
+ghost use Rattle.std.specs.Prelude.{◌≡◌, ℕ, List, Some, false, is_some, OnOk, OnErr, string_bytes};
 ghost use Rattle.std.specs.Str.{bytes_eq};
 ghost use Rattle.linked_hash_map.specs.Pairs.{find, value_at};
 ghost use Rattle.callers.specs.Settings.{setting};

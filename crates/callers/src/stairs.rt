@@ -1,6 +1,5 @@
 //! In how many ways stairs are climbed, by a table of those that are known.
-ghost use Rattle.std.specs.Prelude.{◌≡◌, ◌^◌, [], Some, nat_eq, IfOk};
-ghost use Rattle.linked_hash_map.specs.Pairs.{value_at};
+ghost use Rattle.std.specs.Prelude.{◌≡◌, [], Some, IfOk};
 ghost use Rattle.callers.specs.Stairs.{ways_u64, AllRight};
 
 use linked_hash_map::{LinkedHashMap, Refused};
