@@ -1,0 +1,4 @@
+pub mod Fronts
+pub mod Named
+pub mod Pushed
+pub mod Ways

@@ -1,0 +1,3 @@
+pub mod Settings
+pub mod Stairs
+pub mod Texts
