@@ -1,5 +1,6 @@
 -- The keys after a pair went to the front.
-use Rattle.std.proofs.Common.{◌≡◌, ℕ, Bool, true, false, not, List, [], ◌∷◌, ◌++◌, filter, Option, Some, None, is_some, option_to_list, true≢false, refl, sym, ap, ap₂, ◌∙◌, append-nil, arith, nat_eq}
+use Rattle.std.proofs.Common.{◌≡◌, ℕ, Bool, true, false, not, List, [], ◌∷◌, ◌++◌, filter, Option, Some, None, is_some}
+use Rattle.std.proofs.Common.{option_to_list, true≢false, refl, sym, ap, ap₂, ◌∙◌, append-nil, arith, nat_eq}
 use Rattle.std.specs.Cmp.{nat_eq_equiv}
 use Rattle.std.specs.Map.{keys_of}
 use Rattle.std.proofs.lemmas.Bool.{eqb-true}

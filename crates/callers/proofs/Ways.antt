@@ -1,5 +1,6 @@
 -- Ways up a stair, and the table of those that are known.
-use Rattle.std.proofs.Common.{◌≡◌, ℕ, zero, suc, ◌+◌, ◌-◌, ◌^◌, ◌≤◌, ◌<◌, Bool, true, false, cond, List, Option, Some, Result, Ok, Err, min, refl, sym, ap, ap₂, subst, ◌∙◌, arith, nat_eq}
+use Rattle.std.proofs.Common.{◌≡◌, ℕ, zero, suc, ◌+◌, ◌-◌, ◌^◌, ◌≤◌, ◌<◌, Bool, true, false, cond, List, Option, Some}
+use Rattle.std.proofs.Common.{Result, Ok, Err, min, refl, sym, ap, ap₂, subst, ◌∙◌, arith, nat_eq}
 use Rattle.std.specs.Cmp.{nat_eq_equiv}
 use Rattle.std.specs.Prelude.{OnOk, OnErr}
 use Rattle.linked_hash_map.specs.LinkedMap.{LinkedMap}
@@ -42,4 +43,5 @@ pub AllRight-after : {S E : Type 0} (old new : LinkedMap ℕ ℕ S) (stairs n : 
     → OnOk r (new.pairs ≡ put nat_eq old.mode old.pairs stairs n) → OnErr r (new ≡ old) → n ≡ ways_u64 stairs
     → AllRight old.pairs → AllRight new.pairs
 AllRight-after old new stairs n (Ok o) pairs unchanged is right = AllRight-put old.mode old.pairs new.pairs stairs n pairs is right
-AllRight-after {S} old new stairs n (Err e) pairs unchanged is right = subst (λ (m : LinkedMap ℕ ℕ S). AllRight m.pairs) (sym unchanged) right
+AllRight-after {S} old new stairs n (Err e) pairs unchanged is right = subst (λ (m : LinkedMap ℕ ℕ S). AllRight m.pairs)
+    (sym unchanged) right

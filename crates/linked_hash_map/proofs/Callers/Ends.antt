@@ -1,6 +1,7 @@
 -- For callers: which pair and which keys stand at the ends, after one was moved there.
 use Rattle.std.proofs.Common.{◌≡◌, ℕ, ◌<◌, ◌≤◌, length, zero, suc, Bool, true, false, cond, not, List, [], ◌∷◌, ◌++◌, take}
-use Rattle.std.proofs.Common.{filter, append-nil, Option, Some, None, is_some, true≢false, option_map, option_to_list, refl, sym, ap, ap₂, ◌∙◌, arith}
+use Rattle.std.proofs.Common.{filter, append-nil, Option, Some, None, is_some, true≢false, option_map, option_to_list}
+use Rattle.std.proofs.Common.{refl, sym, ap, ap₂, ◌∙◌, arith}
 use Rattle.std.specs.Cmp.{IsEquivalence}
 use Rattle.std.specs.List as lists
 use Rattle.std.specs.Option.{IsSome}

@@ -1,5 +1,6 @@
 -- For callers: insertions at the front.
-use Rattle.std.proofs.Common.{◌≡◌, ◌-◌, Bool, true, false, cond, List, [], ◌∷◌, ◌++◌, length, length-append, take, drop, Option, Some, None, IsSome, is_some}
+use Rattle.std.proofs.Common.{◌≡◌, ◌-◌, Bool, true, false, cond, List, [], ◌∷◌, ◌++◌, length, length-append, take, drop}
+use Rattle.std.proofs.Common.{Option, Some, None, IsSome, is_some}
 use Rattle.std.proofs.Common.{filter, not, option_map, refl, sym, ap, ap₂, ◌∙◌, arith}
 use Rattle.std.specs.Cmp.{IsEquivalence}
 use Rattle.std.specs.Map.{keys_of}

@@ -2,7 +2,8 @@
 -- using(linked_hash_map::proofs::Callers::Rules::number_keys))]. At numbers a lemma is stated at
 -- their equality, so that `grind` has none to find; the first part of a conclusion shows it the
 -- call to match.
-use Rattle.std.proofs.Common.{◌≡◌, ◌⊎◌, false, ℕ, ◌+◌, ◌<◌, ◌≤◌, inl, inr, sym, take, get_or, cond, not, List, [], ◌∷◌, ◌++◌, length, filter, is_some, Some, None, refl, ap, ◌∙◌, nat_eq}
+use Rattle.std.proofs.Common.{◌≡◌, ◌⊎◌, false, ℕ, ◌+◌, ◌<◌, ◌≤◌, inl, inr, sym, take, get_or, cond, not, List, [], ◌∷◌}
+use Rattle.std.proofs.Common.{◌++◌, length, filter, is_some, Some, None, refl, ap, ◌∙◌, nat_eq}
 use Rattle.std.specs.Cmp.Lexicographic.{nat_list_eq_equiv}
 use Rattle.std.specs.Prelude.{String, string_eq}
 use Rattle.std.specs.declared.alloc.Global.{Global}
@@ -50,7 +51,8 @@ module _ {V : Type 0} (mode : Mode) (pairs : List (ℕ × V)) (k : ℕ) (v : V) 
   to_front-put_number = (
     refl,
     to_front-put nat_eq_equiv mode pairs k v
-        ∙ ap (λ (key : ℕ). (key, v) ∷ without nat_eq pairs k) (sym (eqb-true k (key_or k (find nat_eq pairs k)) (eq-stored nat_eq_equiv pairs k))),
+        ∙ ap (λ (key : ℕ). (key, v) ∷ without nat_eq pairs k)
+        (sym (eqb-true k (key_or k (find nat_eq pairs k)) (eq-stored nat_eq_equiv pairs k))),
   )
 
 pub keys_of-without_number : {V : Type 0} (pairs : List (ℕ × V)) (k : ℕ)
@@ -90,7 +92,8 @@ module _ {V : Type 0} (pairs : List (ℕ × V)) (k : ℕ) where
     in-put_number mode v within = (
       refl,
       All-put (λ (p : ℕ × V). (p ≡ (k, v)) ⊎ Contains pairs p) nat_eq_equiv mode pairs k v
-          (All-weaker (Contains pairs) (λ (p : ℕ × V). (p ≡ (k, v)) ⊎ Contains pairs p) (λ p there. inr there) pairs (All-contains_itself pairs))
+          (All-weaker (Contains pairs) (λ (p : ℕ × V). (p ≡ (k, v)) ⊎ Contains pairs p) (λ p there. inr there) pairs
+          (All-contains_itself pairs))
           (λ key same. inl (ap (λ (j : ℕ). (j, v)) (sym (eqb-true k key same)))) i d within,
     )
 

@@ -51,10 +51,12 @@ module _ {X : Type 0} (test : X → Bool) where
   length-from_first [] = omega arith
   length-from_first (x ∷ xs) =
       let rest = length-from_first xs in
-      elim (test x) as (λ b. length (cond b (x ∷ xs) (from_first test xs)) ≤ suc (length xs)) [ true ↦ omega arith | false ↦ omega (arith, rest) ]
+      elim (test x) as (λ b. length (cond b (x ∷ xs) (from_first test xs)) ≤ suc (length xs))
+      [ true ↦ omega arith | false ↦ omega (arith, rest) ]
 
 -- an element that differs from all others in what f has of it
-module _ {X K : Type 0} {eq : K → K → Bool} (reflexive : (k : K) → eq k k ≡ true) (symmetric : (k q : K) → eq k q ≡ eq q k) (f : X → K) where
+module _ {X K : Type 0} {eq : K → K → Bool} (reflexive : (k : K) → eq k k ≡ true) (symmetric : (k q : K) → eq k q ≡ eq q k)
+    (f : X → K) where
   pub from_first-own : (xs : List X) (x : X) (ys : List X) → IsDistinct eq (map f (xs ++ x ∷ ys))
       → from_first (λ z. eq (f x) (f z)) (xs ++ x ∷ ys) ≡ x ∷ ys
   from_first-own [] x ys distinct = ap (λ b. cond b (x ∷ ys) (from_first (λ z. eq (f x) (f z)) ys)) (reflexive (f x))
@@ -67,7 +69,8 @@ module _ {X K : Type 0} {eq : K → K → Bool} (reflexive : (k : K) → eq k k 
 
   -- they differ in the reverse list too
   pub IsDistinct-reverse : (xs : List X) → IsDistinct eq (map f xs) → IsDistinct eq (map f (reverse xs))
-  IsDistinct-reverse xs = IsDistinct-IsPermutation eq symmetric (map f xs) (map f (reverse xs)) (IsPermutation-map f xs (reverse xs) (IsPermutation-reverse xs))
+  IsDistinct-reverse xs = IsDistinct-IsPermutation eq symmetric (map f xs) (map f (reverse xs))
+      (IsPermutation-map f xs (reverse xs) (IsPermutation-reverse xs))
 
 -- the reverse of a list that is cut at an element
 pub reverse-middle : {X : Type 0} (xs : List X) (x : X) (ys : List X) → reverse (xs ++ x ∷ ys) ≡ reverse ys ++ x ∷ reverse xs

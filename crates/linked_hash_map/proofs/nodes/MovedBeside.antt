@@ -1,5 +1,6 @@
 -- A node that is moved before another, or behind all.
-use Rattle.std.proofs.Common.{◌≡◌, ℕ, suc, ◌+◌, ◌-◌, Bool, cond, List, [], ◌∷◌, ◌++◌, map, filter, not, length, take, drop, remove, slice_get}
+use Rattle.std.proofs.Common.{◌≡◌, ℕ, suc, ◌+◌, ◌-◌, Bool, cond, List, [], ◌∷◌, ◌++◌, map, filter, not, length, take}
+use Rattle.std.proofs.Common.{drop, remove, slice_get}
 use Rattle.std.proofs.Common.{Option, Some, None, IsTrue, option_to_list, refl, sym, ap, ◌∙◌, subst, arith}
 use Rattle.std.specs.Prelude.{nat_lt, IfSome}
 use Rattle.std.specs.Cmp.{IsEquivalence}

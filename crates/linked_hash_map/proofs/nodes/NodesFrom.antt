@@ -38,7 +38,8 @@ module _ {K V : Type 0} where
   pairs_from-behind : (xs ys : List (Held (K × V))) → IsApart (map (λ t. t.at) (xs ++ ys))
       → pairs_from (first_at ys) (xs ++ ys) ≡ pairs_of ys
   pairs_from-behind xs [] apart = refl
-  pairs_from-behind xs (y ∷ ys) apart = ap pairs_of (from_first-own same_ptr-reflexive same_ptr-symmetric (λ (t : Held (K × V)). t.at) xs y ys apart)
+  pairs_from-behind xs (y ∷ ys) apart = ap pairs_of
+      (from_first-own same_ptr-reflexive same_ptr-symmetric (λ (t : Held (K × V)). t.at) xs y ys apart)
 
   Lies-behind : (xs ys : List (Held (K × V))) → Lies (first_at ys) (xs ++ ys)
   Lies-behind xs [] = tt
@@ -62,7 +63,8 @@ module _ {K V : Type 0} where
     pub pairs_from-step : {pair : K × V} → AtHeld hs p (λ xs t ys. pair ≡ t.pair) → IsApart (map (λ t. t.at) hs)
         → pairs_from (Some p) hs ≡ pair ∷ pairs_from o hs
     pairs_from-step {pair} is apart =
-        let pairs_behind = pairs_from-behind (first.before ++ first.node ∷ []) first.after (subst (λ (ks : List (Held (K × V))). IsApart (map (λ t. t.at) ks)) behind apart) in
+        let pairs_behind = pairs_from-behind (first.before ++ first.node ∷ []) first.after
+        (subst (λ (ks : List (Held (K × V))). IsApart (map (λ t. t.at) ks)) behind apart) in
         ap pairs_of first.from
         ∙ ap (λ q. q ∷ pairs_of first.after) (sym (is first.before first.node first.after first.is at_is))
         ∙ ap (λ ps. pair ∷ ps) (sym ((λ i. pairs_from (next_is i) (behind i)) ∙ pairs_behind))
@@ -135,14 +137,16 @@ module _ {K V : Type 0} {eq : K → K → Bool} (laws : IsEquivalence eq) {is_ke
       let at_is : t.at ≡ p = sym (same_ptr-equal p t.at first.passes) in
       let same = has first.before t first.after first.is at_is in
       let test : eq t.pair.0 ≡ is_key = λ i y. sym (respects t.pair.0 y same) i in
-      let cut : pairs_of hs ≡ pairs_of first.before ++ t.pair ∷ pairs_of first.after = ap pairs_of first.is ∙ pairs_of-append first.before (t ∷ first.after) in
+      let cut : pairs_of hs ≡ pairs_of first.before ++ t.pair ∷ pairs_of first.after = ap pairs_of first.is
+      ∙ pairs_of-append first.before (t ∷ first.after) in
       ap pairs_of first.from
       ∙ sym (from_first-own laws.refl laws.symm (λ (pair : K × V). pair.0) (pairs_of first.before) t.pair (pairs_of first.after)
       (subst (λ (ps : List (K × V)). IsDistinct eq (keys_of ps)) cut distinct))
       ∙ (λ i. from_first (λ pair. test i pair.0) (sym cut i))
 
   pub pairs_from-key_reverse : {hs : List (Held (K × V))} → IsHeld hs p → AtHeld hs p (λ xs t ys. is_key t.pair.0 ≡ true)
-      → IsDistinct eq (keys_of (pairs_of hs)) → pairs_from (Some p) (reverse hs) ≡ from_first (λ pair. is_key pair.0) (reverse (pairs_of hs))
+      → IsDistinct eq (keys_of (pairs_of hs)) → pairs_from (Some p) (reverse hs) ≡ from_first (λ pair. is_key pair.0)
+      (reverse (pairs_of hs))
   pairs_from-key_reverse {hs} h has distinct =
       let turned : pairs_of (reverse hs) ≡ reverse (pairs_of hs) = map-reverse (λ (t : Held (K × V)). t.pair) hs in
       pairs_from-key (IsHeld-reverse h) (AtHeld-reverse (λ xs t ys. is_key t.pair.0 ≡ true) has)

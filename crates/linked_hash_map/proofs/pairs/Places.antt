@@ -1,6 +1,7 @@
 -- The pair of a key, put between the first pairs and the others, at the index of the key.
 use Rattle.std.proofs.Common.{◌≡◌, ℕ, zero, suc, ◌+◌, ◌-◌, ◌<◌, ◌≤◌, ⊎_elim, Bool, true, cond, not, List, [], ◌∷◌, ◌++◌}
-use Rattle.std.proofs.Common.{take, drop, remove, slice_get, Option, Some, None, is_some, option_to_list, refl, sym, ap, ◌∙◌, subst, true≢false, arith}
+use Rattle.std.proofs.Common.{take, drop, remove, slice_get, Option, Some, None, is_some, option_to_list, refl, sym, ap}
+use Rattle.std.proofs.Common.{◌∙◌, subst, true≢false, arith}
 use Rattle.std.specs.Prelude.{nat_lt}
 use Rattle.std.specs.List.{IsDistinct}
 use Rattle.std.specs.Map.{keys_of}

@@ -11,5 +11,6 @@ invariant_of-self t c = let old = c.ways-2.new.self in let sum = c.saturating_ad
     let added = c.saturating_add-sum.ensures in
     record {
       right = AllRight-after old.known c.insert.new.self c.args.stairs sum c.insert.result c.insert.ensures.pairs
-          c.insert.ensures.unchanged (ways_u64-step c.args.stairs sum c.if-stairs-lt2.false (grind (arith, added, first, second))) old.right;
+          c.insert.ensures.unchanged (ways_u64-step c.args.stairs sum c.if-stairs-lt2.false (grind (arith, added, first, second)))
+          old.right;
     }

@@ -29,7 +29,8 @@ returns g c =
     let ps = pairs_of c.self.inside.table.held in let taken = c.remove_at.ensures in
     let valid = IsValid-view c.self.inside refl c.self.invariant in let pair = taken.pair _ (is_last g c) in
     let pairs = pairs-removed c.self.inside.table.held _ (taken.others _ (is_last g c)) ∙ remove-last ps in
-    let updates = Updates-take_but_last g.met.K.Eq.laws ps (pairs_of c.remove_at.new.self.held) c.remove_at.result valid.distinct pair pairs in
+    let updates = Updates-take_but_last g.met.K.Eq.laws ps
+    (pairs_of c.remove_at.new.self.held) c.remove_at.result valid.distinct pair pairs in
     rw (← c.self.view_is) (record {
       pair = sym pair;
       pairs = pairs;

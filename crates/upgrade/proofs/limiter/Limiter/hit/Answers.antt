@@ -10,6 +10,7 @@ returns-clause-new c = λ absent. let old = c.args.self.now.counts.pairs in let 
       | true ↦ find-drop_text old c.args.id.now name.name 1 name.ensures.ok absent
       | false ↦ find-is_text old c.args.id.now name.name name.ensures.ok ∙ absent
     ] in
-    ap by_bytes (c.in-Ok.ensures.pushed (ap (λ ps. value_at string_eq ps name.name) c.make_place.ensures.pairs ∙ ap (option_map (λ pair. pair.1)) gone))
+    ap by_bytes (c.in-Ok.ensures.pushed (ap (λ ps. value_at string_eq ps name.name) c.make_place.ensures.pairs
+    ∙ ap (option_map (λ pair. pair.1)) gone))
     ∙ by_bytes-append c.make_place.new.self.counts.pairs name.name 1
     ∙ ap₂ (λ ps t. by_bytes ps ++ (t, 1) ∷ []) c.make_place.ensures.pairs name.ensures.ok

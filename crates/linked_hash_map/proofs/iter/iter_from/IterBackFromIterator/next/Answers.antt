@@ -16,13 +16,15 @@ value-requires g c = IsHeld-some c.self.inside.table.now.held c.in-Some.is c.sel
 
 pub invariant_of-self : goal.invariant_of-self
 invariant_of-self g c = Lies-unreversed c.self.inside.table.now.held (pointer_of_some c.previous-self-inside.result)
-    (Lies-step (IsHeld-reverse (IsHeld-some c.self.inside.table.now.held c.in-Some.is c.self.invariant)) (AtHeld-previous_reverse c.previous-self-inside.ensures.previous))
+    (Lies-step (IsHeld-reverse (IsHeld-some c.self.inside.table.now.held c.in-Some.is c.self.invariant))
+    (AtHeld-previous_reverse c.previous-self-inside.ensures.previous))
 
 pub returns-in-Some-clause-steps : goal.returns-in-Some-clause-steps
 returns-in-Some-clause-steps g c =
     let hs = c.self.inside.table.now.held in
     sym c.self.view_is ∙ (λ i. pairs_from (pointer_of_some (c.in-Some.is i)) (reverse hs))
-    ∙ pairs_from-step (IsHeld-reverse (IsHeld-some c.self.inside.table.now.held c.in-Some.is c.self.invariant)) (AtHeld-previous_reverse c.previous-self-inside.ensures.previous)
+    ∙ pairs_from-step (IsHeld-reverse (IsHeld-some c.self.inside.table.now.held c.in-Some.is c.self.invariant))
+    (AtHeld-previous_reverse c.previous-self-inside.ensures.previous)
     (AtHeld-reverse (λ xs t ys. (c.key.result.now, c.value.result.now) ≡ t.pair)
     (λ xs t ys is at. ap₂ (λ k v. (k, v)) (c.key.ensures xs t ys is at) (c.value.ensures xs t ys is at)))
     (IsApart-reverse hs c.previous-self-inside.ensures.apart)
