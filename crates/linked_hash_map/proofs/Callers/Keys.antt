@@ -15,15 +15,8 @@ use Rattle.linked_hash_map.specs.Pairs.{set_value, set_or_push, put}
 use Rattle.linked_hash_map.proofs.log.LiveKeys.{none_is}
 use Rattle.linked_hash_map.proofs.Callers.Lookups.{eq-stored}
 -- calls with a key that is absent, and one with a key that is present
-pub use Rattle.linked_hash_map.proofs.pairs.Calls.{
-  find-none,
-  set_value-none,
-  without-absent,
-  to_back-absent,
-  set_or_push-absent,
-  put-absent,
-  set_or_push-present,
-}
+pub use Rattle.linked_hash_map.proofs.pairs.Calls.{find-none, set_value-none, without-absent, to_back-absent}
+pub use Rattle.linked_hash_map.proofs.pairs.Calls.{set_or_push-absent, put-absent, set_or_push-present}
 -- how many pairs there are: one fewer exactly if the key has one; one more exactly if it has none
 pub use Rattle.linked_hash_map.proofs.pairs.Calls.{length-without, length-set_value, length-set_or_push, length-put}
 -- keys that differ still do after an insertion
