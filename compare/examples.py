@@ -39,7 +39,7 @@ EXAMPLES["map"] = {
     "keys": ["insert a a 10", "insert a c 30", "insert a b 20", "keys a ffff f"],
     "values": ["insert a a 10", "insert a c 30", "insert a b 20", "values a ffff f"],
     "key of an entry": ["entry_key a hello", "insert a foo 1", "entry_key a foo"],
-    "docs/CALLING.md": ["insert a 2 20", "insert a 1 10", "insert a 2 21", "iter a fff f"],
+    "docs/PROVING.md": ["insert a 2 20", "insert a 1 10", "insert a 2 21", "iter a fff f"],
     "the library": [
         "insert a 7 1", "insert a 5 2", "insert a 7 3", "front a", "get a 5", "back a",
         "get_refresh a 5 2", "back a",
