@@ -1,6 +1,7 @@
 pub mod BlockPointers
 pub mod BlockValues
 pub mod BodiesChanged
+pub mod ChunkLists
 pub mod ChunkPlaces
 pub mod ContentTaken
 pub mod ContentsSplitOff
