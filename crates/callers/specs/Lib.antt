@@ -1,0 +1,5 @@
+pub mod Groups
+pub mod Numbers
+pub mod Settings
+pub mod Stairs
+pub mod Texts
