@@ -21,8 +21,8 @@ module _ {V : Type 0} (pairs : List (ℕ × V)) (k : ℕ) where
     where
       by_pair : (o : Option (ℕ × V)) → find nat_eq pairs k ≡ o → is_some o ≡ true
           → keys_of (option_to_list o ++ without nat_eq pairs k) ≡ k ∷ filter (λ j. not (nat_eq k j)) (keys_of pairs)
-      by_pair None is no = absurd (true≢false (sym no))
-      by_pair (Some p) is yes = ap₂ (λ j ks. j ∷ ks) (sym (eqb-true k p.0 (eq-find nat_eq_equiv pairs k p is)))
+      by_pair None is there = absurd (true≢false (sym there))
+      by_pair (Some p) is there = ap₂ (λ j ks. j ∷ ks) (sym (eqb-true k p.0 (eq-find nat_eq_equiv pairs k p is)))
           (keys_of-without nat_eq pairs k)
 
 module _ {V : Type 0} (mode : Mode) (old put_in front : List (ℕ × V)) (k : ℕ) (v : V) where

@@ -3,7 +3,7 @@ use Rattle.std.specs.Prelude.{◌≡◌, ℕ, ◌+◌, ◌-◌, ◌^◌, zero, s
 use Rattle.linked_hash_map.specs.Pairs.{value_at}
 
 -- in how many ways a stair is climbed by steps of one and of two
-pub ways : ℕ → ℕ
+unfoldable pub ways : ℕ → ℕ
 ways zero = 1
 ways (suc zero) = 1
 ways (suc (suc n)) = ways (suc n) + ways n
