@@ -7,7 +7,8 @@ A growth asks, in this order, for
 - heads and then filter words, if it needs more buckets than there is room for: each has as much
   room as there are buckets when it is asked for, but room for 8 if these are fewer, and none for 0;
 - a longer list of chunks, if all its places are taken: the list has 4 places at first, then 8, 16,
-  and so on;
+  and so on. The first four chunks are not in it if they have two nodes each and come before all
+  others;
 - a chunk, if there are fewer nodes than the new capacity. It has the nodes that are missing. A
   growth by one makes it at least two nodes, or from 16 nodes on half as many as there are, at most
   64, and at most as many as there are then buckets beyond the nodes, or with one bucket two.
@@ -16,9 +17,10 @@ If one is refused, the growth gives back the buckets and the filter, and the cap
 that was made longer stays so, since it belongs to the map and not to the growth. What is made anew
 (a map with a capacity, a clone, the nodes of a shrinking) is given back as a whole.
 
-A shrinking to fewer buckets asks for new heads and words and then, as a new ring does, for a list
-and one chunk of exactly the pairs. With as many buckets it asks for nothing, and the nodes stay;
-without pairs it frees all. No other call asks for memory for pairs.
+A shrinking to fewer buckets asks for new heads and words and then, as a new ring does, for one
+chunk of exactly the pairs, and for a list before it if they are not two. With as many buckets it
+asks for nothing, and the nodes stay; without pairs it frees all. No other call asks for memory for
+pairs.
 """
 
 LIMIT = 2**59
@@ -27,6 +29,8 @@ FIRST_AHEAD, ENOUGH = 2, 16
 # It has no more nodes beyond those that are missing.
 MOST_AHEAD = 64
 FIRST_LIST = 4
+# How many chunks of two nodes need no list.
+MOST_INLINE = 4
 # How many buckets the first heads and words have room for.
 FIRST_ROOM = 8
 # A request for so many bytes is refused on any machine.
@@ -49,7 +53,7 @@ class Memory:
     """The capacity, the buckets, the nodes and the chunks of a map, and how many nodes rehashes
     have moved since the capacity was lowered."""
 
-    __slots__ = ("capacity", "buckets", "nodes", "chunks", "places", "rechained")
+    __slots__ = ("capacity", "buckets", "nodes", "inline", "chunks", "places", "rechained")
 
     def __init__(self):
         self.free()
@@ -57,12 +61,18 @@ class Memory:
     def free(self):
         """Frees all."""
         self.capacity = self.buckets = self.nodes = 0
-        # The chunks, and the places of their list.
-        self.chunks = self.places = 0
+        # The chunks that are not in the list, those that are, and the places of the list.
+        self.inline = self.chunks = self.places = 0
         self.rechained = 0
 
     def is_given_chunk(self, nodes, effects):
-        """Asks for a chunk, and for a longer list first if that is full."""
+        """Asks for a chunk, and for a longer list first if it needs that and it is full."""
+        if nodes == FIRST_AHEAD and self.inline < MOST_INLINE and self.chunks == 0:
+            if not effects.ask():
+                return False
+            self.inline += 1
+            self.nodes += nodes
+            return True
         if self.chunks == self.places:
             if not effects.ask():
                 return False

@@ -1,10 +1,11 @@
 //! Allocates nodes in chunks, and frees all chunks.
-ghost use Rattle.std.specs.Prelude.{◌≡◌, ◌+◌, ◌-◌, ◌<◌, ◌≤◌, ◌^◌, [], ◌∷◌, ◌++◌, None, Some, map, min, max, length, IfOk, OnOk, OnErr, IsTrue, true};
+ghost use Rattle.std.specs.Prelude.{◌≡◌, ◌+◌, ◌-◌, ◌<◌, ◌≤◌, ◌^◌, [], ◌∷◌, ◌++◌, None, Some, min, max, length, IfOk, OnOk, OnErr, IsTrue, true};
 ghost use Rattle.std.specs.Allocator.{FitsBlock};
 ghost use Rattle.lhm_ring.specs.Nodes.{row};
-ghost use Rattle.lhm_ring.specs.Links.{extent, nodes_grown, next_chunk, least_more, IsStacked};
+ghost use Rattle.lhm_ring.specs.Links.{nodes_grown, next_chunk, least_more, IsStacked};
 
-use crate::nodes::{Chunk, Node, Nodes, allocate, deallocate, size};
+use crate::chunks::Chunks;
+use crate::nodes::{Node, Nodes, allocate, deallocate, size};
 use crate::pointer::{Link, NodePointer};
 use crate::ring::{Links, Ring};
 use std::alloc::{AllocError, Global};
@@ -73,9 +74,8 @@ fn make_spares<K, V>(
 }
 
 /// Allocates a chunk of `places` unused places, and returns the first.
-fn allocate_chunk<K, V>(
+pub(crate) fn new_chunk<K, V>(
     nodes: &mut Nodes<Links, K, V>,
-    chunks: &mut Vec<Chunk, Global>,
     alloc: &Global,
     places: usize,
 ) -> Result<NodePointer, AllocError>
@@ -87,32 +87,19 @@ fn allocate_chunk<K, V>(
         nodes.new.unused ≡ row first.ptr nodes.new.node_bytes places) }
     ensures chunks { IfOk result (λ first.
         nodes.new.chunks ≡ nodes.old.chunks ++ (first.ptr, places) ∷ []) }
-    ensures recorded { IfOk result (λ first.
-        map extent chunks.new.items ≡ map extent chunks.old.items ++ (first.ptr, places) ∷ []) }
     ensures refused { OnErr result
         ((nodes.new.unused ≡ nodes.old.unused) × (nodes.new.chunks ≡ nodes.old.chunks)) }
-    ensures refused_recorded { OnErr result (chunks.new.items ≡ chunks.old.items) }
 {
     if !fits::<Node<Links, K, V>>(places) {
         return Err(AllocError);
     }
-    chunks.reserve(1)?;
     let block = allocate(alloc, places)?;
-    let first = nodes.add_chunk(block);
-    chunks.push_reserved(Chunk {
-        first,
-        count: places,
-    });
-    Ok(first)
+    Ok(nodes.add_chunk(block))
 }
 
 /// Frees all chunks, and forgets what the nodes hold.
-pub(crate) fn free_chunks<K, V>(
-    nodes: &mut Nodes<Links, K, V>,
-    alloc: &Global,
-    mut chunks: Vec<Chunk, Global>,
-)
-    requires { nodes.old.chunks ≡ map extent chunks.items }
+pub(crate) fn free_chunks<K, V>(nodes: &mut Nodes<Links, K, V>, alloc: &Global, mut chunks: Chunks)
+    requires { nodes.old.chunks ≡ chunks }
     ensures cells { nodes.new.cells ≡ [] }
     ensures chunks { nodes.new.chunks ≡ [] }
 {
@@ -145,7 +132,7 @@ impl<K, V> Ring<K, V> {
         }
         let missing = self.len + self.spares + count - self.made;
         let places = missing.max(least);
-        let at = allocate_chunk(&mut self.nodes, &mut self.chunks, &self.alloc, places)?;
+        let at = self.chunks.allocate(&mut self.nodes, &self.alloc, places)?;
         self.spare = make_spares(&mut self.nodes, at, self.spare, places);
         self.spares += count;
         self.made += places;

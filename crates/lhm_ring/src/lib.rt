@@ -8,6 +8,7 @@ pub(crate) mod value_loan;
 
 // Safe code over these, with no proof by hand, each over the ones before it.
 pub(crate) mod buckets;
+pub(crate) mod chunks;
 pub(crate) mod drain;
 pub(crate) mod grow;
 pub mod index;

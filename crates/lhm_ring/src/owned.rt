@@ -6,8 +6,9 @@ ghost use Rattle.std.specs.List.{AllZip};
 ghost use Rattle.lhm_ring.specs.Ring.{triples, IsTripleClone};
 ghost use Rattle.lhm_ring.specs.Drain.{HandsOutFirst, HandsOutLast};
 
+use crate::chunks::Chunks;
 use crate::grow::free_chunks;
-use crate::nodes::{Chunk, Nodes};
+use crate::nodes::Nodes;
 use crate::pointer::NodePointer;
 use crate::ring::{Links, Ring};
 use std::alloc::{AllocError, Global};
@@ -110,16 +111,16 @@ impl<K: Clone, V: Clone> Clone for IntoIter<K, V> {
 pub struct OwnedPairs<K, V> {
     pub(crate) nodes: Nodes<Links, K, V>,
     pub(crate) alloc: Global,
-    pub(crate) chunks: Vec<Chunk, Global>,
+    pub(crate) chunks: Chunks,
     // The front node of the `left` that still hold a pair.
     pub(crate) first: NodePointer,
     pub(crate) left: usize,
 }
 
 impl<K, V> Model for OwnedPairs<K, V> {
-    ghost use Rattle.std.specs.Prelude.{◌≡◌, List, ℕ, map};
+    ghost use Rattle.std.specs.Prelude.{◌≡◌, List, ℕ};
     ghost use denote.RawPtr.{Ptr};
-    ghost use Rattle.lhm_ring.specs.Links.{extent, IsSpan, span_triples};
+    ghost use Rattle.lhm_ring.specs.Links.{IsSpan, span_triples};
 
     ghost Value = { List (ℕ × (K × V)) };
 
@@ -128,7 +129,7 @@ impl<K, V> Model for OwnedPairs<K, V> {
     ghost invariant = { λ p. record {
       last : Ptr;
       span : IsSpan p.nodes.cells p.first.ptr last p.left;
-      all_recorded : p.nodes.chunks ≡ map extent p.chunks.items;
+      all_recorded : p.nodes.chunks ≡ p.chunks;
     } };
 }
 

@@ -104,7 +104,7 @@ block_ptr-in_block (block_ptr b o) e = ((b, o), refl)
 block_ptr-in_block null_ptr e = cc
 
 -- a ring's chunks stay if its nodes keep theirs
-pub IsLaid-same : {us vs : List Ptr} {cs ds : List (Ptr × ℕ)} {recorded : List Chunk} {made : ℕ}
+pub IsLaid-same : {us vs : List Ptr} {cs ds recorded : List (Ptr × ℕ)} {made : ℕ}
     → IsLaid us cs recorded made → vs ≡ us → ds ≡ cs → IsLaid vs ds recorded made
 IsLaid-same l e f = record {
   none_unused = e ∙ l.none_unused;
@@ -112,21 +112,13 @@ IsLaid-same l e f = record {
   all_made = l.all_made ∙ ap place_count (sym f);
 }
 
-pub IsLaid-none : {us : List Ptr} {cs : List (Ptr × ℕ)} {recorded : List Chunk} → us ≡ [] → cs ≡ []
+pub IsLaid-none : {us : List Ptr} {cs recorded : List (Ptr × ℕ)} → us ≡ [] → cs ≡ []
     → recorded ≡ [] → IsLaid us cs recorded 0
 unfolding place_count
-IsLaid-none e f k = record { none_unused = e; all_recorded = f ∙ sym (ap (map extent) k); all_made = sym (ap place_count f) }
+IsLaid-none e f k = record { none_unused = e; all_recorded = f ∙ sym k; all_made = sym (ap place_count f) }
 
 pub row-less : (p : Ptr) (s n : ℕ) → 0 < n → row p s n ≡ row p s (n - 1 + 1)
 row-less p s n some = let same : n ≡ n - 1 + 1 = omega arith in ap (row p s) same
-
-pub map-extent_last : (ks : List Chunk) (k : Chunk) → map extent (ks ++ k ∷ []) ≡ map extent ks ++ extent k ∷ []
-map-extent_last [] k = refl
-map-extent_last (x ∷ ks) k = ap (λ cs. extent x ∷ cs) (map-extent_last ks k)
-
-pub map-extent_none : (ks : List Chunk) → length ks ≡ 0 → map extent ks ≡ []
-map-extent_none [] e = refl
-map-extent_none (k ∷ ks) e = absurd (omega (arith, e))
 
 -- if no place is unused, there are as many nodes as places
 pub length-made : {L B : Type 0} (ns : List (Cell L B)) (us : List Ptr) (s : ℕ)
@@ -134,9 +126,9 @@ pub length-made : {L B : Type 0} (ns : List (Cell L B)) (us : List Ptr) (s : ℕ
 length-made ns us s cs h e = sym (length-map ns (λ n. n.at)) ∙ ap length (ap (λ qs. qs ++ pointers ns) (sym e) ∙ h) ∙ length-places s cs
 
 -- a chunk more
-pub IsLaid-grown : {us vs : List Ptr} {cs ds : List (Ptr × ℕ)} {ks js : List Chunk} {made : ℕ}
+pub IsLaid-grown : {us vs : List Ptr} {cs ds ks js : List (Ptr × ℕ)} {made : ℕ}
     (c : Ptr × ℕ) → IsLaid us cs ks made → vs ≡ [] → ds ≡ cs ++ c ∷ []
-    → map extent js ≡ map extent ks ++ c ∷ [] → IsLaid vs ds js (made + c.1)
+    → js ≡ ks ++ c ∷ [] → IsLaid vs ds js (made + c.1)
 IsLaid-grown {cs = cs} {made = made} c l e f k = record {
   none_unused = e;
   all_recorded = f ∙ ap (λ zs. zs ++ c ∷ []) l.all_recorded ∙ sym k;

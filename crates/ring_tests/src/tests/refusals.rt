@@ -65,7 +65,7 @@ fn refused_growth_leaves_what_is_held(rt: HostRuntime) {
 }
 
 fn grow_twice(rt: &(impl Abort + Print + AllocGlobal), mut ring: Ring<char, u64>) {
-    // The growths: a list of chunks and a chunk.
+    // The growth: a chunk of two nodes, which needs no list.
     if let Ok(()) = ring.grow(2) {
         ring.put_back(7, 'a', 1);
         grow_held(rt, ring);
@@ -73,7 +73,7 @@ fn grow_twice(rt: &(impl Abort + Print + AllocGlobal), mut ring: Ring<char, u64>
 }
 
 fn grow_held(rt: &(impl Abort + Print + AllocGlobal), mut ring: Ring<char, u64>) {
-    // The growth: a chunk.
+    // The growths: a list of chunks and a chunk.
     match ring.grow(3) {
         Ok(()) => {
             check!(rt; is_ring(&ring, &[(7, 'a', 1)], 4));
@@ -179,11 +179,11 @@ fn compact_two(rt: &(impl Abort + Print + AllocGlobal), alloc: Global) {
 }
 
 fn compact(rt: &(impl Abort + Print + AllocGlobal), mut ring: Ring<char, u64>) {
-    // The growths: a list of chunks and a chunk.
+    // The growth: a chunk of two nodes, which needs no list.
     match ring.compact() {
         Ok(()) => {
             check!(rt; is_ring(&ring, &[(7, 'a', 1), (9, 'b', 2)], 0));
-            say_given(rt, 5);
+            say_given(rt, 4);
         }
         Err(AllocError) => check!(rt; is_ring(&ring, &[(7, 'a', 1), (9, 'b', 2)], 1)),
     }

@@ -13,8 +13,8 @@ overflow_sub-missing g c =
     let seen = counts-seen c.self.inside c.self.invariant c.self.view_is in
     let lacks = c.requires.missing in let few = c.if-self-count.false in let small = c.self.invariant.ring.bounded in omega arith
 
-pub allocate_chunk-requires-clause-some : goal.allocate_chunk-requires-clause-some
-allocate_chunk-requires-clause-some g c =
+pub allocate-requires-clause-some : goal.allocate-requires-clause-some
+allocate-requires-clause-some g c =
     let seen = counts-seen c.self.inside c.self.invariant c.self.view_is in let places = c.max-places.ensures in
     let lacks = c.requires.missing in let few = c.if-self-count.false in let small = c.self.invariant.ring.bounded in omega arith
 
@@ -29,8 +29,8 @@ invariant_of-self-2 g c =
     let i = c.self.inside in let ds = c.make_spares-self-inside.new.nodes in let first = c.make_spares-self-inside.result in
     let chunk : Ptr × ℕ = (c.in_ok-at.at.ptr, c.max-places.result) in
     let ok = subst (λ zs. IsOwned (ring_cells i.ends zs) i.spare i.len i.spares)
-    (sym c.allocate_chunk.ensures.cells) c.self.invariant.ring in
-    let ring = IsOwned-stacked i.ends c.allocate_chunk.new.nodes.cells ds.cells first _ ok
+    (sym c.allocate.ensures.cells) c.self.invariant.ring in
+    let ring = IsOwned-stacked i.ends c.allocate.new.nodes.cells ds.cells first _ ok
     c.make_spares-self-inside.ensures.stacked ds.apart ds.blocks in
     let more = c.make_spares-self-inside.ensures.chunks ∙ c.in_ok-at.ensures.chunks in
     let laid = IsLaid-grown chunk c.self.invariant.laid c.make_spares-self-inside.ensures.unused more c.in_ok-at.ensures.recorded in
@@ -43,11 +43,11 @@ invariant_of-self-2 g c =
 
 pub returns-clause-held : goal.returns-clause-held
 returns-clause-held g c =
-    let i = c.self.inside in let cs = c.allocate_chunk.new.nodes.cells in let ds = c.make_spares-self-inside.new.nodes in
+    let i = c.self.inside in let cs = c.allocate.new.nodes.cells in let ds = c.make_spares-self-inside.new.nodes in
     let ok = subst (λ zs. IsOwned (ring_cells i.ends zs) i.spare i.len i.spares)
-    (sym c.allocate_chunk.ensures.cells) c.self.invariant.ring in
+    (sym c.allocate.ensures.cells) c.self.invariant.ring in
     ring_list-stacked i.ends cs ds.cells c.make_spares-self-inside.result _ ok c.make_spares-self-inside.ensures.stacked ds.apart ds.blocks
-    ∙ ap (λ zs. ring_list (ring_cells i.ends zs) i.len) c.allocate_chunk.ensures.cells ∙ ap (λ z. z.held) c.self.view_is
+    ∙ ap (λ zs. ring_list (ring_cells i.ends zs) i.len) c.allocate.ensures.cells ∙ ap (λ z. z.held) c.self.view_is
 
 pub returns-clause-nodes : goal.returns-clause-nodes
 returns-clause-nodes g c =
