@@ -224,9 +224,7 @@ impl<K: Eq + Hash, V> Index<K, V> {
         ensures absent { IfNone result (LacksKey (Q.equivalent key) hash ring.old.held) }
         ensures unchanged { IfNone result (self.new ≡ self.old) }
         ensures ring_unchanged { IfNone result (ring.new ≡ ring.old) }
-        ensures held { entries ring.new.held ≡ entries ring.old.held }
-        ensures spares { ring.new.spares ≡ ring.old.spares }
-        ensures nodes { ring.new.nodes ≡ ring.old.nodes }
+        ensures links { ChangesLinks ring.old ring.new }
         ensures buckets { length self.new.heads ≡ length self.old.heads }
     {
         if self.buckets() == 0 {
