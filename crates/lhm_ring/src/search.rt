@@ -2,7 +2,7 @@
 ghost use Rattle.std.specs.Prelude.{◌≡◌, Bool, ◌+◌, ◌%◌, ◌<◌, ◌≤◌, ◌^◌, ◌∷◌, [], length, None, Some, IfSome, IfNone, OnSome, slice_index_or};
 ghost use Rattle.lhm_ring.specs.Ring.{IsHeld};
 ghost use Rattle.lhm_ring.specs.Pointer.{pointer_of, pointer_of_some};
-ghost use Rattle.lhm_ring.specs.Index.{Indexes, spot, spots, count_with_hash, OfNodeAt, entries, HoldsOthers};
+ghost use Rattle.lhm_ring.specs.Index.{Indexes, spot, spots, count_with_hash, OfNodeAt, ChangesLinks, HoldsOthers};
 ghost use Rattle.lhm_ring.specs.Search.{Compares, FindsKey, FindsNone, HasKey, LacksKey, CountsSome, CountsAll, IsPart};
 
 use crate::index::Index;

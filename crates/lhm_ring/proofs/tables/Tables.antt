@@ -251,13 +251,13 @@ module _ {K V : Type 0} {i : BucketState} {s : State (K × V)} {r : ℕ} (table 
     rechained_raised-moves len = ap (λ b. cond b r (r + len)) (ne_eqb (buckets (length s.held + s.spares)) (buckets d) buckets-differ)
 
     -- the ring grew by some spare nodes, and each node was rehashed
-    pub IsTable-raised : {i' : BucketState} {t w : State (K × V)} {more most moved : ℕ}
+    pub IsTable-raised : {i' : BucketState} {t w : State (K × V)} {most moved : ℕ} (more : ℕ)
         → t.held ≡ s.held → t.spares ≡ s.spares + more
         → (s.nodes ≤ most → length s.held + s.spares + more ≤ most → t.nodes ≤ most)
         → ChangesLinks t w → Indexes i' (spots w.held) → length i'.heads ≡ buckets d
         → d ≡ length s.held + s.spares + more → d ≤ 2 ^ 59 → most ≡ max 2 (buckets d) → moved ≡ length t.held
         → IsTable i' w (r + moved)
-    IsTable-raised {w = w} same spares made links indexed wide all within most moved =
+    IsTable-raised {w = w} more same spares made links indexed wide all within most moved =
         let enough = buckets-at_least d in
         let sum : length s.held + w.spares ≡ d = omega (arith, all, spares, links.spares) in
         let nodes = made (omega (arith, table.nodes_within, few, most, enough)) (omega (arith, all, most, enough)) in

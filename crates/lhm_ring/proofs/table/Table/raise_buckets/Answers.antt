@@ -18,7 +18,7 @@ invariant_of-self g c =
     let all = length-capacity c.self.inside.ring c.self.inside.rechained c.self.view_is in
     IsTable-raised c.self.invariant c.args.capacity (omega (arith, all, c.requires.higher))
     (omega (arith, c.requires.more, ap buckets all, c.self.invariant.indexed.count))
-    grown.held grown.spares grown.nodes_within taken.links taken.indexed (taken.buckets ∙ fresh)
+    c.args.additional grown.held grown.spares grown.nodes_within taken.links taken.indexed (taken.buckets ∙ fresh)
     (omega (arith, all, c.requires.sum)) c.requires.limit (omega (arith, c.max.ensures, c.buckets.ensures, fresh)) taken.count
 
 pub returns-in-Ok-clause-made : goal.returns-in-Ok-clause-made

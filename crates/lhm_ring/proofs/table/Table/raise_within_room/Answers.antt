@@ -28,7 +28,7 @@ invariant_of-self-2 g c =
     let all = length-capacity c.self.inside.ring c.self.inside.rechained c.self.view_is in
     IsTable-raised c.self.invariant c.args.capacity (omega (arith, all, c.requires.higher))
     (omega (arith, c.requires.more, ap buckets all, c.self.invariant.indexed.count))
-    grown.held grown.spares grown.nodes_within spread.links spread.indexed (spread.buckets ∙ c.requires.count)
+    c.args.additional grown.held grown.spares grown.nodes_within spread.links spread.indexed (spread.buckets ∙ c.requires.count)
     (omega (arith, all, c.requires.sum)) c.requires.limit (omega (arith, c.max.ensures, c.requires.count)) spread.count
 
 pub returns-clause-made : goal.returns-clause-made
