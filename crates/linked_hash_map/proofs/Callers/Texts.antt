@@ -50,7 +50,7 @@ module _ {Y V : Type 0} where
   -- what another text finds after a change by a text
   module _ (before after : List (String Y × V)) (text other : List ℕ) (value : Option V)
       (updates : UpdatesBy string_eq before after (is_text text) value) where
-    are_apart : bytes_eq text other ≡ false → AreApart (is_text text) (is_text other)
+    are_apart : bytes_eq text other ≡ false → AreApart {K = String Y} (is_text text) (is_text other)
     are_apart apart = λ key same. let laws = nat_list_eq_equiv in
         laws.symm other (string_bytes key) ∙ sym (laws.congr text (string_bytes key) other same) ∙ apart
 

@@ -59,7 +59,7 @@ passes-lookup_entry test (first ∷ pairs) pair found = grind (arith, passes-loo
 -- a lookup by a test of other keys finds what it found before
 module _ {K V : Type 0} {eq : K → K → Bool} (before after : List (K × V)) (is_key other : K → Bool) (value : Option V)
     (updates : UpdatesBy eq before after is_key value) (one : IsKeyTest eq other) (apart : AreApart is_key other) where
-  found_by : (K → Bool) → List (K × V) → Option V
+  abbrev found_by : (K → Bool) → List (K × V) → Option V
   found_by test pairs = option_map (λ pair. pair.1) (lookup_entry test pairs)
 
   fails-other : (k : K) → other k ≡ true → is_key k ≡ false
