@@ -5,7 +5,7 @@ ghost use Rattle.lhm_ring.specs.Ring.{IsHeld};
 ghost use Rattle.lhm_ring.specs.Pointer.{pointer_of, pointer_of_some};
 ghost use Rattle.lhm_ring.specs.Buckets.{buckets, HasNoChain};
 ghost use Rattle.lhm_ring.specs.Search.{HasKey, LacksKey};
-ghost use Rattle.lhm_ring.specs.Index.{Indexes, spots, OfNodeAt, entries, HoldsOthers, IsOnChain, PutsFirst};
+ghost use Rattle.lhm_ring.specs.Index.{Indexes, spots, OfNodeAt, ChangesLinks, HoldsOthers, IsOnChain, PutsFirst};
 
 pub use crate::buckets::buckets_for;
 use crate::buckets::{Head, Word};
@@ -80,9 +80,7 @@ impl<K, V> Index<K, V> {
         ensures first { PutsFirst (pointer_of at) self.old self.new ring.old.held ring.new.held }
         ensures indexed { HoldsOthers self.old ring.old.held (pointer_of at)
             → Indexes self.new (spots ring.new.held) }
-        ensures held { entries ring.new.held ≡ entries ring.old.held }
-        ensures spares { ring.new.spares ≡ ring.old.spares }
-        ensures nodes { ring.new.nodes ≡ ring.old.nodes }
+        ensures links { ChangesLinks ring.old ring.new }
         ensures buckets { length self.new.heads ≡ length self.old.heads }
     {
         self.put_in_by_hash(ring, at, ring.links(at).hash);
@@ -96,9 +94,7 @@ impl<K, V> Index<K, V> {
         ensures first { PutsFirst (pointer_of at) self.old self.new ring.old.held ring.new.held }
         ensures indexed { HoldsOthers self.old ring.old.held (pointer_of at)
             → Indexes self.new (spots ring.new.held) }
-        ensures held { entries ring.new.held ≡ entries ring.old.held }
-        ensures spares { ring.new.spares ≡ ring.old.spares }
-        ensures nodes { ring.new.nodes ≡ ring.old.nodes }
+        ensures links { ChangesLinks ring.old ring.new }
         ensures buckets { length self.new.heads ≡ length self.old.heads }
     {
         let bucket = self.bucket_of(hash);
@@ -112,9 +108,7 @@ impl<K, V> Index<K, V> {
         requires on_chain { IsOnChain self.old.heads hash (spots ring.old.held)
             (pointer_of_some found.before) (pointer_of found.at) }
         ensures lacks { HoldsOthers self.new ring.new.held (pointer_of found.at) }
-        ensures held { entries ring.new.held ≡ entries ring.old.held }
-        ensures spares { ring.new.spares ≡ ring.old.spares }
-        ensures nodes { ring.new.nodes ≡ ring.old.nodes }
+        ensures links { ChangesLinks ring.old ring.new }
         ensures buckets { length self.new.heads ≡ length self.old.heads }
     {
         let link = ring.links(found.at).link;
@@ -156,9 +150,7 @@ impl<K, V> Index<K, V> {
         requires indexed { Indexes self.old (spots ring.old.held) }
         requires small { length ring.old.held < 2 ^ 64 }
         ensures lacks { HoldsOthers self.new ring.new.held (pointer_of at) }
-        ensures held { entries ring.new.held ≡ entries ring.old.held }
-        ensures spares { ring.new.spares ≡ ring.old.spares }
-        ensures nodes { ring.new.nodes ≡ ring.old.nodes }
+        ensures links { ChangesLinks ring.old ring.new }
         ensures buckets { length self.new.heads ≡ length self.old.heads }
     {
         let hash = ring.links(at).hash;
@@ -174,9 +166,7 @@ impl<K, V> Index<K, V> {
         requires small { length ring.old.held < 2 ^ 64 }
         ensures indexed { Indexes self.new (spots ring.new.held) }
         ensures count { result ≡ length ring.old.held }
-        ensures held { entries ring.new.held ≡ entries ring.old.held }
-        ensures spares { ring.new.spares ≡ ring.old.spares }
-        ensures nodes { ring.new.nodes ≡ ring.old.nodes }
+        ensures links { ChangesLinks ring.old ring.new }
         ensures buckets { length self.new.heads ≡ length fresh.heads }
     {
         mem::replace(self, fresh).free();
@@ -193,9 +183,7 @@ impl<K, V> Index<K, V> {
         requires small { length ring.old.held < 2 ^ 64 }
         ensures indexed { Indexes self.new (spots ring.new.held) }
         ensures count { result ≡ length ring.old.held }
-        ensures held { entries ring.new.held ≡ entries ring.old.held }
-        ensures spares { ring.new.spares ≡ ring.old.spares }
-        ensures nodes { ring.new.nodes ≡ ring.old.nodes }
+        ensures links { ChangesLinks ring.old ring.new }
         ensures buckets { length self.new.heads ≡ count }
     {
         self.make_empty(count);
@@ -210,9 +198,7 @@ impl<K, V> Index<K, V> {
         requires small { length ring.old.held < 2 ^ 64 }
         ensures indexed { Indexes self.new (spots ring.new.held) }
         ensures count { result ≡ length ring.old.held }
-        ensures held { entries ring.new.held ≡ entries ring.old.held }
-        ensures spares { ring.new.spares ≡ ring.old.spares }
-        ensures nodes { ring.new.nodes ≡ ring.old.nodes }
+        ensures links { ChangesLinks ring.old ring.new }
         ensures buckets { length self.new.heads ≡ length self.old.heads }
     {
         let mut count = 0;

@@ -2,7 +2,7 @@
 ghost use Rattle.std.specs.Prelude.{◌≡◌, Bool, ◌+◌, ◌%◌, ◌<◌, ◌≤◌, ◌^◌, ◌∷◌, [], length, None, Some, IfSome, IfNone, OnSome, slice_index_or};
 ghost use Rattle.lhm_ring.specs.Ring.{IsHeld};
 ghost use Rattle.lhm_ring.specs.Pointer.{pointer_of, pointer_of_some};
-ghost use Rattle.lhm_ring.specs.Index.{Indexes, spot, spots, count_with_hash, OfNodeAt, entries, HoldsOthers};
+ghost use Rattle.lhm_ring.specs.Index.{Indexes, spot, spots, count_with_hash, OfNodeAt, ChangesLinks, HoldsOthers};
 ghost use Rattle.lhm_ring.specs.Search.{Compares, FindsKey, FindsNone, HasKey, LacksKey, CountsSome, CountsAll, IsPart};
 
 use crate::index::Index;
@@ -224,9 +224,7 @@ impl<K: Eq + Hash, V> Index<K, V> {
         ensures absent { IfNone result (LacksKey (Q.equivalent key) hash ring.old.held) }
         ensures unchanged { IfNone result (self.new ≡ self.old) }
         ensures ring_unchanged { IfNone result (ring.new ≡ ring.old) }
-        ensures held { entries ring.new.held ≡ entries ring.old.held }
-        ensures spares { ring.new.spares ≡ ring.old.spares }
-        ensures nodes { ring.new.nodes ≡ ring.old.nodes }
+        ensures links { ChangesLinks ring.old ring.new }
         ensures buckets { length self.new.heads ≡ length self.old.heads }
     {
         if self.buckets() == 0 {

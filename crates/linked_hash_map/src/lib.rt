@@ -56,7 +56,7 @@
 //! [`PutRefused`](sessions::PutRefused), which may not be for want of memory. Nothing panics.
 //! [`LinkedHashMap`] says more.
 //!
-//! `docs/PROMISES.md` says what is proved, and `docs/CALLING.md` how callers use contracts.
+//! `docs/PROMISES.md` says what is proved, and `docs/PROVING.md` how callers use contracts.
 #![tactic(auto)]
 
 mod clone;

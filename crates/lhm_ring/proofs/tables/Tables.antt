@@ -20,7 +20,7 @@ use Rattle.lhm_ring.specs.Pointer.{pointer_of}
 use Rattle.lhm_ring.specs.Ring.{Held, State, state, IsHeld, AtHeld, ChangesOnly, linked_to, first_at, last_at}
 use Rattle.lhm_ring.specs.Ring.{change_at, triples, revalued, rekeyed}
 use Rattle.lhm_ring.specs.RingAfterLoan.{with_value}
-use Rattle.lhm_ring.specs.Index.{Indexes, PutsIn, spot, spots, entries, HoldsOthers}
+use Rattle.lhm_ring.specs.Index.{Indexes, PutsIn, spot, spots, entries, ChangesLinks, HoldsOthers}
 use Rattle.lhm_ring.specs.Buckets.{BucketState, buckets, rechained_raised, made_raised}
 use Rattle.lhm_ring.specs.Links.{nodes_grown, least_more, most_nodes}
 use Rattle.lhm_ring.specs.TableAfterLoan.{with_value as write}
@@ -182,9 +182,7 @@ module _ {K V : Type 0} {i : BucketState} {s : State (K × V)} {r : ℕ} (table 
 
   -- the node at p was removed from its chain, and then from the ring
   module _ {i' : BucketState} {t w : State (K × V)} {p : Ptr}
-      (same : entries t.held ≡ entries s.held) (spares : t.spares ≡ s.spares)
-      (made : t.nodes ≡ s.nodes)
-      (lacks : HoldsOthers i' t.held p) (others : AtHeld t.held p (λ xs x ys. w.held ≡ xs ++ ys))
+      (links : ChangesLinks s t) (lacks : HoldsOthers i' t.held p) (others : AtHeld t.held p (λ xs x ys. w.held ≡ xs ++ ys))
       (more : w.spares ≡ t.spares + 1) (stay : w.nodes ≡ t.nodes) where
     pub length-with_spares : length s.held + s.spares ≡ length w.held + w.spares
     length-with_spares =
@@ -193,8 +191,8 @@ module _ {K V : Type 0} {i : BucketState} {s : State (K × V)} {r : ℕ} (table 
         let of_rest = length-append h.before h.after in
         let of_held = ap length h.is in
         let of_all = length-append h.before (h.node ∷ h.after) in
-        let long = length-same_entries t.held s.held same in
-        omega (arith, out, of_rest, of_held, of_all, long, spares, more)
+        let long = length-same_entries t.held s.held links.held in
+        omega (arith, out, of_rest, of_held, of_all, long, links.spares, more)
 
     pub IsTable-removed : length i'.heads ≡ length i.heads → IsTable i' w r
     IsTable-removed count =
@@ -208,7 +206,7 @@ module _ {K V : Type 0} {i : BucketState} {s : State (K × V)} {r : ℕ} (table 
           };
           few = omega (arith, table.few, count);
           limit = omega (arith, all, table.limit);
-          nodes_within = omega (arith, made, stay, count, table.nodes_within);
+          nodes_within = omega (arith, links.nodes, stay, count, table.nodes_within);
         }
 
   -- the capacity rises, and the buckets do for it: no node is rehashed
@@ -251,3 +249,19 @@ module _ {K V : Type 0} {i : BucketState} {s : State (K × V)} {r : ℕ} (table 
     pub rechained_raised-moves : (len : ℕ)
         → rechained_raised r len (length s.held + s.spares) d ≡ r + len
     rechained_raised-moves len = ap (λ b. cond b r (r + len)) (ne_eqb (buckets (length s.held + s.spares)) (buckets d) buckets-differ)
+
+    -- the ring grew by some spare nodes, and each node was rehashed
+    pub IsTable-raised : {i' : BucketState} {t w : State (K × V)} {most moved : ℕ} (more : ℕ)
+        → t.held ≡ s.held → t.spares ≡ s.spares + more
+        → (s.nodes ≤ most → length s.held + s.spares + more ≤ most → t.nodes ≤ most)
+        → ChangesLinks t w → Indexes i' (spots w.held) → length i'.heads ≡ buckets d
+        → d ≡ length s.held + s.spares + more → d ≤ 2 ^ 59 → most ≡ max 2 (buckets d) → moved ≡ length t.held
+        → IsTable i' w (r + moved)
+    IsTable-raised {w = w} more same spares made links indexed wide all within most moved =
+        let enough = buckets-at_least d in
+        let sum : length s.held + w.spares ≡ d = omega (arith, all, spares, links.spares) in
+        let nodes = made (omega (arith, table.nodes_within, few, most, enough)) (omega (arith, all, most, enough)) in
+        let count = moved ∙ ap length same in
+        IsTable-rechained (links.held ∙ ap entries same) (omega (arith, sum, within)) indexed
+        (wide ∙ ap buckets (sym sum)) (omega (arith, rechained-fits, count, wide))
+        (omega (arith, nodes, most, wide, links.nodes, enough, up))

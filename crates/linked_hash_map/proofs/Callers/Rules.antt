@@ -3,13 +3,14 @@
 -- their equality, so that `grind` has none to find; the first part of a conclusion shows it the
 -- call to match.
 use Rattle.std.proofs.Common.{◌≡◌, ◌⊎◌, false, ℕ, ◌+◌, ◌<◌, ◌≤◌, inl, inr, sym, take, get_or, cond, not, List, [], ◌∷◌}
-use Rattle.std.proofs.Common.{◌++◌, length, filter, is_some, Some, None, refl, ap, ◌∙◌, nat_eq}
+use Rattle.std.proofs.Common.{◌++◌, length, filter, map, is_some, Some, None, refl, ap, ◌∙◌, nat_eq}
 use Rattle.std.specs.Cmp.Lexicographic.{nat_list_eq_equiv}
 use Rattle.std.specs.Prelude.{String, string_eq}
 use Rattle.std.specs.declared.alloc.Global.{Global}
 use Rattle.std.specs.Str.{bytes_eq}
+use Rattle.std.specs.String.{string_bytes}
 use Rattle.std.specs.Cmp.{nat_eq_equiv}
-use Rattle.std.specs.Map.{keys_of}
+use Rattle.std.specs.Map.{keys_of, values_of}
 use Rattle.std.specs.Option.{option_or}
 use Rattle.std.specs.List.{Contains}
 use Rattle.std.proofs.lemmas.Bool.{eqb-true}
@@ -28,6 +29,7 @@ use Rattle.linked_hash_map.proofs.Callers.EachPair.{All-find, All-without, All-t
 use Rattle.linked_hash_map.proofs.Callers.Ends.{keys_of-take, take-keys_of, to_front-put, value_at-take}
 use Rattle.linked_hash_map.proofs.Callers.Lookups.{eq-find, eq-stored, value_at-append, value_at-without_append}
 use Rattle.linked_hash_map.proofs.Callers.Rounds.{IsTurned-start, IsTurned-turn, IsTurned-round}
+use Rattle.linked_hash_map.proofs.Callers.Texts.{value_at-by_bytes, values_of-by_bytes}
 use Rattle.linked_hash_map.proofs.Callers.Turns.{cons-keys_of_first, put-without_first}
 use Rattle.linked_hash_map.proofs.Callers.Visits.{VisitKeeps-passed, VisitKeeps-removed, append-visited}
 use Rattle.linked_hash_map.proofs.Callers.WritingVisits.{VisitMaps-written, VisitMaps-removed, VisitMaps-start}
@@ -54,6 +56,12 @@ module _ {V : Type 0} (mode : Mode) (pairs : List (ℕ × V)) (k : ℕ) (v : V) 
         ∙ ap (λ (key : ℕ). (key, v) ∷ without nat_eq pairs k)
         (sym (eqb-true k (key_or k (find nat_eq pairs k)) (eq-stored nat_eq_equiv pairs k))),
   )
+
+pub keys_of-put_to_front : {V : Type 0} (mode : Mode) (pairs : List (ℕ × V)) (k : ℕ) (v : V) {inserted moved : List (ℕ × V)}
+    → inserted ≡ put nat_eq mode pairs k v → moved ≡ to_front nat_eq inserted k
+    → keys_of moved ≡ k ∷ filter (λ j. not (nat_eq k j)) (keys_of pairs)
+keys_of-put_to_front {V} mode pairs k v put_is moved_is = ap keys_of (moved_is ∙ ap (λ (ps : List (ℕ × V)). to_front nat_eq ps k) put_is
+    ∙ (to_front-put_number mode pairs k v).1) ∙ ap (λ (ks : List ℕ). k ∷ ks) (keys_of-without nat_eq pairs k)
 
 pub keys_of-without_number : {V : Type 0} (pairs : List (ℕ × V)) (k : ℕ)
     → (without nat_eq pairs k ≡ without nat_eq pairs k)
@@ -121,6 +129,16 @@ value_at-put_bytes pairs k v = let is = value_at-without_append nat_list_eq_equi
   λ q apart. is q v ∙ ap (λ b. cond b (Some v) (value_at bytes_eq pairs q)) apart,
 )
 
+-- a text finds what its bytes find in the view
+pub value_at-text_bytes : {V : Type 0} (pairs : List (String Global × V)) (text : List ℕ)
+    → value_at (λ (t : List ℕ) (key : String Global). bytes_eq t (string_bytes key)) pairs text
+    ≡ value_at bytes_eq (map (λ (pair : String Global × V). (string_bytes pair.0, pair.1)) pairs) text
+value_at-text_bytes pairs text = sym (value_at-by_bytes pairs text)
+
+pub values_of-text_bytes : {V : Type 0} (pairs : List (String Global × V))
+    → values_of (map (λ (pair : String Global × V). (string_bytes pair.0, pair.1)) pairs) ≡ values_of pairs
+values_of-text_bytes pairs = values_of-by_bytes pairs
+
 -- a new number at the back, for each number that is looked up
 pub value_at-append_number : {V : Type 0} (pairs : List (ℕ × V)) (k : ℕ) (v : V)
     → (pairs ++ (k, v) ∷ [] ≡ pairs ++ (k, v) ∷ [])
@@ -144,7 +162,7 @@ pub ruleset each_pair = (in-found_number, in-without_number, in-to_back_as_is_nu
 pub ruleset text_keys = (keys_of-without_text, keys_of-set_or_push_text)
 
 -- what bytes find after an insertion, in a view by the bytes of the keys
-pub ruleset byte_keys = (value_at-put_bytes)
+pub ruleset byte_keys = (value_at-put_bytes, value_at-text_bytes, values_of-text_bytes)
 
 -- the keys after an insertion in Touch, in words of the keys alone
 pub ruleset stored_keys = (keys_of-to_back, key_or-find)

@@ -2,12 +2,12 @@
 -- keys.
 use Rattle.std.proofs.Common.{◌≡◌, ℕ, ◌+◌, ◌<◌, length, take, get_or, unwrap_or, Bool, true, false, cond, List, [], ◌∷◌}
 use Rattle.std.proofs.Common.{◌++◌, map, drop, Option, Some, None}
-use Rattle.std.proofs.Common.{option_map, refl, sym, ap, ap₂, ◌∙◌, arith}
+use Rattle.std.proofs.Common.{refl, sym, ap, ap₂, ◌∙◌, arith}
 use Rattle.std.specs.Borrow.{Bor}
 use Rattle.std.specs.Cmp.{IsEquivalence}
 use Rattle.std.specs.Cmp.Lexicographic.{bytes_decides}
 use Rattle.std.specs.List.{count_by}
-use Rattle.std.specs.Map.{values_of}
+use Rattle.std.specs.Map.{values_of, AreApart}
 use Rattle.std.specs.Prelude.{String, string_eq}
 use Rattle.std.specs.Str.{bytes_eq}
 use Rattle.std.specs.String.{string_bytes, string_eq_equiv}
@@ -20,6 +20,7 @@ use Rattle.linked_hash_map.specs.Pairs.{key_or, find, value_at, without, to_back
 use Rattle.linked_hash_map.specs.Updates.{UpdatesBy}
 use Rattle.linked_hash_map.proofs.Callers.Keys.{find-drop}
 use Rattle.linked_hash_map.proofs.Callers.Lookups.{eq-stored}
+use Rattle.linked_hash_map.proofs.Callers.Updates.{lookup_entry-updated}
 
 -- two texts that are lent are the same
 abbrev pub same_text : Bor (List ℕ) → Bor (List ℕ) → Bool
@@ -46,34 +47,20 @@ module _ {Y V : Type 0} where
       → find string_eq pairs key ≡ find is_text pairs text
   find-is_text pairs text key bytes = ap (λ (t : List ℕ). find is_text pairs t) bytes
 
-  -- and its bytes are those of the text
-  pub is_text-find : (pairs : List (String Y × V)) (text : List ℕ) (pair : String Y × V)
-      → find is_text pairs text ≡ Some pair → is_text text pair.0 ≡ true
-  is_text-find [] text pair found = grind arith
-  is_text-find (first ∷ pairs) text pair found = grind (arith, is_text-find pairs text pair)
-
   -- what another text finds after a change by a text
   module _ (before after : List (String Y × V)) (text other : List ℕ) (value : Option V)
       (updates : UpdatesBy string_eq before after (is_text text) value) where
-    kept : bytes_eq text other ≡ false → (pair : String Y × V) → is_text other pair.0 ≡ true
-        → value_at is_text after other ≡ value_at is_text before other
-    kept apart pair found = let same = (bytes_decides other (string_bytes pair.0)).0 found in
-        ap (λ (t : List ℕ). value_at is_text after t) same
-        ∙ updates.others pair.0 (ap (bytes_eq text) (sym same) ∙ apart)
-        ∙ sym (ap (λ (t : List ℕ). value_at is_text before t) same)
+    are_apart : bytes_eq text other ≡ false → AreApart {K = String Y} (is_text text) (is_text other)
+    are_apart apart = λ key same. let laws = nat_list_eq_equiv in
+        laws.symm other (string_bytes key) ∙ sym (laws.congr text (string_bytes key) other same) ∙ apart
 
     pub value_at-updated : value_at is_text after other ≡ cond (bytes_eq text other) value (value_at is_text before other)
     value_at-updated = by_test (bytes_eq text other) refl
       where
-        by_pairs : bytes_eq text other ≡ false → (o q : Option (String Y × V)) → find is_text after other ≡ o
-            → find is_text before other ≡ q → value_at is_text after other ≡ value_at is_text before other
-        by_pairs apart (Some pair) q is was = kept apart pair (is_text-find after other pair is)
-        by_pairs apart None (Some pair) is was = kept apart pair (is_text-find before other pair was)
-        by_pairs apart None None is was = ap (option_map (λ (p : String Y × V). p.1)) (is ∙ sym was)
-
         by_test : (b : Bool) → bytes_eq text other ≡ b → value_at is_text after other ≡ cond b value (value_at is_text before other)
         by_test true same = ap (λ (t : List ℕ). value_at is_text after t) (sym ((bytes_decides text other).0 same)) ∙ updates.here
-        by_test false apart = by_pairs apart (find is_text after other) (find is_text before other) refl refl
+        by_test false apart = lookup_entry-updated before after (is_text text) (is_text other) value updates
+            (λ x y. nat_list_eq_equiv.congr other (string_bytes x) (string_bytes y)) (are_apart apart)
 
   -- lookups and calls, seen by the bytes of the keys
   pub values_of-by_bytes : (pairs : List (String Y × V)) → values_of (by_bytes pairs) ≡ values_of pairs

@@ -1,12 +1,13 @@
 -- For callers: what a call changes, at its key and at the others.
-use Rattle.std.proofs.Common.{◌≡◌, ℕ, ◌<◌, ◌≤◌, max, Bool, List, length, Option, Some, None, is_some, refl, sym, ap, ◌∙◌, arith}
+use Rattle.std.proofs.Common.{◌≡◌, ℕ, ◌<◌, ◌≤◌, max, Bool, true, false, true≢false, List, [], ◌∷◌, length, Option, Some, None, is_some}
+use Rattle.std.proofs.Common.{option_map, refl, sym, ap, ◌∙◌, arith}
 use Rattle.std.specs.Cmp.{IsEquivalence}
 use Rattle.std.specs.List.{IsDistinct}
-use Rattle.std.specs.Map.{keys_of}
+use Rattle.std.specs.Map.{keys_of, lookup_entry, IsKeyTest, AreApart}
 use Rattle.std.specs.Option.{IsSome}
 use Rattle.linked_hash_map.specs.declared.map.Mode.{Mode}
 use Rattle.linked_hash_map.specs.Pairs.{find, value_at, put, without, set_value, set_or_push}
-use Rattle.linked_hash_map.specs.Updates.{Updates}
+use Rattle.linked_hash_map.specs.Updates.{Updates, UpdatesBy}
 use Rattle.linked_hash_map.proofs.Callers.Lookups.{value_at-put_here, value_at-put_apart, value_at-without_here, value_at-without_apart}
 use Rattle.linked_hash_map.proofs.Callers.Lookups.{value_at-set_or_push_here, value_at-set_or_push_apart}
 use Rattle.linked_hash_map.proofs.Callers.Keys.{length-put_absent, length-put_present, set_or_push-present}
@@ -48,3 +49,38 @@ Updates-put {eq = eq} laws mode before after k v is = record {
   here = ap (λ pairs. value_at eq pairs k) is ∙ value_at-put_here laws mode before k v;
   others = λ q apart. ap (λ pairs. value_at eq pairs q) is ∙ value_at-put_apart laws mode before k q v apart;
 }
+
+-- what a lookup finds passes its test
+passes-lookup_entry : {K V : Type 0} (test : K → Bool) (pairs : List (K × V)) (pair : K × V)
+    → lookup_entry test pairs ≡ Some pair → test pair.0 ≡ true
+passes-lookup_entry test [] pair found = grind arith
+passes-lookup_entry test (first ∷ pairs) pair found = grind (arith, passes-lookup_entry test pairs pair)
+
+-- a lookup by a test of other keys finds what it found before
+module _ {K V : Type 0} {eq : K → K → Bool} (before after : List (K × V)) (is_key other : K → Bool) (value : Option V)
+    (updates : UpdatesBy eq before after is_key value) (one : IsKeyTest eq other) (apart : AreApart is_key other) where
+  abbrev found_by : (K → Bool) → List (K × V) → Option V
+  found_by test pairs = option_map (λ pair. pair.1) (lookup_entry test pairs)
+
+  fails-other : (k : K) → other k ≡ true → is_key k ≡ false
+  fails-other k passes = by_test (is_key k) refl
+    where
+      by_test : (b : Bool) → is_key k ≡ b → b ≡ false
+      by_test true same = absurd (true≢false (sym passes ∙ apart k same))
+      by_test false same = refl
+
+  of-passing : (pair : K × V) → other pair.0 ≡ true → found_by other after ≡ found_by other before
+  of-passing pair passes =
+      let same : other ≡ eq pair.0 = λ i y. one pair.0 y passes i in
+      ap (λ test. found_by test after) same ∙ updates.others pair.0 (fails-other pair.0 passes)
+      ∙ sym (ap (λ test. found_by test before) same)
+
+  pub lookup_entry-updated : option_map (λ pair. pair.1) (lookup_entry other after)
+      ≡ option_map (λ pair. pair.1) (lookup_entry other before)
+  lookup_entry-updated = by_pairs (lookup_entry other after) (lookup_entry other before) refl refl
+    where
+      by_pairs : (o q : Option (K × V)) → lookup_entry other after ≡ o → lookup_entry other before ≡ q
+          → found_by other after ≡ found_by other before
+      by_pairs (Some pair) q is was = of-passing pair (passes-lookup_entry other after pair is)
+      by_pairs None (Some pair) is was = of-passing pair (passes-lookup_entry other before pair was)
+      by_pairs None None is was = ap (option_map (λ (pair : K × V). pair.1)) (is ∙ sym was)

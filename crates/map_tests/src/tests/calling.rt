@@ -1,4 +1,4 @@
-//! The example of docs/CALLING.md.
+//! The example of docs/PROVING.md.
 ghost use Rattle.std.specs.Prelude.{◌≡◌, ◌∷◌, [], IfOk};
 
 use super::assert_pairs;

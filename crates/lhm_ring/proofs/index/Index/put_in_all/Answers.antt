@@ -40,6 +40,6 @@ loop-pointer-preserved g c =
           (pointer_of_some c.next-pointer.result)
           (length-rehashing i.rehashing p at
           c.requires.some) c.put_in_by_hash.ensures.first c.next-pointer.ensures.next;
-      spares = c.put_in_by_hash.ensures.spares ∙ i.spares;
-      nodes = c.put_in_by_hash.ensures.nodes ∙ i.nodes;
+      spares = c.put_in_by_hash.ensures.links.spares ∙ i.spares;
+      nodes = c.put_in_by_hash.ensures.links.nodes ∙ i.nodes;
     }

@@ -13,4 +13,4 @@ pub returns-clause-found : goal.returns-clause-found
 returns-clause-found g c =
     let h = rw c.in_ok-found.was at c.search-found.ensures.found in
     HasKey-kept c.args.ring.now.held c.unchain.new.ring.held (pointer_of c.in_ok-found.found.at)
-    c.unchain.ensures.held (g.Q.Equivalent.equivalent c.args.key) c.args.hash h.has
+    c.unchain.ensures.links.held (g.Q.Equivalent.equivalent c.args.key) c.args.hash h.has

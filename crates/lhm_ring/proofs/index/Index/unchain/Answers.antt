@@ -13,14 +13,17 @@ links-requires g c = IsHeld-on_chain c.requires.on_chain
 pub set_link-requires : goal.set_link-requires
 set_link-requires g c = IsHeld-before c.requires.on_chain (ap pointer_of_some c.in-Some.is)
 
-pub returns-in-Some-clause-held : goal.returns-in-Some-clause-held
-returns-in-Some-clause-held g c =
-    entries-linked_to c.args.ring.now.held c.set_link.new.self.held (pointer_of c.in-Some.before) (target c.links.result.now.link)
-    (IsHeld-before c.requires.on_chain (ap pointer_of_some c.in-Some.is)) c.set_link.ensures.held
+pub returns-in-Some-clause-links : goal.returns-in-Some-clause-links
+returns-in-Some-clause-links g c = record {
+  held = entries-linked_to c.args.ring.now.held c.set_link.new.self.held (pointer_of c.in-Some.before) (target c.links.result.now.link)
+      (IsHeld-before c.requires.on_chain (ap pointer_of_some c.in-Some.is)) c.set_link.ensures.held;
+  spares = c.set_link.ensures.spares;
+  nodes = c.set_link.ensures.nodes;
+}
 
 pub returns-in-Some-clause-lacks : goal.returns-in-Some-clause-lacks
 returns-in-Some-clause-lacks g c =
-    HoldsOthers-next c.args.ring.now.held c.args.self.now c.requires.indexed (returns-in-Some-clause-held g c)
+    HoldsOthers-next c.args.ring.now.held c.args.self.now c.requires.indexed (returns-in-Some-clause-links g c).held
     (HasOtherChains-take_next c.requires.on_chain (ap pointer_of_some c.in-Some.is)
     c.requires.indexed.chains c.links.ensures.link c.set_link.ensures.held)
 

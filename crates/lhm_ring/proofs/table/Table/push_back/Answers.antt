@@ -38,12 +38,12 @@ invariant_of-self g c =
     let put = c.put_in_by_hash.ensures in
     let back = c.put_back-at.ensures in
     let t = held (pointer_of c.put_back-at.result) c.args.hash None (pair c.args.key c.args.value) in
-    let long = length-same_entries new.held c.put_back-at.new.self.held put.held in
+    let long = length-same_entries new.held c.put_back-at.new.self.held put.links.held in
     let last = ap length back.last in
     let one_more = length-append old.held (t ∷ []) in
     let some = spares-table old c.self.inside.rechained c.self.view_is c.requires in
     let sum : length new.held + new.spares ≡ length old.held + old.spares =
-    omega (arith, some, long, last, one_more, put.spares, back.spares) in
+    omega (arith, some, long, last, one_more, put.links.spares, back.spares) in
     record {
       indexed = record {
         indexes = put.indexed (HoldsOthers-last _ _ back.last table.indexed.indexes);
@@ -51,5 +51,5 @@ invariant_of-self g c =
       };
       few = omega (arith, table.few, put.buckets);
       limit = omega (arith, sum, table.limit);
-      nodes_within = omega (arith, table.nodes_within, put.nodes, back.nodes, put.buckets);
+      nodes_within = omega (arith, table.nodes_within, put.links.nodes, back.nodes, put.buckets);
     }

@@ -2,11 +2,10 @@ use Rattle.std.proofs.Common.{◌≡◌, ◌+◌, ◌<◌, ◌∙◌, length, ap
 use Rattle.std.specs.Prelude.{max}
 use Rattle.std.specs.Int.{IsPowerOfTwo}
 use Rattle.lhm_ring.proofs.indexes.BucketCounts.{buckets-at_least, IsNextPowerOfTwo-buckets}
-use Rattle.lhm_ring.proofs.tables.Tables.{length-capacity, IsTable-rechained, rechained-fits}
+use Rattle.lhm_ring.proofs.tables.Tables.{length-capacity, IsTable-raised}
 use Rattle.lhm_ring.proofs.table.Table.raise_within_room.Goals as goal
 use Rattle.lhm_ring.specs.Buckets.{buckets}
 use Rattle.lhm_ring.specs.Links.{nodes_grown, least_more}
-use Rattle.lhm_ring.specs.Index.{entries}
 
 pub spread-requires-clause-buckets : goal.spread-requires-clause-buckets
 spread-requires-clause-buckets g c =
@@ -24,24 +23,13 @@ spread-requires-clause-power g c =
 
 pub invariant_of-self-2 : goal.invariant_of-self-2
 invariant_of-self-2 g c =
-    let i = c.self.inside in
-    let spread = c.spread.ensures in
     let grown = c.in_ok-grow_within.ensures in
-    let all = length-capacity i.ring i.rechained c.self.view_is in
-    let enough = buckets-at_least c.args.capacity in
-    let up : length i.ring.held + i.ring.spares < c.args.capacity = omega (arith, all, c.requires.higher) in
-    let few : length i.index.heads < c.args.capacity = omega (arith, c.requires.more, ap buckets all, c.self.invariant.indexed.count) in
-    let sum : length i.ring.held + c.spread.new.ring.spares ≡ c.args.capacity =
-    omega (arith, all, c.requires.higher, c.requires.sum, grown.spares, spread.spares) in
-    let wide : length c.spread.new.self.heads ≡ buckets c.args.capacity = spread.buckets ∙ c.requires.count in
-    let count : c.spread.result ≡ length i.ring.held = spread.count ∙ ap length grown.held in
-    let most : c.max.result ≡ max 2 (buckets c.args.capacity) = omega (arith, c.max.ensures, c.requires.count) in
-    let made = grown.nodes_within (omega (arith, c.self.invariant.nodes_within, few, most, enough))
-    (omega (arith, all, c.requires.higher, c.requires.sum, most, enough)) in
-    let fits = rechained-fits c.self.invariant c.args.capacity up few in
-    IsTable-rechained c.self.invariant {t = c.spread.new.ring} (spread.held ∙ ap entries grown.held)
-    (omega (arith, sum, c.requires.limit)) spread.indexed
-    (wide ∙ ap buckets (sym sum)) (omega (arith, fits, count, wide)) (omega (arith, made, most, wide, spread.nodes, enough, up))
+    let spread = c.spread.ensures in
+    let all = length-capacity c.self.inside.ring c.self.inside.rechained c.self.view_is in
+    IsTable-raised c.self.invariant c.args.capacity (omega (arith, all, c.requires.higher))
+    (omega (arith, c.requires.more, ap buckets all, c.self.invariant.indexed.count))
+    c.args.additional grown.held grown.spares grown.nodes_within spread.links spread.indexed (spread.buckets ∙ c.requires.count)
+    (omega (arith, all, c.requires.sum)) c.requires.limit (omega (arith, c.max.ensures, c.requires.count)) spread.count
 
 pub returns-clause-made : goal.returns-clause-made
 returns-clause-made g c =
@@ -50,6 +38,6 @@ returns-clause-made g c =
     let needed : length i.ring.held + i.ring.spares + c.args.additional ≡ c.args.capacity = omega (arith, all, c.requires.sum) in
     let most : c.max.result ≡ max 2 (buckets c.args.capacity) = omega (arith, c.max.ensures, c.requires.count) in
     rw (← c.self.view_is) (
-    c.spread.ensures.nodes ∙ c.in_ok-grow_within.ensures.nodes
+    c.spread.ensures.links.nodes ∙ c.in_ok-grow_within.ensures.nodes
     ∙ (λ j. nodes_grown i.ring.nodes (needed j) (least_more c.args.additional i.ring.nodes (most j)))
     )
