@@ -18,4 +18,5 @@ pub(crate) mod resize;
 pub(crate) mod retain;
 pub mod ring;
 pub(crate) mod search;
+pub(crate) mod sort;
 pub mod table;
