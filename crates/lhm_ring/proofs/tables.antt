@@ -1,6 +1,10 @@
+pub mod Calls
 pub mod IndexedRing
+pub mod MergedRuns
+pub mod Merging
 pub mod Positions
 pub mod Retained
 pub mod Rotated
+pub mod SortedRuns
 pub mod TableValues
 pub mod Tables

@@ -10,6 +10,7 @@ pub mod Positions
 pub mod Ring
 pub mod RingAfterLoan
 pub mod Search
+pub mod Sort
 pub mod Table
 pub mod TableAfterLoan
 pub mod ValueLoan

@@ -19,4 +19,5 @@ pub(crate) mod resize;
 pub(crate) mod retain;
 pub mod ring;
 pub(crate) mod search;
+pub(crate) mod sort;
 pub mod table;
