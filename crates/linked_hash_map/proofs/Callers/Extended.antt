@@ -141,14 +141,12 @@ pub record Merges {K V : Type 0} (eq : K → K → Bool) (mode : Mode) (old all 
       → new ≡ filter (λ pair. not (is_some (find eq all pair.0))) old
       ++ map (λ pair. (key_or pair.0 (find eq old pair.0), pair.1)) all
 
-pub Merges-InsertsAll : {T K V : Type 0} {becomes : T → List (K × V) → Type 0} {source : T}
-    {eq : K → K → Bool} → IsEquivalence eq
-    → {mode : Mode} {old new : List (K × V)} (all : List (K × V))
-    → InsertsAll becomes (TakesFirst (λ (pair : K × V). pair)) source eq (λ pair. pair) mode old new
-    → ((it : List (K × V)) → becomes source it → (it ≡ all) × IsDistinct eq (keys_of all)) → Merges eq mode old all new
-Merges-InsertsAll {eq = eq} laws {mode} {old} all inserts is =
-    let went = pairs-InsertsAll_list all inserts (λ it made. (is it made).0) in
-    let distinct = (is inserts.gives.iterator inserts.gives.made).1 in record {
+-- as after `append`, of the pairs of another map
+pub Merges-insert_each : {K V : Type 0} {eq : K → K → Bool} → IsEquivalence eq
+    → {mode : Mode} {old new : List (K × V)} (all : List (K × V)) → IsDistinct eq (keys_of all)
+    → new ≡ insert_each eq mode old all → Merges eq mode old all new
+Merges-insert_each {eq = eq} laws {mode} {old} all distinct went =
+    record {
       pairs = went;
       values = λ q. ap (λ ps. value_at eq ps q) went ∙ value_at-insert_each_distinct laws mode old all q distinct;
       keep = λ keep. ap keys_of went ∙ ap (λ m. keys_of (insert_each eq m old all)) keep ∙ keys_of-insert_each_keep laws old all distinct;
@@ -157,6 +155,15 @@ Merges-InsertsAll {eq = eq} laws {mode} {old} all inserts is =
       keep_pairs = λ keep. went ∙ ap (λ m. insert_each eq m old all) keep ∙ insert_each-keep laws old all distinct;
       touch_pairs = λ touch. went ∙ ap (λ m. insert_each eq m old all) touch ∙ insert_each-touch laws old all distinct;
     }
+
+pub Merges-InsertsAll : {T K V : Type 0} {becomes : T → List (K × V) → Type 0} {source : T}
+    {eq : K → K → Bool} → IsEquivalence eq
+    → {mode : Mode} {old new : List (K × V)} (all : List (K × V))
+    → InsertsAll becomes (TakesFirst (λ (pair : K × V). pair)) source eq (λ pair. pair) mode old new
+    → ((it : List (K × V)) → becomes source it → (it ≡ all) × IsDistinct eq (keys_of all)) → Merges eq mode old all new
+Merges-InsertsAll laws all inserts is =
+    Merges-insert_each laws all (is inserts.gives.iterator inserts.gives.made).1
+    (pairs-InsertsAll_list all inserts (λ it made. (is it made).0))
 
 -- what a vector becomes gives its items, and has as many left
 module _ {T Z K V : Type 0} (becomes : T → _ → Type 0) (vec : Vec (K × V) Z) (source : T)
