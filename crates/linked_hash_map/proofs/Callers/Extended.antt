@@ -2,7 +2,7 @@
 -- gives are known. Each lemma takes the clause of the call, and a chain proof, `YieldsList`, that
 -- what the source becomes gives the list.
 use Rattle.std.proofs.Common.{◌≡◌, ℕ, ◌+◌, ◌-◌, ◌≤◌, max, Bool, not, List, [], ◌++◌, length, map, take, filter, slice_get, Option, Some}
-use Rattle.std.proofs.Common.{None, is_some, unwrap_or, Vec, vec_items, vec_len, refl, sym, ap, ◌∙◌, arith}
+use Rattle.std.proofs.Common.{None, is_some, unwrap_or, Vec, vec_items, vec_len, refl, sym, ap, subst, ◌∙◌, arith}
 use Rattle.std.specs.List.{IsDistinct}
 use Rattle.std.specs.Map.{keys_of}
 use Rattle.std.specs.Option.{option_or}
@@ -11,12 +11,14 @@ use Rattle.std.specs.Cmp.{IsEquivalence}
 use Rattle.std.specs.Iterator.{Count, at_most}
 use Rattle.std.specs.Vec.Iter.{into_iter_items, into_iter_len, into_iter_steps}
 use Rattle.std.proofs.lemmas.Iterator.{YieldsList}
-use Rattle.std.proofs.lemmas.Iterator.Consumers.{YieldsList-end, YieldsList-so_far, YieldsList-from_rest, nth_from_yields_List}
+use Rattle.std.proofs.lemmas.Iterator.Consumers.{YieldsList-end, YieldsList-so_far, YieldsList-from_rest, YieldsList-from_shown, nth_from_yields_List}
 use Rattle.std.proofs.lemmas.Iterator.Adapters.{YieldsList-from_vec}
 use Rattle.std.proofs.lemmas.List.{map-id}
 use Rattle.linked_hash_map.specs.Counts.{rechained_each}
 use Rattle.linked_hash_map.specs.declared.map.Mode.{Mode}
 use Rattle.linked_hash_map.specs.declared.map.Mode.TheVariants.{Touch, Keep}
+use Rattle.linked_hash_map.specs.declared.drain.Drain.{Drain}
+use Rattle.linked_hash_map.specs.Drains.{drain_rest, DrainSteps}
 use Rattle.linked_hash_map.specs.Pairs.{key_or, find, value_at}
 use Rattle.linked_hash_map.specs.Inserts.{insert_each, GivesAtMost, InsertsAll, InsertsUntil, Collects}
 use Rattle.linked_hash_map.proofs.Callers.Keys.{distinct-nil}
@@ -123,7 +125,21 @@ pub pairs-InsertsAll_list : {T X K V : Type 0} {becomes : T → List (K × V) �
     → ((it : List (K × V)) → becomes source it → it ≡ all) → new ≡ insert_each eq mode old all
 pairs-InsertsAll_list all inserts is = pairs-InsertsAll inserts (λ it made. YieldsList-from_rest all (is it made))
 
--- and if the keys of that list differ, as those of a map do: its values win, in Keep the old keys
+-- what becomes a `Drain` gives the pairs that are left in it
+pub yields-drain : {T K V : Type 0} {becomes : T → Drain K V → Type 0} {source : T}
+    (all : List (K × V)) → ((it : Drain K V) → becomes source it → drain_rest it ≡ all)
+    → (it : Drain K V) → becomes source it → YieldsList DrainSteps (λ pair. pair) it all
+yields-drain all is it made = subst (YieldsList DrainSteps (λ pair. pair) it) (is it made)
+    (YieldsList-from_shown DrainSteps (λ pair. pair) drain_rest (λ s t ends. ap length ends.0.0) (λ s x t goes. goes.0) it)
+
+-- `extend` of a map that is drained
+pub pairs-InsertsAll_drain : {T K V : Type 0} {becomes : T → Drain K V → Type 0} {source : T}
+    {eq : K → K → Bool} {mode : Mode} {old new : List (K × V)} (all : List (K × V))
+    → InsertsAll becomes DrainSteps source eq (λ pair. pair) mode old new
+    → ((it : Drain K V) → becomes source it → drain_rest it ≡ all) → new ≡ insert_each eq mode old all
+pairs-InsertsAll_drain all inserts is = pairs-InsertsAll inserts (yields-drain all is)
+
+-- if the keys of a list differ, as those of a map do: its values win, in Keep the old keys
 -- stand before the new, and in Touch before those that came
 pub record Merges {K V : Type 0} (eq : K → K → Bool) (mode : Mode) (old all new : List (K × V)) :
     Type 0 where

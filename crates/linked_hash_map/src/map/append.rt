@@ -81,7 +81,6 @@ impl<K: Eq + Hash, V, S: BuildHasher> LinkedHashMap<K, V, S> {
     fn count_absent<S2: BuildHasher>(&self, other: &LinkedHashMap<K, V, S2>) -> usize
         ensures count { result ≡ count_by (λ key. not (is_some (find K.eq self.now.pairs key)))
             (keys_of other.now.pairs) }
-        ensures valid { IsValid K.eq self.now }
         ensures other_valid { IsValid K.eq other.now }
     {
         let mut absent = 0;
