@@ -5,7 +5,7 @@ use Rattle.std.specs.Cmp.{IsEquivalence}
 use Rattle.std.specs.List.{IsDistinct, AllByRecursion}
 use Rattle.std.specs.Map.{keys_of}
 use Rattle.std.proofs.lemmas.Map.Keys.{IsDistinct-head, IsDistinct-tail}
-use Rattle.lhm_ring.proofs.lists.Options.{Some-injective}
+use Rattle.lhm_ring.proofs.lists.Options.{Some-injective, none_some}
 use Rattle.lhm_ring.proofs.lists.RearrangedCounts.{count_by-cons}
 use Rattle.linked_hash_map.specs.declared.map.Mode.{Mode}
 use Rattle.linked_hash_map.specs.Pairs.{key_or, find, put}
@@ -66,7 +66,8 @@ module _ {K V : Type 0} {eq : K → K → Bool} (laws : IsEquivalence eq) (mode 
       → IsDistinct eq (keys_of pairs) → slice_get items n ≡ Some (k, v)
       → find eq (insert_each eq mode pairs (take n items)) k ≡ None
       → length (insert_each eq mode pairs (take n items)) + 1 ≤ length (insert_each eq mode pairs items)
-  length-insert_each_next pairs [] k v n distinct there absent = absurd (None-not_Some there)
+  length-insert_each_next pairs [] k v zero distinct there absent = absurd (none_some (k, v) there)
+  length-insert_each_next pairs [] k v (suc n) distinct there absent = absurd (none_some (k, v) there)
   length-insert_each_next pairs (item ∷ items) k v zero distinct there absent =
       let is : item ≡ (k, v) = Some-injective _ _ there in
       let one = length-put laws mode pairs k v distinct ∙ ap (λ o. cond (is_some o) (length pairs) (length pairs + 1)) absent in

@@ -125,11 +125,10 @@ pub pairs-InsertsAll_list : {T X K V : Type 0} {becomes : T → List (K × V) �
     → ((it : List (K × V)) → becomes source it → it ≡ all) → new ≡ insert_each eq mode old all
 pairs-InsertsAll_list all inserts is = pairs-InsertsAll inserts (λ it made. YieldsList-from_rest all (is it made))
 
--- what becomes a `Drain` gives the pairs that are left in it
-pub yields-drain : {T K V : Type 0} {becomes : T → Drain K V → Type 0} {source : T}
-    (all : List (K × V)) → ((it : Drain K V) → becomes source it → drain_rest it ≡ all)
-    → (it : Drain K V) → becomes source it → YieldsList DrainSteps (λ pair. pair) it all
-yields-drain all is it made = subst (YieldsList DrainSteps (λ pair. pair) it) (is it made)
+-- a `Drain` gives the pairs that are left in it
+pub YieldsList-from_drain : {K V : Type 0} (it : Drain K V) (all : List (K × V)) → drain_rest it ≡ all
+    → YieldsList DrainSteps (λ pair. pair) it all
+YieldsList-from_drain it all left = subst (YieldsList DrainSteps (λ pair. pair) it) left
     (YieldsList-from_shown DrainSteps (λ pair. pair) drain_rest (λ s t ends. ap length ends.0.0) (λ s x t goes. goes.0) it)
 
 -- `extend` of a map that is drained
@@ -137,7 +136,8 @@ pub pairs-InsertsAll_drain : {T K V : Type 0} {becomes : T → Drain K V → Typ
     {eq : K → K → Bool} {mode : Mode} {old new : List (K × V)} (all : List (K × V))
     → InsertsAll becomes DrainSteps source eq (λ pair. pair) mode old new
     → ((it : Drain K V) → becomes source it → drain_rest it ≡ all) → new ≡ insert_each eq mode old all
-pairs-InsertsAll_drain all inserts is = pairs-InsertsAll inserts (yields-drain all is)
+pairs-InsertsAll_drain all inserts left =
+    pairs-InsertsAll inserts (λ it made. YieldsList-from_drain it all (left it made))
 
 -- if the keys of a list differ, as those of a map do: its values win, in Keep the old keys
 -- stand before the new, and in Touch before those that came
