@@ -13,16 +13,17 @@ use crate::error::ReserveError;
 use std::hash::{BuildHasher, Hash};
 
 impl<K: Eq + Hash, V, S: BuildHasher> LinkedHashMap<K, V, S> {
-    /// Moves all pairs of another map into this one, in their order, each as
-    /// [`insert`](LinkedHashMap::insert) does. The other map is then empty and keeps its capacity.
-    /// A visit of either map ends.
+    /// Moves all pairs of another map to the back, in their order, each as
+    /// [`insert`](LinkedHashMap::insert) does: for a present key the stored key stays, and the other
+    /// key and the old value are dropped. The other map is then empty and keeps its capacity. A
+    /// visit of either map ends.
     ///
-    /// It first raises the capacity once, to exactly the new number of pairs, if it is below that.
-    /// It returns `TooLarge` exactly if that number is above [`LIMIT`], and `NoRoom` if an
-    /// allocation fails; then neither map changes. If the capacity suffices, it does not allocate.
+    /// It first raises the capacity to exactly the new number of pairs, if it is below that, and
+    /// returns `TooLarge` exactly if that number is above [`LIMIT`], or `NoRoom` if an allocation
+    /// fails. Then neither map changes. If the capacity suffices, it allocates nothing.
     ///
-    /// It hashes each key of the other map twice, by the hasher of this one. It is O(m + c), with m
-    /// the pairs and c the capacity of the other map, or O(n + m + c) if it allocates.
+    /// It hashes each key of the other map twice, by the hasher of this one. It is O(capacity), that
+    /// of the other map, and also that of this map if it allocates.
     ///
     /// # Examples
     ///

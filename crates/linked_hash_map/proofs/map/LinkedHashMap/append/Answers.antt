@@ -45,7 +45,7 @@ unreachable-requires g c =
     c.reserve.ensures.valid.distinct counted.other_valid.distinct in
     let made = c.in_ok-reserve.ensures in let room = c.reserve.new.self in
     let same : length (insert_each g.K.PartialEq.eq room.mode room.pairs all)
-        ≡ length (insert_each g.K.PartialEq.eq c.args.self.now.mode c.args.self.now.pairs all) =
+    ≡ length (insert_each g.K.PartialEq.eq c.args.self.now.mode c.args.self.now.pairs all) =
     λ i. length (insert_each g.K.PartialEq.eq (made.settings.mode i) (made.pairs i) all) in
     let refused = c.in-Err.ensures in let key = c.in-Err.field-0.key in
     let until = pairs-InsertsUntil refused.stopped
@@ -67,8 +67,16 @@ returns-clause-capacity g c =
     let counted = c.count_absent-absent.ensures in
     let longer = length-insert_each_distinct g.met.K.Eq.laws c.args.self.now.mode _ _
     c.reserve.ensures.valid.distinct counted.other_valid.distinct in
-    omega (arith, longer, counted.count, ap length (returns-clause-pairs g c), ap (λ m. m.capacity) c.self.view_is,
-    ap (λ m. length m.pairs) c.self.view_is, c.in-Ok.ensures.capacity, c.in_ok-reserve.ensures.capacity)
+    omega (
+      arith,
+      longer,
+      counted.count,
+      ap length (returns-clause-pairs g c),
+      ap (λ m. m.capacity) c.self.view_is,
+      ap (λ m. length m.pairs) c.self.view_is,
+      c.in-Ok.ensures.capacity,
+      c.in_ok-reserve.ensures.capacity,
+    )
 
 pub returns-clause-rechained : goal.returns-clause-rechained
 returns-clause-rechained g c =
@@ -77,8 +85,15 @@ returns-clause-rechained g c =
     c.reserve.ensures.valid.distinct counted.other_valid.distinct in
     let made = c.in_ok-reserve.ensures in let room = c.reserve.new.self in
     let fits : c.extend.new.self.capacity ≡ room.capacity =
-    omega (arith, longer, counted.count, ap length (returns-clause-pairs g c),
-    ap (λ m. length m.pairs) c.self.view_is, c.in-Ok.ensures.capacity, made.capacity) in
+    omega (
+      arith,
+      longer,
+      counted.count,
+      ap length (returns-clause-pairs g c),
+      ap (λ m. length m.pairs) c.self.view_is,
+      c.in-Ok.ensures.capacity,
+      made.capacity,
+    ) in
     let none : c.extend.new.self.capacity - room.capacity ≡ 0 = omega (arith, fits) in
     ap (λ m. m.rechained) c.self.view_is ∙ c.in-Ok.ensures.rechained
     ∙ ap (rechained_each room.rechained room.capacity) none ∙ made.rechained
