@@ -124,6 +124,7 @@ RARE_OWN_MAP_CALLS = (
     ("into_keys", 2, "steps forget"),
     ("into_values", 2, "steps forget"),
     ("from_iter_unhinted", 2, "pairs"),
+    ("append", 2, ""),
     ("emptied", 2, ""),
     ("made_with", 1, ""),
 )

@@ -121,6 +121,17 @@ class Linked:
                 effects.drop_value(old)
         return None
 
+    def append(self, other, effects):
+        """Moves all pairs of another map into this one. Looks each key up twice, first to count
+        those that are absent, for which it makes room at once. Returns `None` or the error."""
+        pairs = other.pairs.values()
+        absent = sum(self.find(pair.key, effects) is None for pair in pairs)
+        error = self.reserve(absent, effects)
+        if error is None:
+            self.extend([(pair.key, pair.value) for pair in other.take_all()], effects)
+            self.end_visit()
+        return error
+
     # Calls by a present key.
 
     def find_and_move(self, key, effects, last=True):

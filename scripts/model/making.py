@@ -101,6 +101,11 @@ def extend_drain(call, map_):
         entries.show_refused(call, refused)
 
 
+def append(call, map_):
+    """Moves all pairs of the other map into this one, or none if it is refused."""
+    show_error(call, map_.append(call.other, call.effects))
+
+
 def swap(call, map_):
     other = call.other
     for name in Linked.__slots__:
@@ -115,7 +120,7 @@ MAKING = {
     "from_iter": from_iter, "extend": extend, "extend_refs": extend_refs,
     "extend_drain": extend_drain, "clone": clone, "swap": swap, "extend_trait": extend_trait,
     "from_iter_unhinted": from_iter_unhinted, "from_iter_too_large": from_iter_too_large,
-    "collect": collect, "emptied": emptied, "made_with": default,
+    "collect": collect, "append": append, "emptied": emptied, "made_with": default,
 }
 
 

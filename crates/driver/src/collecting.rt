@@ -83,6 +83,7 @@ pub fn run<'a>(
         "extend_trait" => extend_trait(line, map, output),
         "extend_refs" => extend_by_copies(map, other, output),
         "extend_drain" => output.show_refusal(map.extend(other.drain())),
+        "append" => output.show_refusal(map.append(other)),
         _ => {
             if !run_to_make(alloc, name, line, map, output) {
                 return false;

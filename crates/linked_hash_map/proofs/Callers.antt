@@ -1,6 +1,7 @@
 -- Lemmas for callers of the library, one file a subject. They speak only of the words of the
 -- contracts, and never of how a map is kept. What a lemma takes of these stands in this order: laws
 -- of `eq` or functions as `eq`, mode, lists or maps, keys, values, numbers, premises.
+pub mod Appended
 pub mod Beside
 pub mod Collected
 pub mod Counted

@@ -33,8 +33,9 @@
 //!
 //! - Create: `new`, `with_capacity`, `with_hasher`, `from_iter`, `.collect(alloc)`, `clone`.
 //! - Insert: `insert`, `insert_front`, `extend`, `extend_refs`, or by an [`Entry`];
-//!   `insert_within_capacity` if there is room; after `set_mode(Mode::Keep)` a present key keeps
-//!   its place. `replace_key` stores a key in place of one that is the same.
+//!   `insert_within_capacity` if there is room; `append` moves all pairs of another map. After
+//!   `set_mode(Mode::Keep)` a present key keeps its place. `replace_key` stores a key in place of
+//!   one that is the same.
 //! - Look up: `get`, `get_key_value`, `get_mut`, `contains_key`, `map[&key]`, `front`, `back`,
 //!   `front_mut`, `back_mut`, or `get_refresh`, which moves the pair to the back. [`Equivalent`] has
 //!   what a lookup takes: a reference to a key, or `&str` for a `String`.

@@ -4,6 +4,7 @@
 ghost use Rattle.std.specs.Prelude.{◌≡◌, ◌==◌, ◌≤◌, [], length};
 ghost use Rattle.linked_hash_map.specs.Validity.{IsValid};
 
+mod append;
 mod beside;
 mod capacity;
 mod create;

@@ -2,7 +2,7 @@
 -- gives are known. Each lemma takes the clause of the call, and a chain proof, `YieldsList`, that
 -- what the source becomes gives the list.
 use Rattle.std.proofs.Common.{◌≡◌, ℕ, ◌+◌, ◌-◌, ◌≤◌, max, Bool, not, List, [], ◌++◌, length, map, take, filter, slice_get, Option, Some}
-use Rattle.std.proofs.Common.{None, is_some, unwrap_or, Vec, vec_items, vec_len, refl, sym, ap, ◌∙◌, arith}
+use Rattle.std.proofs.Common.{None, is_some, unwrap_or, Vec, vec_items, vec_len, refl, sym, ap, subst, ◌∙◌, arith}
 use Rattle.std.specs.List.{IsDistinct}
 use Rattle.std.specs.Map.{keys_of}
 use Rattle.std.specs.Option.{option_or}
@@ -11,12 +11,14 @@ use Rattle.std.specs.Cmp.{IsEquivalence}
 use Rattle.std.specs.Iterator.{Count, at_most}
 use Rattle.std.specs.Vec.Iter.{into_iter_items, into_iter_len, into_iter_steps}
 use Rattle.std.proofs.lemmas.Iterator.{YieldsList}
-use Rattle.std.proofs.lemmas.Iterator.Consumers.{YieldsList-end, YieldsList-so_far, YieldsList-from_rest, nth_from_yields_List}
+use Rattle.std.proofs.lemmas.Iterator.Consumers.{YieldsList-end, YieldsList-so_far, YieldsList-from_rest, YieldsList-from_shown, nth_from_yields_List}
 use Rattle.std.proofs.lemmas.Iterator.Adapters.{YieldsList-from_vec}
 use Rattle.std.proofs.lemmas.List.{map-id}
 use Rattle.linked_hash_map.specs.Counts.{rechained_each}
 use Rattle.linked_hash_map.specs.declared.map.Mode.{Mode}
 use Rattle.linked_hash_map.specs.declared.map.Mode.TheVariants.{Touch, Keep}
+use Rattle.linked_hash_map.specs.declared.drain.Drain.{Drain}
+use Rattle.linked_hash_map.specs.Drains.{drain_rest, DrainSteps}
 use Rattle.linked_hash_map.specs.Pairs.{key_or, find, value_at}
 use Rattle.linked_hash_map.specs.Inserts.{insert_each, GivesAtMost, InsertsAll, InsertsUntil, Collects}
 use Rattle.linked_hash_map.proofs.Callers.Keys.{distinct-nil}
@@ -123,7 +125,21 @@ pub pairs-InsertsAll_list : {T X K V : Type 0} {becomes : T → List (K × V) �
     → ((it : List (K × V)) → becomes source it → it ≡ all) → new ≡ insert_each eq mode old all
 pairs-InsertsAll_list all inserts is = pairs-InsertsAll inserts (λ it made. YieldsList-from_rest all (is it made))
 
--- and if the keys of that list differ, as those of a map do: its values win, in Keep the old keys
+-- a `Drain` gives the pairs that are left in it
+pub YieldsList-from_drain : {K V : Type 0} (it : Drain K V) (all : List (K × V)) → drain_rest it ≡ all
+    → YieldsList DrainSteps (λ pair. pair) it all
+YieldsList-from_drain it all left = subst (YieldsList DrainSteps (λ pair. pair) it) left
+    (YieldsList-from_shown DrainSteps (λ pair. pair) drain_rest (λ s t ends. ap length ends.0.0) (λ s x t goes. goes.0) it)
+
+-- `extend` of a map that is drained
+pub pairs-InsertsAll_drain : {T K V : Type 0} {becomes : T → Drain K V → Type 0} {source : T}
+    {eq : K → K → Bool} {mode : Mode} {old new : List (K × V)} (all : List (K × V))
+    → InsertsAll becomes DrainSteps source eq (λ pair. pair) mode old new
+    → ((it : Drain K V) → becomes source it → drain_rest it ≡ all) → new ≡ insert_each eq mode old all
+pairs-InsertsAll_drain all inserts left =
+    pairs-InsertsAll inserts (λ it made. YieldsList-from_drain it all (left it made))
+
+-- if the keys of a list differ, as those of a map do: its values win, in Keep the old keys
 -- stand before the new, and in Touch before those that came
 pub record Merges {K V : Type 0} (eq : K → K → Bool) (mode : Mode) (old all new : List (K × V)) :
     Type 0 where
@@ -141,14 +157,12 @@ pub record Merges {K V : Type 0} (eq : K → K → Bool) (mode : Mode) (old all 
       → new ≡ filter (λ pair. not (is_some (find eq all pair.0))) old
       ++ map (λ pair. (key_or pair.0 (find eq old pair.0), pair.1)) all
 
-pub Merges-InsertsAll : {T K V : Type 0} {becomes : T → List (K × V) → Type 0} {source : T}
-    {eq : K → K → Bool} → IsEquivalence eq
-    → {mode : Mode} {old new : List (K × V)} (all : List (K × V))
-    → InsertsAll becomes (TakesFirst (λ (pair : K × V). pair)) source eq (λ pair. pair) mode old new
-    → ((it : List (K × V)) → becomes source it → (it ≡ all) × IsDistinct eq (keys_of all)) → Merges eq mode old all new
-Merges-InsertsAll {eq = eq} laws {mode} {old} all inserts is =
-    let went = pairs-InsertsAll_list all inserts (λ it made. (is it made).0) in
-    let distinct = (is inserts.gives.iterator inserts.gives.made).1 in record {
+-- as after `append`, of the pairs of another map
+pub Merges-insert_each : {K V : Type 0} {eq : K → K → Bool} → IsEquivalence eq
+    → {mode : Mode} {old new : List (K × V)} (all : List (K × V)) → IsDistinct eq (keys_of all)
+    → new ≡ insert_each eq mode old all → Merges eq mode old all new
+Merges-insert_each {eq = eq} laws {mode} {old} all distinct went =
+    record {
       pairs = went;
       values = λ q. ap (λ ps. value_at eq ps q) went ∙ value_at-insert_each_distinct laws mode old all q distinct;
       keep = λ keep. ap keys_of went ∙ ap (λ m. keys_of (insert_each eq m old all)) keep ∙ keys_of-insert_each_keep laws old all distinct;
@@ -157,6 +171,15 @@ Merges-InsertsAll {eq = eq} laws {mode} {old} all inserts is =
       keep_pairs = λ keep. went ∙ ap (λ m. insert_each eq m old all) keep ∙ insert_each-keep laws old all distinct;
       touch_pairs = λ touch. went ∙ ap (λ m. insert_each eq m old all) touch ∙ insert_each-touch laws old all distinct;
     }
+
+pub Merges-InsertsAll : {T K V : Type 0} {becomes : T → List (K × V) → Type 0} {source : T}
+    {eq : K → K → Bool} → IsEquivalence eq
+    → {mode : Mode} {old new : List (K × V)} (all : List (K × V))
+    → InsertsAll becomes (TakesFirst (λ (pair : K × V). pair)) source eq (λ pair. pair) mode old new
+    → ((it : List (K × V)) → becomes source it → (it ≡ all) × IsDistinct eq (keys_of all)) → Merges eq mode old all new
+Merges-InsertsAll laws all inserts is =
+    Merges-insert_each laws all (is inserts.gives.iterator inserts.gives.made).1
+    (pairs-InsertsAll_list all inserts (λ it made. (is it made).0))
 
 -- what a vector becomes gives its items, and has as many left
 module _ {T Z K V : Type 0} (becomes : T → _ → Type 0) (vec : Vec (K × V) Z) (source : T)

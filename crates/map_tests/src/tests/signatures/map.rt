@@ -202,6 +202,13 @@ fn extend_refs<K: Eq + Hash + Copy, V: Copy, S: BuildHasher>(
     map.extend_refs(items)
 }
 
+fn append<K: Eq + Hash + Drop, V: Drop, S: BuildHasher, S2: BuildHasher>(
+    map: &mut LinkedHashMap<K, V, S>,
+    other: &mut LinkedHashMap<K, V, S2>,
+) -> Result<(), ReserveError> {
+    map.append(other)
+}
+
 fn from_iter<K: Eq + Hash + Drop, V: Drop, S: BuildHasher + Default + Drop>(
     alloc: Global,
     items: Vec<(K, V)>,
@@ -325,12 +332,13 @@ pub fn change(rt: &impl Abort, alloc: Global, map: &mut LinkedHashMap<u64, u64>)
     check_eq!(rt; (shrink_to_fit(map), capacity(map)), (Ok(()), 1));
     check_eq!(rt; extend(map, given!(rt; vec![in alloc; (3, 30), (4, 40)])), Ok(()));
     check_eq!(rt; (pop_front(map), pop_back(map)), (Some((2, 20)), Some((4, 40))));
-    let copy = given!(rt; clone(map));
+    let mut copy = given!(rt; clone(map));
     clear(map);
     check_eq!(rt; (len(map), mode(map)), (0, Mode::Touch));
     set_mode(map, Mode::Keep);
     check_eq!(rt; (extend_refs(map, &copy), mode(map)), (Ok(()), Mode::Keep));
     check_eq!(rt; front(map), Some((&3, &30)));
+    check_eq!(rt; (append(map, &mut copy), len(&copy)), (Ok(()), 0));
 }
 
 /// Calls the traits of a map that has (3, 30).
