@@ -20,7 +20,7 @@ use Rattle.linked_hash_map.specs.Pairs.{key_or, find, value_at, without, to_back
 use Rattle.linked_hash_map.specs.Updates.{UpdatesBy}
 use Rattle.linked_hash_map.proofs.Callers.Keys.{find-drop}
 use Rattle.linked_hash_map.proofs.Callers.Lookups.{eq-stored}
-use Rattle.linked_hash_map.proofs.Callers.Updates.{lookup_entry-updated}
+use Rattle.linked_hash_map.proofs.Callers.Updates.{passes-lookup_entry, lookup_entry-updated}
 
 -- two texts that are lent are the same
 abbrev pub same_text : Bor (List ℕ) → Bor (List ℕ) → Bool
@@ -46,6 +46,11 @@ module _ {Y V : Type 0} where
   pub find-is_text : (pairs : List (String Y × V)) (text : List ℕ) (key : String Y) → string_bytes key ≡ text
       → find string_eq pairs key ≡ find is_text pairs text
   find-is_text pairs text key bytes = ap (λ (t : List ℕ). find is_text pairs t) bytes
+
+  -- and its bytes are those of the text
+  pub is_text-find : (pairs : List (String Y × V)) (text : List ℕ) (pair : String Y × V)
+      → find is_text pairs text ≡ Some pair → is_text text pair.0 ≡ true
+  is_text-find pairs text = passes-lookup_entry (is_text text) pairs
 
   -- what another text finds after a change by a text
   module _ (before after : List (String Y × V)) (text other : List ℕ) (value : Option V)

@@ -51,7 +51,7 @@ Updates-put {eq = eq} laws mode before after k v is = record {
 }
 
 -- what a lookup finds passes its test
-passes-lookup_entry : {K V : Type 0} (test : K → Bool) (pairs : List (K × V)) (pair : K × V)
+pub passes-lookup_entry : {K V : Type 0} (test : K → Bool) (pairs : List (K × V)) (pair : K × V)
     → lookup_entry test pairs ≡ Some pair → test pair.0 ≡ true
 passes-lookup_entry test [] pair found = grind arith
 passes-lookup_entry test (first ∷ pairs) pair found = grind (arith, passes-lookup_entry test pairs pair)
