@@ -87,8 +87,8 @@ pub fn merge<K: Eq + Hash + Drop, V: Drop, S: BuildHasher, T: BuildHasher + Drop
 }
 
 /// Moves the pairs of another map into a map, where its values win. That map is empty then. In
-/// `Touch` all its keys come behind those that it does not have, each as the first map stores it. If
-/// there is no room for all, neither map changes.
+/// `Touch` all its keys come behind those that it does not have, each as the first map stores it.
+/// If there is no room for all, neither map changes.
 pub fn move_all<K: Eq + Hash + Drop, V: Drop, S: BuildHasher, T: BuildHasher>(
     target: &mut LinkedHashMap<K, V, S>,
     others: &mut LinkedHashMap<K, V, T>,

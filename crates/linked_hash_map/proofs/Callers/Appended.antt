@@ -70,9 +70,13 @@ module _ {K V : Type 0} {eq : K → K → Bool} (laws : IsEquivalence eq) (mode 
   length-insert_each_next pairs [] k v (suc n) distinct there absent = absurd (none_some (k, v) there)
   length-insert_each_next pairs (item ∷ items) k v zero distinct there absent =
       let is : item ≡ (k, v) = Some-injective _ _ there in
-      let one = length-put laws mode pairs k v distinct ∙ ap (λ o. cond (is_some o) (length pairs) (length pairs + 1)) absent in
-      let least = length-insert_each_least laws mode (put eq mode pairs item.0 item.1) items (distinct-put laws mode pairs item.0 item.1 distinct) in
-      let same : length (put eq mode pairs item.0 item.1) ≡ length (put eq mode pairs k v) = ap (λ (pair : K × V). length (put eq mode pairs pair.0 pair.1)) is in
+      let one = length-put laws mode pairs k v distinct
+      ∙ ap (λ o. cond (is_some o) (length pairs) (length pairs + 1)) absent in
+      let least = length-insert_each_least laws mode (put eq mode pairs item.0 item.1) items
+      (distinct-put laws mode pairs item.0 item.1 distinct) in
+      let same : length (put eq mode pairs item.0 item.1) ≡ length (put eq mode pairs k v) =
+      ap (λ (pair : K × V). length (put eq mode pairs pair.0 pair.1)) is in
       omega arith
   length-insert_each_next pairs (item ∷ items) k v (suc n) distinct there absent =
-      length-insert_each_next (put eq mode pairs item.0 item.1) items k v n (distinct-put laws mode pairs item.0 item.1 distinct) there absent
+      length-insert_each_next (put eq mode pairs item.0 item.1) items k v n
+      (distinct-put laws mode pairs item.0 item.1 distinct) there absent

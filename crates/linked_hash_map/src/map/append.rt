@@ -14,7 +14,7 @@ use std::hash::{BuildHasher, Hash};
 
 impl<K: Eq + Hash, V, S: BuildHasher> LinkedHashMap<K, V, S> {
     /// Moves all pairs of another map to the back, in their order, each as
-    /// [`insert`](LinkedHashMap::insert) does: for a present key the stored key stays, and the other
+    /// [`insert`](LinkedHashMap::insert) does: for a present key the stored key stays, and the new
     /// key and the old value are dropped. The other map is then empty and keeps its capacity. A
     /// visit of either map ends.
     ///
@@ -22,8 +22,8 @@ impl<K: Eq + Hash, V, S: BuildHasher> LinkedHashMap<K, V, S> {
     /// returns `TooLarge` exactly if that number is above [`LIMIT`], or `NoRoom` if an allocation
     /// fails. Then neither map changes. If the capacity suffices, it allocates nothing.
     ///
-    /// It hashes each key of the other map twice, by the hasher of this one. It is O(capacity), that
-    /// of the other map, and also that of this map if it allocates.
+    /// It hashes each key of the other map twice, by the hasher of this one. It is O(capacity) of
+    /// the other map, and also of this one if it allocates.
     ///
     /// # Examples
     ///
