@@ -31,9 +31,10 @@ LIBRARIES = ("linked_hash_set", "lru_cache", "linked_hash_map", "lhm_ring", "equ
 PRODUCTS = ("cache_insert", "cache_hit", "set_insert", "set_contains", "set_iterate")
 BY_MAP = "_by_map"
 
-# The workloads of small maps, and the most pairs of one.
+# The workloads of small maps, the most pairs of one, and how many pairs tables have.
 SMALL = ("small_fill", "small_lookup", "small_iterate")
 MOST_PAIRS = 64
+SMALL_SIZES = (1, 2, 3, 4, 5, 6, 8, 10, 12, 16, 24, 32, 64)
 
 
 def stop(message):
@@ -64,6 +65,23 @@ def built_by_cargo(folder, crates, registry=REGISTRY):
     if built.returncode != 0:
         stop(f"{folder.relative_to(TOP)} does not build:\n{built.stderr}")
     return target / "release"
+
+
+def built_bench(path=None):
+    """Returns the benchmark at a path or, with none, that of the gate, or else `rt run` proves and
+    builds it."""
+    folder = TOP / "crates" / "bench"
+    built = pathlib.Path(path) if path else folder / "out" / "bench"
+    if path or is_up_to_date(built, "bench"):
+        return built
+    print("compare: rt run proves and builds crates/bench", file=sys.stderr)
+    try:
+        ran = subprocess.run(["rt", "run"], cwd=folder, capture_output=True, text=True)
+    except FileNotFoundError:
+        stop("put rt, the command of the Rattle kit, on the PATH")
+    if ran.returncode != 0:
+        stop("rt run failed in crates/bench:\n" + (ran.stdout + ran.stderr)[-2000:])
+    return built
 
 
 class Original:

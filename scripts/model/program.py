@@ -9,7 +9,7 @@ import tempfile
 TOP = pathlib.Path(__file__).resolve().parent.parent.parent
 sys.path.insert(0, str(TOP / "compare"))
 
-from programs import DRIVER, is_up_to_date
+from programs import DRIVER, SMALL_SIZES, is_up_to_date
 
 import unproved
 
@@ -100,19 +100,19 @@ class Driver:
         return Ran(printed, records, blocks or 0, fault)
 
 
-def find_driver():
-    """Returns the built driver, and "", or None and how to build it if it is not there or older
-    than a source."""
-    program = DRIVER / "out" / "driver"
-    if is_up_to_date(program, "driver"):
-        return program, ""
-    return None, ("there is no crates/driver/out/driver that is younger than its sources: "
-                  "(cd crates/driver && rt run < stdin) builds it, or give --try")
+def find_program(crate):
+    """Returns the built program of a crate, and "", or None and how to build it if it is not there
+    or older than a source."""
+    built = TOP / "crates" / crate / "out" / crate
+    if is_up_to_date(built, crate):
+        return built, ""
+    return None, (f"there is no crates/{crate}/out/{crate} that is younger than its sources: "
+                  f"(cd crates/{crate} && rt run < /dev/null) builds it, or give --try")
 
 
-def build_driver(folder):
-    """Builds the driver into a folder with no proof, and returns where it is and "", or None and
-    what was said."""
-    program = pathlib.Path(folder) / "driver"
-    fault = unproved.build(program)
-    return (None, fault) if fault else (program, "")
+def build_program(crate, folder):
+    """Builds the program of a crate into a folder with no proof, and returns where it is and "", or
+    None and what was said."""
+    built = pathlib.Path(folder) / crate
+    fault = unproved.build(built, crate)
+    return (None, fault) if fault else (built, "")

@@ -9,6 +9,9 @@
  * REFUSE_AT=LINE:N,..    refuses the Nth request of a line
  * REFUSE_CHANCE=0.05     refuses each with this chance, drawn from REFUSE_SEED=N
  * REFUSE_NEXT_TOO=1      refuses each behind a refused one in a line with a chance of 1/2
+ * COUNT_UP_TO=4096       counts also, in a window or not, the requests for at most so many bytes,
+ *                        and writes at the end how many there were, and the most bytes of their
+ *                        blocks at one time
  *
  * It is built without headers: the toolchain has none. glibc has each call under a second name. */
 typedef __SIZE_TYPE__ size_t;
@@ -30,9 +33,10 @@ void _exit(int status);
 enum { LINE_BEGINS = 4240, WINDOW_OPENS = 4242, WINDOW_CLOSES = 4243 };
 enum { MOST_NAMED = 4096, MOST_OF_LINE = 4096, CREATE_AND_WRITE = 01 | 0100 | 01000 };
 
-/* What stands before each block. A block for which more than 16 bytes of alignment are asked would
- * have none: the program asks for no such block. */
-typedef struct { u64 is_counted, padding; } Head;
+/* What stands before each block: whether it was asked for in a window, and its bytes, or 0 for more
+ * than COUNT_UP_TO. A block for which more than 16 bytes of alignment are asked would have none: the
+ * program asks for no such block. */
+typedef struct { u64 is_counted, bytes; } Head;
 
 /* The requests that REFUSE_AT names. */
 static struct { u64 line, request; } named[MOST_NAMED];
@@ -44,6 +48,8 @@ static int log_file = -1, is_open;
 static u64 line, blocks;
 /* Of the line. */
 static u64 requests, windows, refused[MOST_OF_LINE], refused_count;
+/* Of the requests for few bytes. */
+static u64 most_bytes, small_requests, held, most_held;
 
 /* Writes the record of the line that ends. */
 static void end_line(void)
@@ -97,12 +103,17 @@ static int is_refused(void)
 }
 
 /* Returns the block behind a head, if there is one. */
-static void *block_of(Head *head, u64 is_counted)
+static void *block_of(Head *head, u64 is_counted, size_t bytes)
 {
     if (!head)
         return 0;
     head->is_counted = is_counted;
     blocks += is_counted;
+    head->bytes = bytes <= most_bytes ? bytes : 0;
+    small_requests += bytes <= most_bytes;
+    held += head->bytes;
+    if (most_held < held)
+        most_held = held;
     return head + 1;
 }
 
@@ -111,14 +122,14 @@ void *malloc(size_t bytes)
     int is_counted = !is_mark(bytes) && is_open;
     if (is_counted && is_refused())
         return 0;
-    return block_of(__libc_malloc(sizeof(Head) + bytes), is_counted);
+    return block_of(__libc_malloc(sizeof(Head) + bytes), is_counted, bytes);
 }
 
 void *calloc(size_t count, size_t bytes)
 {
     if (is_open && is_refused())
         return 0;
-    return block_of(__libc_calloc(1, sizeof(Head) + count * bytes), is_open);
+    return block_of(__libc_calloc(1, sizeof(Head) + count * bytes), is_open, count * bytes);
 }
 
 void *realloc(void *block, size_t bytes)
@@ -128,10 +139,11 @@ void *realloc(void *block, size_t bytes)
     int is_counted = !is_mark(bytes) && is_open;
     if (is_counted && is_refused())
         return 0;
-    u64 was_counted = ((Head *)block - 1)->is_counted;
+    Head was = *((Head *)block - 1);
     Head *head = __libc_realloc((Head *)block - 1, sizeof(Head) + bytes);
-    blocks -= head ? was_counted : 0;
-    return block_of(head, was_counted || is_counted);
+    blocks -= head ? was.is_counted : 0;
+    held -= head ? was.bytes : 0;
+    return block_of(head, was.is_counted || is_counted, bytes);
 }
 
 void free(void *block)
@@ -139,6 +151,7 @@ void free(void *block)
     if (block) {
         Head *head = (Head *)block - 1;
         blocks -= head->is_counted;
+        held -= head->bytes;
         __libc_free(head);
     }
 }
@@ -156,6 +169,8 @@ static void read_named(char *text)
 __attribute__((constructor)) static void begin(void)
 {
     const char *drawn = getenv("REFUSE_CHANCE"), *seed = getenv("REFUSE_SEED");
+    const char *most = getenv("COUNT_UP_TO");
+    most_bytes = most ? strtoul(most, 0, 10) : 0;
     chance = drawn ? strtod(drawn, 0) : 0;
     srand48(seed ? (long)strtoul(seed, 0, 10) : 1);
     refuses_next_too = getenv("REFUSE_NEXT_TOO") != 0;
@@ -168,5 +183,7 @@ __attribute__((constructor)) static void begin(void)
 __attribute__((destructor)) static void end(void)
 {
     end_line();
+    if (most_bytes)
+        dprintf(log_file, "small %lu %lu\n", small_requests, most_held);
     dprintf(log_file, "blocks %lu\n", blocks);
 }

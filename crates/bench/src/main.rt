@@ -2,8 +2,10 @@
 //!
 //! `bench ORDER [WORKLOAD] ROUNDS N ..` prints for each size N a line `workload n ns_per_op check`
 //! for each workload, or for the one that is named: the nanoseconds of processor time of this
-//! thread that the best of the rounds took, divided by N, and the sum of what the rounds returned.
-//! ORDER is `repeated` or `random`. With no arguments it prints how it is called.
+//! thread that the best of the rounds took, divided by the number of pairs, and the sum of what the
+//! rounds returned. Up to 64 pairs the workloads are those of small maps, many of N pairs each; with
+//! more they are those of one map, cache or set of N. ORDER is `repeated` or `random`. With no
+//! arguments it prints how it is called.
 #![tactic(auto)]
 
 ghost use Rattle.std.specs.Prelude.{◌≡◌, ◌<◌, ◌*◌, ◌/◌, ◌^◌};
@@ -11,6 +13,7 @@ ghost use Rattle.std.specs.Prelude.{◌≡◌, ◌<◌, ◌*◌, ◌/◌, ◌^�
 mod arguments;
 mod order;
 mod products;
+mod small;
 mod workloads;
 
 use arguments::{numbers, workload_named};
@@ -78,7 +81,7 @@ fn time<C: CpuClock, O: Order, W: Write>(
     requires { 0 < n }
 {
     let timed = best_of(clock, alloc, workload, held, order, rounds, n)?;
-    let time = hundredths(timed.nanoseconds, n);
+    let time = hundredths(timed.nanoseconds, workload.pairs(n));
     writeln!(
         output,
         "{} {n} {}.{:02} {}",
@@ -103,10 +106,12 @@ fn bench<C: CpuClock, O: Order, W: Write>(
 {
     let mut held = Held::new(alloc);
     for workload in Workload::ALL {
-        if only.is_none() || only == Some(workload) {
-            time(clock, alloc, output, workload, &mut held, order, rounds, n)?;
+        if workload.is_done_at(n) {
+            if only.is_none() || only == Some(workload) {
+                time(clock, alloc, output, workload, &mut held, order, rounds, n)?;
+            }
+            held.refill(alloc, workload, n)?;
         }
-        held.refill(alloc, workload, n)?;
     }
     Ok(())
 }

@@ -6,6 +6,7 @@ use super::products::{
     Cache, CacheMap, Set, SetMap, cache_hit, cache_map_hit, fill_cache, fill_cache_map, fill_set,
     fill_set_map, set_contains, set_iterate, set_map_contains, set_map_iterate,
 };
+use super::small::{self, MAPS, MOST_PAIRS};
 use linked_hash_map::LinkedHashMap;
 use linked_hash_set::LinkedHashSet;
 use lru_cache::LruCache;
@@ -17,6 +18,12 @@ pub type Map = LinkedHashMap<u64, u64>;
 /// A workload. Each that makes nothing new is done on what those before it have left.
 #[derive(Clone, Copy, Debug, PartialEq)]
 pub enum Workload {
+    /// Fills many new maps of `n` pairs, one pair at a time, and drops them.
+    SmallFill,
+    /// Looks up each key of many maps.
+    SmallLookup,
+    /// Goes over the pairs of many maps.
+    SmallIterate,
     /// Fills a new map, one pair at a time, and drops it.
     InsertNew,
     /// Looks up each key.
@@ -58,6 +65,7 @@ pub enum Workload {
 /// What the workloads are done on. All except one are empty.
 #[derive(Drop)]
 pub struct Held {
+    maps: Vec<Map>,
     map: Map,
     cache: Cache,
     set: Set,
@@ -69,6 +77,7 @@ impl Held {
     /// Makes them, all empty.
     pub fn new(alloc: Global) -> Held {
         Held {
+            maps: Vec::new(alloc),
             map: LinkedHashMap::new(alloc),
             cache: LruCache::new(alloc, 0),
             set: LinkedHashSet::new(alloc),
@@ -81,6 +90,7 @@ impl Held {
     /// the rest. It comes so late so that the nodes lie in memory that was used before.
     pub fn refill(&mut self, alloc: Global, done: Workload, n: u64) -> Result<(), AllocError> {
         match done {
+            Workload::SmallFill => self.maps = small::fill_all(alloc, 0, n)?,
             Workload::InsertNew => self.map = fill(alloc, 0, n)?,
             Workload::CacheInsert => {
                 self.map = LinkedHashMap::new(alloc);
@@ -106,7 +116,10 @@ impl Held {
 
 impl Workload {
     /// All workloads, in the order in which they are timed.
-    pub const ALL: [Workload; 20] = [
+    pub const ALL: [Workload; 23] = [
+        Workload::SmallFill,
+        Workload::SmallLookup,
+        Workload::SmallIterate,
         Workload::InsertNew,
         Workload::GetHit,
         Workload::GetMiss,
@@ -132,6 +145,9 @@ impl Workload {
     /// Returns the word that names the workload in the output.
     pub fn name(self) -> &'static str {
         match self {
+            Workload::SmallFill => "small_fill",
+            Workload::SmallLookup => "small_lookup",
+            Workload::SmallIterate => "small_iterate",
             Workload::InsertNew => "insert_new",
             Workload::GetHit => "get_hit",
             Workload::GetMiss => "get_miss",
@@ -155,6 +171,33 @@ impl Workload {
         }
     }
 
+    /// Tells whether it is done with many small maps, and not with one map, cache or set.
+    fn is_of_small_maps(self) -> bool {
+        match self {
+            Workload::SmallFill => true,
+            Workload::SmallLookup => true,
+            Workload::SmallIterate => true,
+            _ => false,
+        }
+    }
+
+    /// Tells whether it is done at a size: one of small maps up to 64 pairs, another above.
+    pub fn is_done_at(self, n: u64) -> bool {
+        self.is_of_small_maps() == (n <= MOST_PAIRS)
+    }
+
+    /// Returns how many pairs it is done with in all.
+    pub fn pairs(self, n: u64) -> u64
+        requires { 0 < n }
+        ensures { 0 < result }
+    {
+        if self.is_of_small_maps() {
+            n.saturating_mul(MAPS)
+        } else {
+            n
+        }
+    }
+
     /// Prepares a round. In random order the map that is cloned gets other keys, so that no two
     /// clones are alike.
     pub fn prepare<O: Order>(self, held: &mut Held, order: &O, n: u64) -> Result<(), AllocError> {
@@ -175,6 +218,11 @@ impl Workload {
         requires { 0 < n }
     {
         match self {
+            Workload::SmallFill => {
+                Ok(small::count(small::fill_all(alloc, order.start(), n)?.as_slice()))
+            }
+            Workload::SmallLookup => Ok(small::lookup(held.maps.as_slice(), order, n)),
+            Workload::SmallIterate => Ok(small::iterate(held.maps.as_slice())),
             Workload::InsertNew => Ok(fill(alloc, order.start(), n)?.len() as u64),
             Workload::GetHit => Ok(get_hit(&held.map, order, n)),
             Workload::GetMiss => Ok(get_miss(&held.map, order, n)),
