@@ -23,12 +23,12 @@ invariant_of-self g c =
     let put = c.put_in.ensures in
     let back = c.put_back-at.ensures in
     let t = held (pointer_of c.put_back-at.result) c.args.hash None (pair c.args.key c.args.value) in
-    let long = length-same_entries new.held c.put_back-at.new.self.held put.held in
+    let long = length-same_entries new.held c.put_back-at.new.self.held put.links.held in
     let last = ap length back.last in
     let one_more = length-append old.held (t ∷ []) in
     let some : 0 < old.spares = subst (λ s. 0 < s.spares) (sym c.self.view_is) c.requires in
     let sum : length new.held + new.spares ≡ length old.held + old.spares =
-    omega (arith, some, long, last, one_more, put.spares, back.spares) in
+    omega (arith, some, long, last, one_more, put.links.spares, back.spares) in
     record {
       indexes = put.indexed (HoldsOthers-last _ _ back.last c.self.invariant.indexes);
       count = put.buckets ∙ c.self.invariant.count ∙ ap buckets (sym sum);
