@@ -100,7 +100,7 @@ show_part vendor-self-test '^vendor: [1-9][0-9]* tries end as they must$'
 end_if_failed
 
 run_part wrong-bodies-gate scripts/wrong-bodies --gate
-crates='dedup lhm linked_hash_map linked_hash_set lru_cache'
+crates='dedup_lines lhm_commands linked_hash_map linked_hash_set lru_cache'
 show_part wrong-bodies-gate "^wrong-bodies --gate: [2-9][0-9] bodies of $crates: each is refused"
 run_part model-tests scripts/model-tests
 show_part model-tests '^model-tests: [1-9].* requests refused: as the model has it$'

@@ -10,30 +10,25 @@
 
 ghost use Rattle.std.specs.Prelude.{◌≡◌, ◌≢◌, ◌⊎◌, ◌++◌, ◌↔◌, OnOk, IfErr, IfSome};
 ghost use Rattle.std.specs.Io.KnownBytes.{Appends, Keeps};
-ghost use Rattle.dedup.specs.Arguments.{AreWrong, AskHelp, SayKeep, texts};
-ghost use Rattle.dedup.specs.Help.{help_text};
-ghost use Rattle.dedup.specs.Kept.{kept_lines};
-ghost use Rattle.dedup.specs.Lines.{lines_of, text_of};
-ghost use Rattle.dedup.specs.Stop.{status_of, StopsOutput, Tells, TellsStatus};
-ghost use Rattle.dedup.specs.declared.keep.Keep.{Keep};
+ghost use Rattle.dedup_lines.specs.Arguments.{AreWrong, AskHelp, SayKeep, texts};
+ghost use Rattle.dedup_lines.specs.Help.{help_text};
+ghost use Rattle.dedup_lines.specs.Kept.{kept_lines};
+ghost use Rattle.dedup_lines.specs.Lines.{lines_of, text_of};
+ghost use Rattle.dedup_lines.specs.Stop.{status_of, StopsOutput, Tells, TellsStatus};
+ghost use Rattle.dedup_lines.specs.declared.keep.Keep.{Keep};
 
-mod filter;
-mod help;
-mod keep;
-mod lines;
-mod recent;
-mod stop;
 #[cfg(test)]
 mod tests;
 
-use keep::{Keep, ask_help};
+use dedup_lines::keep::{Keep, ask_help};
+use dedup_lines::stop::Stop;
+use dedup_lines::{filter, help, lines};
 use std::alloc::Global;
 use std::hash::{BuildHasher, RandomState};
 use std::io::{BufRead, BufReader, BufWriter, ErrorKind, Write};
 use std::process::ExitCode;
 use std::random::RandomSource;
 use std::{env, io};
-use stop::Stop;
 
 const BUFFER_LEN: usize = 65536;
 

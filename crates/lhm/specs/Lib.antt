@@ -1,5 +1,1 @@
-pub mod Commands
-pub mod Grammar
 pub mod Run
-pub mod Stop
-pub mod Text

@@ -5,9 +5,9 @@ use Rattle.linked_hash_map.specs.Log.{pairs}
 use Rattle.linked_hash_map.specs.Run.{IsRun, first_log, last_log}
 use Rattle.linked_hash_map.specs.declared.replay.Command.{Command}
 use Rattle.linked_hash_map.specs.declared.replay.Reply.{Reply}
-use Rattle.lhm.specs.Grammar.{lines_of}
-use Rattle.lhm.specs.Commands.{AreCommandsOf}
-use Rattle.lhm.specs.Text.{reply_text, list_text}
+use Rattle.lhm_commands.specs.Grammar.{lines_of}
+use Rattle.lhm_commands.specs.Commands.{AreCommandsOf}
+use Rattle.lhm_commands.specs.Text.{reply_text, list_text}
 
 -- the lines say commands, those have replies on a new map of capacity 0 and mode Touch, and the
 -- output has a line for each reply and then the pairs that the log at the end defines

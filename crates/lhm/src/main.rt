@@ -13,26 +13,22 @@
 
 ghost use Rattle.std.specs.Prelude.{◌≡◌, ◌⊎◌, ◌++◌, ◌∷◌, ℕ, List, [], All, OnOk, IfOk, IfErr, IfSome, string_bytes};
 ghost use Rattle.std.specs.Io.KnownBytes.{Keeps, Appends};
-ghost use Rattle.lhm.specs.Grammar.{lines_of};
-ghost use Rattle.lhm.specs.Commands.{IsValid, IsFirstInvalid};
-ghost use Rattle.lhm.specs.Stop.{status_of, stop_text, StopsLines};
+ghost use Rattle.lhm_commands.specs.Grammar.{lines_of};
+ghost use Rattle.lhm_commands.specs.Commands.{IsValid, IsFirstInvalid};
+ghost use Rattle.lhm_commands.specs.Stop.{status_of, stop_text, StopsLines};
 ghost use Rattle.lhm.specs.Run.{IsRunOf};
 
-mod grammar;
-mod input;
-mod parser;
-mod stop;
 #[cfg(test)]
 mod tests;
-mod text;
 
+use lhm_commands::stop::Stop;
+use lhm_commands::{input, parser, text};
 use linked_hash_map::LinkedHashMap;
 use linked_hash_map::replay::replay;
 use std::alloc::Global;
 use std::io;
 use std::io::{Read, Write};
 use std::process::ExitCode;
-use stop::Stop;
 
 /// Runs the commands in these bytes on a new map, and returns the whole text of the output.
 fn respond(alloc: Global, bytes: &[u8]) -> Result<String, Stop>

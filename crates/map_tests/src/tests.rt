@@ -1,5 +1,5 @@
 //! What no line of `driver` can be: keys of other types, callers with contracts, signatures, writers
-//! that fail, and maps of many pairs.
+//! that fail, maps of many pairs, and the programs of `uses`.
 
 mod absent_keys;
 mod borrowed;
@@ -10,6 +10,7 @@ mod compare;
 mod drains;
 mod entries;
 mod equivalents;
+mod examples;
 mod failing_checks;
 mod formats;
 mod growths;

@@ -7,9 +7,9 @@
 
 use super::support::checks::check_eq;
 use super::support::streams::Sink;
-use crate::keep::Keep;
-use crate::stop::Stop;
 use crate::{run, write_output};
+use dedup_lines::keep::Keep;
+use dedup_lines::stop::Stop;
 use linked_hash_set::DefaultHashBuilder;
 use std::alloc::Global;
 use std::process::Abort;

@@ -9,7 +9,7 @@
 use super::support::checks::{check_eq, given};
 use super::support::fakes::{Sink, Source};
 use crate::run;
-use crate::text::push_replies;
+use lhm_commands::text::push_replies;
 use linked_hash_map::replay::{Answer, Reply};
 use std::alloc::Global;
 use std::process::Abort;

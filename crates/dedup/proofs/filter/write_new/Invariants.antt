@@ -1,9 +1,0 @@
-use Rattle.std.proofs.Common.{◌≡◌}
-use Rattle.dedup.specs.Recent.{recent_lines, recent_size}
-use Rattle.dedup.proofs.Passes.{IsFiltered}
-use Rattle.dedup.proofs.filter.write_new.Given as goal
-
-abbrev pub invariant-loop : goal.invariant-loop
-invariant-loop g l =
-    (recent_size l.recent ≡ l.fn.size) × IsFiltered l.fn.size (g.R.Read.remaining l.initial.input) (g.R.Read.remaining l.input)
-    (recent_lines l.recent) (g.W.Write.contents l.initial.output) (g.W.Write.contents l.output)

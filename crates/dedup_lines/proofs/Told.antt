@@ -1,0 +1,28 @@
+-- What is told, and the help.
+use Rattle.std.proofs.Common.{ℕ, List, [], ◌∷◌, ◌++◌, Option, None, Some, Result, Ok, Err, ◌∙◌}
+use Rattle.std.specs.Prelude.{OnOk}
+use Rattle.std.specs.Io.KnownBytes.{Appends, Keeps}
+use Rattle.dedup_lines.specs.Stop.{TellsCause}
+use Rattle.dedup_lines.proofs.Passes.{Appends-append}
+
+Appends-keeps : (old now next : Option (List ℕ)) (bytes : List ℕ) → Appends old now bytes → Keeps now next → Appends old next bytes
+Appends-keeps None now next bytes written kept = tt
+Appends-keeps (Some xs) None next bytes written kept = absurd written
+Appends-keeps (Some xs) (Some ys) None bytes written kept = absurd kept
+Appends-keeps (Some xs) (Some ys) (Some zs) bytes written kept = kept ∙ written
+
+module _ {A E : Type 0} where
+  -- what is written stays so at a flush
+  pub OnOk-kept : (result : Result A E) (old now next : Option (List ℕ)) (bytes : List ℕ) → Appends old now bytes → Keeps now next
+      → OnOk result (Appends old next bytes)
+  OnOk-kept (Ok value) old now next bytes written kept = Appends-keeps old now next bytes written kept
+  OnOk-kept (Err error) old now next bytes written kept = tt
+
+  -- the start, the cause and the line feed
+  pub OnOk-TellsCause : (result : Result A E) (start cause : List ℕ) (old first second new : Option (List ℕ)) → Appends old first start
+      → Appends first second cause → OnOk result (Appends second new (10 ∷ [])) → OnOk result (TellsCause start old new)
+  OnOk-TellsCause (Ok value) start cause old first second new starts ends feeds = (
+    cause,
+    Appends-append old second new (start ++ cause) (10 ∷ []) (Appends-append old first second start cause starts ends) feeds,
+  )
+  OnOk-TellsCause (Err error) start cause old first second new starts ends feeds = tt

@@ -1,0 +1,40 @@
+-- Why a run stops before all of its output is written.
+use Rattle.std.specs.Prelude.{ℕ, ◌≡◌, List, [], ◌∷◌, ◌++◌, codes, ⊤, Option}
+use Rattle.std.specs.Io.KnownBytes.{Appends, Keeps}
+use Rattle.dedup_lines.specs.declared.stop.Stop.{Stop}
+use Rattle.dedup_lines.specs.declared.stop.Stop.TheVariants.{WrongArguments, OutOfMemory, SeedFailed, InputFailed, OutputFailed, PipeClosed}
+
+-- the exit status
+abbrev pub status_of : Stop → ℕ
+status_of WrongArguments = 2
+status_of OutOfMemory = 3
+status_of (SeedFailed kind) = 4
+status_of (InputFailed kind) = 4
+status_of (OutputFailed kind) = 4
+status_of PipeClosed = 4
+
+-- known bytes grow by a line that begins with these bytes and ends with a cause
+abbrev pub TellsCause : List ℕ → Option (List ℕ) → Option (List ℕ) → Type 0
+TellsCause start old new = (cause : List ℕ) × Appends old new (start ++ cause ++ 10 ∷ [])
+
+-- known bytes grow by a line that says why a run stops; a closed pipe is not told
+abbrev pub Tells : Stop → Option (List ℕ) → Option (List ℕ) → Type 0
+Tells WrongArguments old new = Appends old new (codes "dedup: wrong arguments; usage: dedup [--last | --window N]" ++ 10 ∷ [])
+Tells OutOfMemory old new = Appends old new (codes "dedup: out of memory" ++ 10 ∷ [])
+Tells (SeedFailed kind) old new = TellsCause (codes "dedup: no random seed: ") old new
+Tells (InputFailed kind) old new = TellsCause (codes "dedup: input failed: ") old new
+Tells (OutputFailed kind) old new = TellsCause (codes "dedup: output failed: ") old new
+Tells PipeClosed old new = Keeps old new
+
+-- a status other than 0 is told as one of the stops that have it
+abbrev pub TellsStatus : ℕ → Option (List ℕ) → Option (List ℕ) → Type 0
+TellsStatus status old new = (stop : Stop) × (status_of stop ≡ status) × Tells stop old new
+
+-- why the output of right arguments is not written
+abbrev pub StopsOutput : Stop → Type 0
+StopsOutput WrongArguments = ⊥
+StopsOutput OutOfMemory = ⊤
+StopsOutput (SeedFailed kind) = ⊥
+StopsOutput (InputFailed kind) = ⊤
+StopsOutput (OutputFailed kind) = ⊤
+StopsOutput PipeClosed = ⊤

@@ -1,5 +1,0 @@
-mod Cuts
-mod Examples
-mod Lines
-mod Numbers
-mod Words

@@ -1,0 +1,5 @@
+mod Cuts
+mod Examples
+pub mod Lines
+mod Numbers
+mod Words

@@ -1,0 +1,6 @@
+use Rattle.std.specs.Io.KnownBytes.{Consumes}
+use Rattle.lhm_commands.proofs.input.read_all.Given as goal
+
+abbrev pub invariant-loop : goal.invariant-loop
+invariant-loop g l =
+    Consumes (g.R.Read.remaining l.initial.input) (g.R.Read.remaining l.input) l.bytes.items

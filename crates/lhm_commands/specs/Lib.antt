@@ -1,0 +1,4 @@
+pub mod Commands
+pub mod Grammar
+pub mod Stop
+pub mod Text
