@@ -18,6 +18,7 @@ pub mod Keys
 pub mod Lookups
 pub mod Merges
 pub mod Moves
+pub mod Permuted
 pub mod ReplacedKeys
 pub mod Replay
 pub mod Retained

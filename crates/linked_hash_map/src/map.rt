@@ -16,6 +16,7 @@ mod iter_from;
 mod order;
 mod remove;
 mod replace;
+mod sort;
 
 use self::cursor::Visit;
 pub use self::get::Probe;

@@ -16,6 +16,7 @@ mod growths;
 mod references;
 mod sets;
 mod signatures;
+mod sorts;
 mod support;
 mod writes;
 
