@@ -1,1 +1,4 @@
+pub mod Arranged
+pub mod Neighbors
+pub mod Placed
 pub mod Rules
