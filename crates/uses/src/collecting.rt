@@ -86,31 +86,6 @@ pub fn merge<K: Eq + Hash + Drop, V: Drop, S: BuildHasher, T: BuildHasher + Drop
     Ok(())
 }
 
-/// Moves the pairs of another map into a map, where its values win. That map is empty then. In
-/// `Touch` all its keys come behind those that it does not have, each as the first map stores it.
-/// If there is no room for all, neither map changes.
-pub fn move_all<K: Eq + Hash + Drop, V: Drop, S: BuildHasher, T: BuildHasher>(
-    target: &mut LinkedHashMap<K, V, S>,
-    others: &mut LinkedHashMap<K, V, T>,
-) -> Result<(), ReserveError>
-    ensures values { OnOk result
-        ((key : K) → value_at K.eq target.new.pairs key
-        ≡ option_or (value_at K.eq others.old.pairs key) (value_at K.eq target.old.pairs key)) }
-    ensures touch { OnOk result
-        (target.old.mode ≡ Mode.Touch
-        → keys_of target.new.pairs
-        ≡ filter (λ key. not (is_some (find K.eq others.old.pairs key)))
-        (keys_of target.old.pairs)
-        ++ map (λ key. key_or key (find K.eq target.old.pairs key)) (keys_of others.old.pairs)) }
-    ensures emptied { OnOk result (others.new.pairs ≡ []) }
-    ensures room { OnOk result (others.new.capacity ≡ others.old.capacity) }
-    ensures unchanged { OnErr result (target.new ≡ target.old) }
-    ensures others_unchanged { OnErr result (others.new ≡ others.old) }
-{
-    target.append(others)?;
-    Ok(())
-}
-
 /// Makes a map of the pairs of a list, whose keys differ. There is room for them and for no more.
 /// Pairs are rehashed only as the capacity rises to that number, one by one from a lower one
 /// or from the number itself.

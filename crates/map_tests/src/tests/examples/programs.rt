@@ -6,7 +6,7 @@ use linked_hash_map::{LinkedHashMap, Mode};
 use std::alloc::Global;
 use std::fmt::Debug;
 use std::process::Abort;
-use uses::collecting::{collect_all, insert_all, insert_both, merge, move_all};
+use uses::collecting::{collect_all, insert_all, insert_both, merge};
 use uses::count::counts_of;
 use uses::document::{Document, copy_of, is_same};
 use uses::hasher::for_strangers;
@@ -300,19 +300,6 @@ fn maps_are_merged(rt: HostRuntime) {
     given!(rt; merge(&mut map, others));
     let list = given!(rt; into_list(rt.alloc(), map));
     check_eq!(rt; list.as_slice(), [(1, 11), (2, 21)].as_slice());
-}
-
-#[test]
-fn pairs_are_moved_into_a_map(rt: HostRuntime) {
-    let mut map = LinkedHashMap::new(rt.alloc());
-    let mut others = LinkedHashMap::new(rt.alloc());
-    let list = given!(rt; Vec::from_array(rt.alloc(), [(1, 10), (2, 20)]));
-    given!(rt; insert_all(&mut map, list));
-    check_eq!(rt; others.insert(1, 11), Ok(None));
-    given!(rt; move_all(&mut map, &mut others));
-    check_eq!(rt; others.len(), 0);
-    let list = given!(rt; into_list(rt.alloc(), map));
-    check_eq!(rt; list.as_slice(), [(2, 20), (1, 11)].as_slice());
 }
 
 #[test]
