@@ -1,4 +1,4 @@
-//! Tests of the map, the cache and the set that are no lines of `driver`, and of callers in `uses`.
+//! Tests of the map, the cache and the set that are no lines of `driver`.
 #![tactic(auto)]
 
 #[cfg(test)]

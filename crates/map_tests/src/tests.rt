@@ -1,5 +1,5 @@
 //! What no line of `driver` can be: keys of other types, callers with contracts, signatures, writers
-//! that fail, maps of many pairs, and the programs of `uses`.
+//! that fail, and maps of many pairs.
 
 mod absent_keys;
 mod borrowed;
@@ -10,7 +10,6 @@ mod compare;
 mod drains;
 mod entries;
 mod equivalents;
-mod examples;
 mod failing_checks;
 mod formats;
 mod growths;

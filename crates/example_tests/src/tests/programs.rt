@@ -1,7 +1,7 @@
 //! Each program except the caches and the replays, run once.
 ghost use Rattle.std.specs.Prelude.{◌≡◌, ◌∷◌, ◌*◌, ◌%◌, [], Ok};
 
-use super::super::support::checks::{check, check_eq, given};
+use super::support::checks::{check, check_eq, given};
 use linked_hash_map::{LinkedHashMap, Mode};
 use std::alloc::Global;
 use std::fmt::Debug;

@@ -2,7 +2,7 @@ use Rattle.std.proofs.Common.{nat_eq, refl, sym, subst}
 use Rattle.std.specs.List.{IsDistinct}
 use Rattle.std.specs.Map.{keys_of}
 use Rattle.std.specs.Prelude.{◌≡◌, ◌∷◌, [], IfOk}
-use Rattle.map_tests.proofs.tests.examples.programs.a_list_is_collected.Goals as goal
+use Rattle.example_tests.proofs.tests.programs.a_list_is_collected.Goals as goal
 
 pub collect_all-requires : goal.collect_all-requires
 unfolding IsDistinct

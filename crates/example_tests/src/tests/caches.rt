@@ -1,8 +1,8 @@
 //! The two caches, run once.
 ghost use Rattle.std.specs.Prelude.{◌≡◌};
 
-use super::super::support::checks::{check_eq, given};
 use super::programs::value_in;
+use super::support::checks::{check_eq, given};
 use std::alloc::Global;
 use std::process::Abort;
 use uses::cache::{Cache, reset};

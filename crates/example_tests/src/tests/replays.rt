@@ -1,8 +1,8 @@
 //! The programs that replay commands, run once.
 ghost use Rattle.std.specs.Prelude.{◌≡◌, ◌∷◌, []};
 
-use super::super::support::checks::{check_eq, given};
 use super::programs::{three_pairs, value_in};
+use super::support::checks::{check_eq, given};
 use linked_hash_map::LinkedHashMap;
 use linked_hash_map::replay::{Answer, Command, Reply};
 use std::alloc::Global;

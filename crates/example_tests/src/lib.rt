@@ -1,0 +1,5 @@
+//! Each program of `uses`, run once.
+#![tactic(auto)]
+
+#[cfg(test)]
+mod tests;

@@ -1,0 +1,6 @@
+//! The programs of `uses`.
+
+mod caches;
+mod programs;
+mod replays;
+mod support;

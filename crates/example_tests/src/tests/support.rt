@@ -1,0 +1,3 @@
+//! What the modules of tests share.
+
+pub mod checks;

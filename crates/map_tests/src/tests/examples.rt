@@ -1,5 +1,0 @@
-//! The programs of `uses`, each run once.
-
-mod caches;
-mod programs;
-mod replays;
