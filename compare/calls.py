@@ -100,6 +100,9 @@ OWN_MAP_CALLS = (
     ("move_before", 4, "key key"),
     ("move_after", 4, "key key"),
     ("rotate_left", 2, "count"),
+    ("sort_by", 3, "order"),
+    ("sort_by_key", 2, ""),
+    ("reverse", 2, ""),
     ("capacity", 2, ""),
     ("rechained", 1, ""),
     ("mode", 1, ""),
@@ -121,6 +124,7 @@ OWN_MAP_CALLS = (
     ("refused_texts", 1, "key value"),
 )
 RARE_OWN_MAP_CALLS = (
+    ("sort_keys", 1, ""),
     ("into_keys", 2, "steps forget"),
     ("into_values", 2, "steps forget"),
     ("from_iter_unhinted", 2, "pairs"),
@@ -221,6 +225,13 @@ RARE_SET_CALLS = (
 )
 OWN_SET_CALLS = (
     ("insert_if_absent", 6, "key"),
+    ("insert_front", 4, "key"),
+    ("move_before", 3, "key key"),
+    ("move_after", 3, "key key"),
+    ("iter_from", 2, "key steps steps"),
+    ("iter_back_from", 2, "key steps steps"),
+    ("sort_by", 3, "order"),
+    ("reverse", 2, ""),
     ("refresh", 4, "key"),
     ("capacity", 1, ""),
     ("fill", 2, "numbers set_fill"),
@@ -228,6 +239,8 @@ OWN_SET_CALLS = (
     ("refused_texts", 1, "key"),
 )
 RARE_OWN_SET_CALLS = (
+    ("sort", 1, ""),
+    ("append", 2, ""),
     ("emptied", 1, ""),
     ("made_with", 1, ""),
 )

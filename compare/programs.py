@@ -31,6 +31,11 @@ LIBRARIES = ("linked_hash_set", "lru_cache", "linked_hash_map", "lhm_ring", "equ
 PRODUCTS = ("cache_insert", "cache_hit", "set_insert", "set_contains", "set_iterate")
 BY_MAP = "_by_map"
 
+# The workloads of the calls that the original has not, which the twin has. The sort of a vector of
+# the pairs is timed beside the last.
+MOVES = ("move_beside", "iter_from", "sort")
+SORT_VECTOR = "sort_vector"
+
 # The workloads of small maps, the most pairs of one, and how many pairs tables have.
 SMALL = ("small_fill", "small_lookup", "small_iterate")
 MOST_PAIRS = 64

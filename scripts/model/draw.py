@@ -15,6 +15,8 @@ from program import NO_REFUSALS, Refusals, refusals_at
 
 # Letters of an entry's edits that the originals do not have, beside theirs.
 EDITS = "witrmk" + "bfepo"
+# What a sort goes by: an order and its reverse, and comparisons that are no orders.
+ORDERS = ("up", "up", "down", "less", "turn")
 # The kinds of runs, in turn.
 KINDS = (calls.MAPS, calls.CACHES, calls.MAPS, calls.SETS, calls.MAPS, calls.SESSIONS)
 # How many keys the runs of a batch have, in turn.
@@ -107,6 +109,8 @@ class Drawing(calls.Drawing):
             return rng.choice(EDITS)
         if form == "own_edits":
             return "".join(rng.choice(EDITS + "kk") for _ in range(rng.randrange(1, 7)))
+        if form == "order":
+            return rng.choice(ORDERS)
         if form == "mode":
             return rng.choice(("keep", "touch"))
         if form == "room" and rng.random() < 0.2:

@@ -88,17 +88,17 @@ def iter_values(call, map_):
     iterate_and_clone(call, map_, lambda pair: pair.value)
 
 
-def advance(call, pairs, letters, most):
+def advance(call, pairs, letters, most, show):
     """Makes a step for each letter by an iterator with one end, and shows what each gives and the
     hint of what is left. Returns the pairs left."""
     for _ in letters:
-        call.show(some(pair_text(pairs[0]) if pairs else None))
+        call.show(some(show(pairs[0]) if pairs else None))
         pairs = pairs[1:]
         call.show(f"(1, Some({most}))" if pairs else "(0, Some(0))")
     return pairs
 
 
-def iterate_from(call, map_, in_order):
+def iterate_from(call, map_, in_order, show=pair_text):
     """Iterates from the pair of a key on, and then by a clone and by the iterator itself."""
     key, letters, again = call.key(), call.word(), call.word()
     own = map_.find(key, call.effects)
@@ -107,10 +107,10 @@ def iterate_from(call, map_, in_order):
         return
     others = itertools.dropwhile(lambda pair: pair is not own, in_order(map_.pairs.values()))
     pairs = list(itertools.islice(others, len(letters) + len(again) + 1))
-    rest = advance(call, pairs, letters, len(map_))
-    advance(call, rest, again, len(map_))
+    rest = advance(call, pairs, letters, len(map_), show)
+    advance(call, rest, again, len(map_), show)
     call.show("/")
-    advance(call, rest, again, len(map_))
+    advance(call, rest, again, len(map_), show)
 
 
 def iter_from(call, map_):

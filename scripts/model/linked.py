@@ -246,6 +246,12 @@ class Linked:
             for _ in range(len(self.pairs) - count):
                 self.pairs.move_to_end(next(reversed(self.pairs)), last=False)
 
+    def reorder(self, pairs):
+        """Puts all pairs into another order."""
+        self.end_visit()
+        for pair in pairs:
+            self.pairs.move_to_end(pair.key.folded)
+
     def visit(self):
         """Begins a visit of every pair."""
         self.to_visit = list(reversed(self.pairs.values()))

@@ -7,6 +7,8 @@ import fills
 import iterators
 import making
 import replays
+import sorts
+from closures import Closure
 from linked import Refused
 from shown import pair_text, show_error, some, truth
 
@@ -167,19 +169,12 @@ def clear(call, map_):
     map_.clear(call.effects)
 
 
-class Keeping:
-    """The closure of `retain`: how often it was called, and what was dropped at the last call."""
+class Keeping(Closure):
+    """The closure of `retain`."""
 
     def __init__(self, call):
-        self.effects = call.effects
         self.number = call.number() % 7
-        self.calls = self.dropped = 0
-        call.effects.drop_closure(call.serial())
-
-    def note(self):
-        """Notes a call."""
-        self.calls += 1
-        self.dropped = self.effects.dropped()
+        super().__init__(call)
 
     def keeps_value(self, value):
         """Keeps a value that is not the number modulo 7, and adds the number of the call to it, in
@@ -189,11 +184,6 @@ class Keeping:
             return False
         value.write(value.number + self.calls)
         return True
-
-    def show(self, call):
-        """Shows both counts."""
-        call.show(self.calls)
-        call.show(self.dropped)
 
 
 def retain(call, map_):
@@ -278,7 +268,7 @@ LINES = {
     "mode": mode, "set_mode": set_mode, "capacity": capacity, "rechained": rechained,
     "reserve": reserve, "shrink_to_fit": shrink_to_fit, "fill": fills.fill,
     "refuse_clone": refuse_clone, **making.LINES, **comparing.LINES, **entries.LINES,
-    **iterators.LINES, **replays.LINES, **copies.LINES,
+    **iterators.LINES, **replays.LINES, **copies.LINES, **sorts.LINES,
 }
 # Lines that change no pair.
 READING = {
@@ -287,4 +277,5 @@ READING = {
     "partial_cmp", "hash", "debug", "debug_pretty", "new", "entry_key", "visit", "unvisited",
     "iter", "keys", "values", "loop", "new_with_capacity", "refuse_clone", "refused_texts",
     "pair_lists", "extend_copied_refs", "extend_trait_refs", "iter_from", "iter_back_from",
+    "sort_keys",
 }

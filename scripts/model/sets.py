@@ -5,10 +5,11 @@ import fills
 import iterators
 import making
 import maps
+import sorts
 from linked import Linked, Refused
 from memory import Memory, error_of, made
 from objects import UNIT, default_hasher, fold
-from shown import show_error, some, truth
+from shown import items_text, show_error, some, truth
 
 
 def show_refused(call, refused):
@@ -37,6 +38,11 @@ def show_new(call, is_new):
 
 def insert(call, set_):
     show_new(call, insert_item(call, set_, call.key()))
+
+
+def insert_front(call, set_):
+    old = set_.insert_front(call.key(), UNIT, call.effects)
+    show_new(call, old if isinstance(old, Refused) else old is None)
 
 
 def put_if_absent(call, set_, item):
@@ -231,6 +237,14 @@ def key_of(pair):
     return pair.key
 
 
+def iter_from(call, set_):
+    iterators.iterate_from(call, set_, iter, key_of)
+
+
+def iter_back_from(call, set_):
+    iterators.iterate_from(call, set_, reversed, key_of)
+
+
 def drain(call, set_):
     iterators.iterate_to_the_end(call, set_.take_all(), key_of)
 
@@ -245,7 +259,7 @@ def loop(call, set_):
 
 
 def debug(call, set_):
-    call.show("{" + ", ".join(str(pair.key) for pair in set_.pairs.values()) + "}")
+    call.show(items_text(set_.pairs.values()))
 
 
 def hash_all(call, set_):
@@ -379,8 +393,8 @@ def refused_texts(call, _set):
 
 
 LINES = {
-    "insert": insert, "insert_if_absent": insert_if_absent, "replace": replace,
-    "get_or_insert": get_or_insert, "get_or_insert_with": get_or_insert_with,
+    "insert": insert, "insert_front": insert_front, "insert_if_absent": insert_if_absent,
+    "replace": replace, "get_or_insert": get_or_insert, "get_or_insert_with": get_or_insert_with,
     "contains": contains, "get": get, "take": take, "remove": remove, "to_front": to_front,
     "to_back": to_back, "refresh": to_back, "front": front, "back": back, "pop_front": pop_front,
     "pop_back": pop_back, "retain": retain, "iter": iterators.iter_keys, "drain": drain,
@@ -389,15 +403,17 @@ LINES = {
     "symmetric_difference": operation(symmetric_difference_of),
     "intersection": operation(intersection_of), "union": operation(union_of),
     "is_subset": is_subset, "is_superset": is_superset, "is_disjoint": is_disjoint,
-    "fill": fill, "refused_texts": refused_texts,
+    "fill": fill, "refused_texts": refused_texts, "append": making.append,
+    "iter_from": iter_from, "iter_back_from": iter_back_from, **sorts.OF_SETS,
     **{name: making.making(line) for name, line in MAKING.items()},
     **{name: maps.LINES[name] for name in (
-        "len", "clear", "reserve", "shrink_to_fit", "capacity", "eq", "drop", "hasher")},
+        "len", "clear", "reserve", "shrink_to_fit", "capacity", "eq", "drop", "hasher",
+        "move_before", "move_after")},
 }
 # Lines that change no item.
 READING = {
     "contains", "get", "front", "back", "len", "reserve", "shrink_to_fit", "capacity", "eq",
     "hasher", "iter", "into_iter", "loop", "debug", "new", "hash", "difference",
     "symmetric_difference", "intersection", "union", "is_subset", "is_superset", "is_disjoint",
-    "refused_texts", "new_with_capacity",
+    "refused_texts", "new_with_capacity", "iter_from", "iter_back_from", "sort",
 }

@@ -39,6 +39,11 @@ def debug_text(pairs):
     return "{" + ", ".join(f"{pair.key}: {pair.value}" for pair in pairs) + "}"
 
 
+def items_text(pairs):
+    """Shows the keys of pairs as `Debug` shows a set."""
+    return "{" + ", ".join(str(pair.key) for pair in pairs) + "}"
+
+
 def show_error(call, error):
     """Shows the error of a call that reserves memory, if there is one."""
     if error:

@@ -5,11 +5,13 @@
 //! took, divided by the number of pairs, and the sum of what the rounds returned. Up to 64 pairs
 //! the workloads are those of small maps, many of N pairs each; with more they are those of one map
 //! of N pairs, of caches and of sets. PEER is `original`, which has maps and, by lru-cache, caches;
-//! `hashlink`, which has sets too; `indexmap`, which has small maps alone; or `twin`, which has
-//! maps alone. ORDER is `repeated` or `random`.
+//! `hashlink`, which has sets too, and a sort; `indexmap`, which has small maps and a sort alone;
+//! or `twin`, which has maps alone, and times the sort of a vector. ORDER is `repeated` or
+//! `random`.
 
 mod clock;
 mod hasher;
+mod moves;
 mod order;
 mod peer;
 mod products;
@@ -19,7 +21,7 @@ mod workloads;
 
 use hasher::Build;
 use order::{Order, Random, Repeated};
-use peer::{Map, Peer};
+use peer::{Map, Moves, Peer, Sort};
 use products::{Cache, Set};
 use small::{MAPS, MOST_PAIRS};
 use std::process::ExitCode;
@@ -124,6 +126,36 @@ fn bench_set<S: Set>(order: &mut impl Order, rounds: u64, n: u64) {
     });
 }
 
+/// Times each workload of the calls that the original has not, but for the sort.
+fn bench_moves<M: Moves>(order: &mut impl Order, rounds: u64, n: u64) {
+    order.restart();
+    let mut map: M = small::fill(0, n);
+    time("move_beside", rounds, n, || {
+        timed(|| moves::move_beside(&mut map, order, n))
+    });
+    time("iter_from", rounds, n, || {
+        timed(|| moves::iter_from(&map, order, n))
+    });
+}
+
+/// Times a sort.
+fn bench_sort<M: Sort>(order: &mut impl Order, rounds: u64, n: u64) {
+    let mut map: M = small::fill(0, n);
+    time("sort", rounds, n, || {
+        moves::unsort(&mut map, order, n);
+        timed(|| moves::sort(&mut map))
+    });
+}
+
+/// Times the sort of a vector of the pairs of a map.
+fn bench_sort_vector<M: Sort>(order: &mut impl Order, rounds: u64, n: u64) {
+    let mut map: M = small::fill(0, n);
+    time("sort_vector", rounds, n, || {
+        moves::unsort(&mut map, order, n);
+        timed(|| moves::sort_vector(&map))
+    });
+}
+
 /// Times what a peer has at a size, in an order.
 fn bench(peer: &str, order: &mut impl Order, rounds: u64, n: u64) {
     match peer {
@@ -139,8 +171,15 @@ fn bench(peer: &str, order: &mut impl Order, rounds: u64, n: u64) {
             bench_map::<Hashlink>(order, rounds, n);
             bench_cache::<HashlinkCache>(order, rounds, n);
             bench_set::<HashlinkSet>(order, rounds, n);
+            bench_sort::<Hashlink>(order, rounds, n);
         }
-        "twin" => bench_map::<Twin>(order, rounds, n),
+        "indexmap" => bench_sort::<Indexmap>(order, rounds, n),
+        "twin" => {
+            bench_map::<Twin>(order, rounds, n);
+            bench_moves::<Twin>(order, rounds, n);
+            bench_sort::<Twin>(order, rounds, n);
+            bench_sort_vector::<Twin>(order, rounds, n);
+        }
         _ => {}
     }
 }

@@ -3,14 +3,15 @@
 //! `bench ORDER [WORKLOAD] ROUNDS N ..` prints for each size N a line `workload n ns_per_op check`
 //! for each workload, or for the one that is named: the nanoseconds of processor time of this
 //! thread that the best of the rounds took, divided by the number of pairs, and the sum of what the
-//! rounds returned. Up to 64 pairs the workloads are those of small maps, many of N pairs each; with
-//! more they are those of one map, cache or set of N. ORDER is `repeated` or `random`. With no
+//! rounds returned. Up to 64 pairs the workloads are those of small maps, many of N pairs each;
+//! with more they are those of one map, cache or set of N. ORDER is `repeated` or `random`. With no
 //! arguments it prints how it is called.
 #![tactic(auto)]
 
 ghost use Rattle.std.specs.Prelude.{◌≡◌, ◌<◌, ◌*◌, ◌/◌, ◌^◌};
 
 mod arguments;
+mod moves;
 mod order;
 mod products;
 mod small;
@@ -107,6 +108,10 @@ fn bench<C: CpuClock, O: Order, W: Write>(
     let mut held = Held::new(alloc);
     for workload in Workload::ALL {
         if workload.is_done_at(n) {
+            // The peers do not do all of those before it.
+            if workload == Workload::MoveBeside {
+                order.restart();
+            }
             if only.is_none() || only == Some(workload) {
                 time(clock, alloc, output, workload, &mut held, order, rounds, n)?;
             }

@@ -16,6 +16,9 @@ pub trait Order {
 
     /// Tells whether no round repeats another.
     fn is_random(&self) -> bool;
+
+    /// Begins anew, so that what follows does not depend on what was done before.
+    fn restart(&mut self);
 }
 
 /// Each round does the same: it looks the keys up in one scattered order, and takes a list of keys
@@ -39,6 +42,8 @@ impl Order for Repeated {
     fn is_random(&self) -> bool {
         false
     }
+
+    fn restart(&mut self) {}
 }
 
 /// Each key is drawn, and a new map has keys that no other has.
@@ -76,6 +81,10 @@ impl Order for Random {
 
     fn is_random(&self) -> bool {
         true
+    }
+
+    fn restart(&mut self) {
+        self.drawn = 0;
     }
 }
 

@@ -1,6 +1,7 @@
 //! The workloads: what is done with a map, a cache or a set of `n` pairs or items, once.
 ghost use Rattle.std.specs.Prelude.{◌<◌};
 
+use super::moves::{iter_from, move_beside, sort, unsort};
 use super::order::{Order, mix};
 use super::products::{
     Cache, CacheMap, Set, SetMap, cache_hit, cache_map_hit, fill_cache, fill_cache_map, fill_set,
@@ -60,6 +61,12 @@ pub enum Workload {
     SetInsertByMap,
     SetContainsByMap,
     SetIterateByMap,
+    /// Moves the pair of each key right before that of another.
+    MoveBeside,
+    /// Goes over ten pairs from each key on.
+    IterFrom,
+    /// Sorts the pairs by their keys.
+    Sort,
 }
 
 /// What the workloads are done on. All except one are empty.
@@ -108,6 +115,10 @@ impl Held {
                 self.cache_map = LinkedHashMap::new(alloc);
                 self.set_map = fill_set_map(alloc, 0, n)?;
             }
+            Workload::SetIterateByMap => {
+                self.set_map = LinkedHashMap::new(alloc);
+                self.map = fill(alloc, 0, n)?;
+            }
             _ => {}
         }
         Ok(())
@@ -116,7 +127,7 @@ impl Held {
 
 impl Workload {
     /// All workloads, in the order in which they are timed.
-    pub const ALL: [Workload; 23] = [
+    pub const ALL: [Workload; 26] = [
         Workload::SmallFill,
         Workload::SmallLookup,
         Workload::SmallIterate,
@@ -140,6 +151,9 @@ impl Workload {
         Workload::SetInsertByMap,
         Workload::SetContainsByMap,
         Workload::SetIterateByMap,
+        Workload::MoveBeside,
+        Workload::IterFrom,
+        Workload::Sort,
     ];
 
     /// Returns the word that names the workload in the output.
@@ -168,6 +182,9 @@ impl Workload {
             Workload::SetInsertByMap => "set_insert_by_map",
             Workload::SetContainsByMap => "set_contains_by_map",
             Workload::SetIterateByMap => "set_iterate_by_map",
+            Workload::MoveBeside => "move_beside",
+            Workload::IterFrom => "iter_from",
+            Workload::Sort => "sort",
         }
     }
 
@@ -199,10 +216,15 @@ impl Workload {
     }
 
     /// Prepares a round. In random order the map that is cloned gets other keys, so that no two
-    /// clones are alike.
-    pub fn prepare<O: Order>(self, held: &mut Held, order: &O, n: u64) -> Result<(), AllocError> {
+    /// clones are alike. The pairs that are sorted are put in another order.
+    pub fn prepare<O: Order>(self, held: &mut Held, order: &mut O, n: u64) -> Result<(), AllocError>
+        requires { 0 < n }
+    {
         if self == Workload::Clone && order.is_random() {
             lru_cycle(&mut held.map, n)?;
+        }
+        if self == Workload::Sort {
+            unsort(&mut held.map, order, n);
         }
         Ok(())
     }
@@ -247,6 +269,9 @@ impl Workload {
             Workload::SetInsertByMap => Ok(fill_set_map(alloc, order.start(), n)?.len() as u64),
             Workload::SetContainsByMap => Ok(set_map_contains(&held.set_map, order, n)),
             Workload::SetIterateByMap => Ok(set_map_iterate(&held.set_map)),
+            Workload::MoveBeside => Ok(move_beside(&mut held.map, order, n)),
+            Workload::IterFrom => Ok(iter_from(&held.map, order, n)),
+            Workload::Sort => Ok(sort(&mut held.map)),
         }
     }
 }
@@ -301,7 +326,8 @@ fn iterate(map: &Map) -> u64 {
     sink
 }
 
-fn get_refresh<O: Order>(map: &mut Map, order: &mut O, n: u64) -> u64
+/// Moves `n` pairs to the back, and returns the exclusive or of their values.
+pub fn get_refresh<O: Order>(map: &mut Map, order: &mut O, n: u64) -> u64
     requires { 0 < n }
 {
     let mut sink = 0;

@@ -1,4 +1,5 @@
-pub mod Fronts
-pub mod Named
-pub mod Pushed
+pub mod Grouped
+pub mod Known
+pub mod Numbers
+pub mod Sets
 pub mod Ways

@@ -1,6 +1,5 @@
 -- Ways up a stair.
-use Rattle.std.specs.Prelude.{◌≡◌, ℕ, ◌+◌, ◌-◌, ◌^◌, zero, suc, List, Some, min, nat_eq}
-use Rattle.linked_hash_map.specs.Pairs.{value_at}
+use Rattle.std.specs.Prelude.{◌≡◌, ℕ, ◌+◌, ◌-◌, ◌^◌, zero, suc, List, All, min}
 
 -- in how many ways a stair is climbed by steps of one and of two
 unfoldable pub ways : ℕ → ℕ
@@ -14,4 +13,4 @@ ways_u64 n = min (ways n) (2 ^ 64 - 1)
 
 -- each stored number of ways is right
 abbrev pub AllRight : List (ℕ × ℕ) → Type 0
-AllRight pairs = (stairs stored : ℕ) → value_at nat_eq pairs stairs ≡ Some stored → stored ≡ ways_u64 stairs
+AllRight pairs = All (λ pair. pair.1 ≡ ways_u64 pair.0) pairs

@@ -1,8 +1,15 @@
 //! Programs of callers who know the documents of the libraries alone.
 #![tactic(auto)]
 
+pub mod clocks;
+pub mod groups;
+#[tactic(auto, using(lru_cache::proofs::Callers::Rules::number_pairs))]
 pub mod history;
+pub mod parsed;
+pub mod seen;
 pub mod settings;
+#[tactic(auto, using(crate::proofs::Ways::steps))]
 pub mod stairs;
+#[tactic(auto, using(linked_hash_map::proofs::Callers::Rules::moved_to_front))]
 pub mod switcher;
 pub mod tally;

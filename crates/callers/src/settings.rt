@@ -42,7 +42,7 @@ impl Settings {
     pub fn set(&mut self, name: String, value: u64) -> Result<(), Refused<String, u64>>
         ensures here { OnOk result (setting self.new.overrides.pairs self.new.defaults.pairs
             (string_bytes name) ≡ Some value) }
-        ensures others { (other : List ℕ) → OnOk result (names other name ≡ false
+        ensures others { (other : List ℕ) → OnOk result (bytes_eq (string_bytes name) other ≡ false
             → setting self.new.overrides.pairs self.new.defaults.pairs other
             ≡ setting self.old.overrides.pairs self.old.defaults.pairs other) }
         ensures unchanged { OnErr result (self.new ≡ self.old) }

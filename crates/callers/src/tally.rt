@@ -1,9 +1,9 @@
 //! Words and how often they come.
-ghost use Rattle.std.specs.Prelude.{◌≡◌, ◌≤◌, ℕ, List, All, unwrap_or, IfOk, IfSome, IsNone, []};
-ghost use Rattle.std.specs.List.{count_by, Contains};
+ghost use Rattle.std.specs.Prelude.{◌≡◌, ◌+◌, ◌<◌, ◌≤◌, ◌^◌, ℕ, List, All, Some, string_eq, IfOk, IfSome, IsNone, OnOk, []};
+ghost use Rattle.std.specs.List.{Contains};
 ghost use Rattle.std.specs.Map.{values_of};
-ghost use Rattle.std.specs.Str.{bytes_eq};
-ghost use Rattle.linked_hash_map.specs.Pairs.{value_at};
+ghost use Rattle.linked_hash_map.specs.Updates.{UpdatesBy};
+ghost use Rattle.callers.specs.Tally.{count_of, times};
 ghost use Rattle.callers.specs.Texts.{names};
 
 use linked_hash_map::LinkedHashMap;
@@ -12,18 +12,32 @@ use std::alloc::{AllocError, Global};
 /// Counts the words of a text. A word is copied when it first comes.
 pub fn tally(alloc: Global, words: &[&str]) -> Result<LinkedHashMap<String, u64>, AllocError>
     ensures { IfOk result (λ counts. (word : List ℕ)
-        → unwrap_or (value_at names counts.pairs word) 0
-        ≡ count_by (λ other. bytes_eq word other.now) words.now) }
+        → count_of counts.pairs word ≡ times word words.now) }
 {
     let mut counts = LinkedHashMap::new(alloc);
     for word in words {
-        if let Some(count) = counts.get_mut(*word) {
-            *count += 1;
-            continue;
-        }
-        counts.insert(word.to_string(alloc)?, 1)?;
+        count(alloc, &mut counts, word)?;
     }
     Ok(counts)
+}
+
+/// Counts one word more.
+fn count(
+    alloc: Global,
+    counts: &mut LinkedHashMap<String, u64>,
+    word: &str,
+) -> Result<(), AllocError>
+    requires fits { count_of counts.old.pairs word.now + 1 < 2 ^ 64 }
+    ensures counted { OnOk result
+        (UpdatesBy string_eq counts.old.pairs counts.new.pairs (names word.now)
+        (Some (count_of counts.old.pairs word.now + 1))) }
+{
+    if let Some(count) = counts.get_mut(word) {
+        *count += 1;
+        return Ok(());
+    }
+    counts.insert(word.to_string(alloc)?, 1)?;
+    Ok(())
 }
 
 /// Returns the largest count.

@@ -1,8 +1,8 @@
 //! Prints each line of standard input once: at its first appearance, or with `--last` at its last.
 //! With `--window N` it prints each line that is not among the last N distinct lines before it.
 //!
-//! A line is bytes up to a line feed, as `awk '!seen[$0]++'` has it. The lines that have come are in
-//! a set, where a line is looked up by its bytes, without a copy of it.
+//! A line is bytes up to a line feed, as `awk '!seen[$0]++'` has it. The lines that have come are
+//! in a set, where a line is looked up by its bytes, without a copy of it.
 //!
 //! The set's hasher has a random seed, so whoever writes the input cannot choose lines that
 //! collide.
@@ -105,9 +105,9 @@ fn run_and_report<S: BuildHasher + Drop, R: BufRead, W: Write, F: Write>(
 /// The lines are hashed by `hasher`, and the output does not depend on it. Returns the exit status
 /// of the program.
 ///
-/// The status is 0 for a run, 2 if the arguments are wrong, 3 if memory is refused, and 4 if reading
-/// or writing fails. A status other than 0 is explained by a line on `faults`, except at a closed
-/// pipe. If it is 3 or 4, a part of the output may be written.
+/// The status is 0 for a run, 2 if the arguments are wrong, 3 if memory is refused, and 4 if
+/// reading or writing fails. A status other than 0 is explained by a line on `faults`, except at a
+/// closed pipe. If it is 3 or 4, a part of the output may be written.
 pub fn run<S: BuildHasher + Drop, R: BufRead, W: Write, F: Write>(
     alloc: Global,
     hasher: S,

@@ -14,7 +14,7 @@ use std::hash::BuildHasher;
 type Ordered<'a> = LinkedHashMap<OrderedKey<'a>, Value<'a>>;
 
 /// Makes a map of the same pairs whose keys are compared as they are.
-fn ordered<'a>(alloc: Global, map: &Map<'a>, output: &mut Output<'a>) -> Ordered<'a> {
+pub fn ordered<'a>(alloc: Global, map: &Map<'a>, output: &mut Output<'a>) -> Ordered<'a> {
     let mut ordered = Ordered::new(alloc);
     for (key, value) in map.iter() {
         output.note(ordered.insert(key.ordered(), value.copy()));

@@ -154,7 +154,8 @@ impl Counts {
         self.refused_clone.set(number);
     }
 
-    /// Returns whether a clone is to be refused. Called once for each, counts it if a window is open.
+    /// Returns whether a clone is to be refused. Called once for each, counts it if a window is
+    /// open.
     pub fn refuses_clone(&self) -> bool {
         let left = self.refused_clone.get();
         if left == 0 || !self.is_counting() {

@@ -80,7 +80,8 @@ fn replace_key<'a>(entry: &mut Occupied<'_, 'a>, key: Key<'a>, output: &mut Outp
     output.show_key(entry.replace_key(key));
 }
 
-/// Moves the pair of an entry to the back at `b` or to the front at `f`, or replaces its key at `p`.
+/// Moves the pair of an entry to the back at `b` or to the front at `f`, or replaces its key at
+/// `p`.
 fn edit_place_or_key<'a>(entry: &mut Occupied<'_, 'a>, edit: &Edit<'a>, output: &mut Output<'a>) {
     match edit.letter {
         b'b' => entry.move_to_back(),
@@ -100,8 +101,9 @@ pub fn edit_in_place<'a>(
     edit_place_or_key(entry, edit, output);
 }
 
-/// Shows an entry that is bound to a name, and makes an edit by it: a removal at `r` or `e`, a write
-/// to what the entry turns into at `m`, one in place, or at `o` none, and the entry is forgotten.
+/// Shows an entry that is bound to a name, and makes an edit by it: a removal at `r` or `e`, a
+/// write to what the entry turns into at `m`, one in place, or at `o` none, and the entry is
+/// forgotten.
 macro_rules! edit_occupied {
     ($entry:ident, $edit:expr, $output:expr) => {
         $output.show_pair($entry.key(), $entry.get());

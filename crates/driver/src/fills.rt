@@ -141,7 +141,8 @@ fn fill_one_by_one<'a>(
     output.show(&count);
 }
 
-/// Takes in the pairs of an iterator by the call of this name, and returns whether there was memory.
+/// Takes in the pairs of an iterator by the call of this name, and returns whether there was
+/// memory.
 fn take_in<'a>(
     alloc: Global,
     call: &str,

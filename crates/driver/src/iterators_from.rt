@@ -5,8 +5,8 @@ use super::line::Line;
 use super::output::Output;
 use std::fmt::Debug;
 
-/// Makes a step for each letter, and appends what each gives and the hint of what is left. Each step
-/// is within a window.
+/// Makes a step for each letter, and appends what each gives and the hint of what is left. Each
+/// step is within a window.
 fn advance<T: Debug + Drop, I: Iterator<Item = T>>(
     items: &mut I,
     steps: &str,
@@ -22,7 +22,7 @@ fn advance<T: Debug + Drop, I: Iterator<Item = T>>(
 }
 
 /// Iterates, clones the iterator, and iterates by the clone and then by the iterator itself.
-fn advance_and_clone<T: Debug + Drop, I: Iterator<Item = T> + Clone + Drop>(
+pub fn advance_and_clone<T: Debug + Drop, I: Iterator<Item = T> + Clone + Drop>(
     found: Option<I>,
     line: &mut Line<'_>,
     output: &mut Output<'_>,

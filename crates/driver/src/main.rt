@@ -47,8 +47,10 @@ mod sessions;
 mod set_fills;
 mod set_making;
 mod set_operations;
+mod set_order;
 mod set_refused_texts;
 mod sets;
+mod sorts;
 mod stop;
 mod value;
 mod visits;
@@ -148,6 +150,7 @@ fn run_on_map<'a>(
         || run_on_entries(alloc, name, line, map, output)
         || iterators::run(alloc, name, line, map, output)
         || iterators_from::run(name, line, map, output)
+        || sorts::run(alloc, name, line, map, output)
         || comparisons::run(alloc, name, line, map, other, output)
         || run_on_many(alloc, name, line, map, output);
     if is_known {
@@ -184,9 +187,9 @@ fn run_call<'a>(
         }
     } else if let Some(name) = name_of_set_call(name) {
         if is_b {
-            sets::run(alloc, name, line, &mut all.set_b, &all.set_a, output)
+            sets::run(alloc, name, line, &mut all.set_b, &mut all.set_a, output)
         } else {
-            sets::run(alloc, name, line, &mut all.set_a, &all.set_b, output)
+            sets::run(alloc, name, line, &mut all.set_a, &mut all.set_b, output)
         }
     } else if let Some(name) = name.strip_prefix("sessions_") {
         if is_b {

@@ -7,7 +7,9 @@ ghost use Rattle.std.specs.Ordering.{on, nat_cmp, as_partial_cmp};
 ghost use Rattle.std.proofs.Common.{rules};
 
 use super::counts::{Counts, Event};
+use super::key::write_text;
 use std::cmp::Ordering;
+use std::fmt;
 use std::hash::{Hash, Hasher};
 
 /// The text of a key as a number, by which it is compared. Its drop is not counted.
@@ -73,5 +75,12 @@ impl<'a> Hash for OrderedKey<'a> {
     fn hash<H: Hasher>(&self, state: &mut H) {
         self.counts.count(Event::HashKey);
         state.write_u64(self.number);
+    }
+}
+
+/// The text alone.
+impl<'a> fmt::Debug for OrderedKey<'a> {
+    fn fmt<W: fmt::Write>(&self, f: &mut fmt::Formatter<W>) -> fmt::Result {
+        write_text(u64::to_be_bytes(self.number), f)
     }
 }

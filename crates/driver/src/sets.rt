@@ -7,7 +7,7 @@ use super::line::Line;
 use super::list::list_items;
 use super::output::Output;
 use super::retaining::Calls;
-use super::{set_making, set_operations, set_refused_texts};
+use super::{set_making, set_operations, set_order, set_refused_texts};
 use linked_hash_set::LinkedHashSet;
 use std::alloc::Global;
 
@@ -144,7 +144,7 @@ pub fn run<'a>(
     name: &str,
     line: &mut Line<'a>,
     set: &mut Set<'a>,
-    other: &Set<'a>,
+    other: &mut Set<'a>,
     output: &mut Output<'a>,
 ) -> bool {
     let is_known = set_making::run(alloc, name, line, set, other, output)
@@ -152,6 +152,7 @@ pub fn run<'a>(
         || run_on_items(name, line, set, output)
         || run_on_all(name, line, set, output)
         || set_making::run_on_whole(alloc, name, line, set, output)
+        || set_order::run(alloc, name, line, set, other, output)
         || set_operations::run(name, line, set, other, output);
     if is_known {
         list_items(set.iter(), output);

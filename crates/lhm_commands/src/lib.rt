@@ -1,5 +1,5 @@
-//! The text of `lhm`: its input, the commands that lines say, the lines of replies and of a list, and
-//! why a run stops.
+//! The text of `lhm`: its input, the commands that lines say, the lines of replies and of a list,
+//! and why a run stops.
 #![tactic(auto)]
 
 mod grammar;

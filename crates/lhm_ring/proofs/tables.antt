@@ -4,6 +4,7 @@ pub mod MergedRuns
 pub mod Merging
 pub mod Positions
 pub mod Retained
+pub mod Reversed
 pub mod Rotated
 pub mod SortedRuns
 pub mod TableValues

@@ -185,7 +185,8 @@ impl<K, V> Index<K, V> {
         }
     }
 
-    /// Returns whether the vectors have room for `count` buckets, as they have for 8 if there is one.
+    /// Returns whether the vectors have room for `count` buckets, as they have for 8 if there is
+    /// one.
     pub(crate) fn has_room(&self, count: usize) -> bool
         ensures some { IsTrue result → 0 < length self.now.heads }
         ensures few { IsTrue result → count ≤ 8 }
@@ -235,8 +236,8 @@ impl<K, V> Index<K, V> {
         (self.words[bucket].bits >> ((hash >> 60) as u32)) & 1 == 1
     }
 
-    /// Makes a node with this hash the head of its bucket, sets the bit of the hash, and returns the
-    /// old head.
+    /// Makes a node with this hash the head of its bucket, sets the bit of the hash, and returns
+    /// the old head.
     pub(crate) fn put_first(&mut self, bucket: usize, hash: u64, head: Link) -> Link
         requires of_hash { bucket ≡ hash % length self.old.heads }
         requires within { bucket < length self.old.heads }

@@ -13,8 +13,8 @@ use std::marker::Model;
 /// How many chunks of two nodes lie in the value itself.
 const INLINE: usize = 4;
 
-/// The chunks of a ring, oldest first. It keeps the first four of two nodes in the value itself, and
-/// allocates a list for the others.
+/// The chunks of a ring, oldest first. The first four, if each has two nodes, lie in the value
+/// itself; for the others it allocates a list.
 ///
 /// It is not `Drop`: only `destroy_empty` ends it.
 pub(crate) struct Chunks {
@@ -48,7 +48,8 @@ impl Chunks {
         }
     }
 
-    /// Allocates a chunk of `places` unused places, adds it, and returns the first place.
+    /// Allocates a chunk of `places` unused places, adds it, and returns the first place. If that
+    /// fails, the chunks stay as they were.
     pub(crate) fn allocate<K, V>(
         &mut self,
         nodes: &mut Nodes<Links, K, V>,

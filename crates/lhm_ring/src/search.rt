@@ -117,8 +117,8 @@ impl<K: Eq + Hash, V> Index<K, V> {
         self.search_on(ring, Reached::new(head), hash, key)
     }
 
-    /// Follows the rest of a chain to the node with the key. Every search of a chain reads the nodes
-    /// here, except the first one in `begin`.
+    /// Follows the rest of a chain to the node with the key. Every search of a chain reads the
+    /// nodes here, except the first one in `begin`.
     pub(crate) fn search_on<Q: Equivalent<K>>(
         &self,
         ring: &Ring<K, V>,

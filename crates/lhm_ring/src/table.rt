@@ -1,5 +1,5 @@
 //! Pairs in insertion order with a hash index of their keys.
-ghost use Rattle.std.specs.Prelude.{◌≡◌, ℕ, ◌+◌, ◌-◌, ◌*◌, ◌<◌, ◌≤◌, max, ◌^◌, ◌++◌, ◌∷◌, [], length, take, drop, map, remove, slice_get, Some, None, IfOk, IsOk, IfSome, IfNone, OnSome, IsTrue, IsFalse};
+ghost use Rattle.std.specs.Prelude.{◌≡◌, ℕ, ◌+◌, ◌-◌, ◌*◌, ◌<◌, ◌≤◌, max, ◌^◌, ◌++◌, ◌∷◌, [], length, take, drop, map, remove, reverse, slice_get, Some, None, IfOk, IsOk, IfSome, IfNone, OnSome, IsTrue, IsFalse};
 ghost use Rattle.lhm_ring.specs.Nodes.{IsApart};
 ghost use Rattle.lhm_ring.specs.Ring.{IsHeld, AtHeld, first_at, last_at, held, pair, rekeyed};
 ghost use Rattle.lhm_ring.specs.Pointer.{pointer_of, pointer_of_some};
@@ -273,6 +273,20 @@ impl<K, V> Table<K, V> {
             self.move_fronts(count);
         } else {
             self.move_backs(others);
+        }
+    }
+
+    /// Reverses the order of the pairs, in O(n). Positions stay.
+    pub fn reverse(&mut self)
+        ensures reversed { self.new.held ≡ reverse self.old.held }
+        ensures keeps { KeepsCounts self.old self.new }
+    {
+        let len = self.len();
+        let mut next = self.first();
+        for _moved in 0..len {
+            let at = next.unwrap();
+            next = self.next(at);
+            self.move_to_front(at);
         }
     }
 

@@ -2,10 +2,12 @@
 -- contracts, and never of how a map is kept. What a lemma takes of these stands in this order: laws
 -- of `eq` or functions as `eq`, mode, lists or maps, keys, values, numbers, premises.
 pub mod Appended
+pub mod Arranged
 pub mod Beside
 pub mod Collected
 pub mod Counted
 pub mod Counts
+pub mod Cuts
 pub mod Dense
 pub mod EachPair
 pub mod Ends
@@ -19,11 +21,13 @@ pub mod Keys
 pub mod Lookups
 pub mod Merges
 pub mod Moves
+pub mod Permuted
 pub mod ReplacedKeys
 pub mod Replay
 pub mod Retained
 pub mod Rounds
 pub mod Rules
+pub mod Sessions
 pub mod Texts
 pub mod Turns
 pub mod Updates

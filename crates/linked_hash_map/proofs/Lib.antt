@@ -1,7 +1,7 @@
 pub mod Callers
-pub mod lists
-pub mod log
-pub mod nodes
-pub mod pairs
-pub mod runs
-pub mod session_table
+mod lists
+mod log
+mod nodes
+mod pairs
+mod runs
+mod session_table

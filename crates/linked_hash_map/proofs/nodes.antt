@@ -17,6 +17,7 @@ pub mod NodesFrom
 pub mod Outside
 pub mod PushedPair
 pub mod PutPair
+pub mod Reordered
 pub mod ReplacedKey
 pub mod Retained
 pub mod Rotated

@@ -37,11 +37,12 @@
 //!   `set_mode(Mode::Keep)` a present key keeps its place. `replace_key` stores a key in place of
 //!   one that is the same.
 //! - Look up: `get`, `get_key_value`, `get_mut`, `contains_key`, `map[&key]`, `front`, `back`,
-//!   `front_mut`, `back_mut`, or `get_refresh`, which moves the pair to the back. [`Equivalent`] has
-//!   what a lookup takes: a reference to a key, or `&str` for a `String`.
+//!   `front_mut`, `back_mut`, or `get_refresh`, which moves the pair to the back. [`Equivalent`]
+//!   has what a lookup takes: a reference to a key, or `&str` for a `String`.
 //! - Remove: `remove`, `remove_entry`, `pop_front`, `pop_back`, `retain`, `clear`, `drain`, or by
 //!   `front_entry` or `back_entry`.
-//! - Reorder: `move_to_back`, `move_to_front`, `move_before`, `move_after`, `rotate_left`.
+//! - Reorder: `move_to_back`, `move_to_front`, `move_before`, `move_after`, `rotate_left`,
+//!   `reverse`, `sort_by`, `sort_by_key`, `sort_keys`.
 //! - Iterate: `iter`, `iter_mut`, `keys`, `values`, `values_mut`, `into_iter`, `into_keys`,
 //!   `into_values`; `iter_from` or `iter_back_from` from the pair of a key on; `entries` or `visit`
 //!   to remove or move pairs on the way.

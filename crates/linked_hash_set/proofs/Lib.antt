@@ -1,4 +1,5 @@
 pub mod Callers
+pub mod Compared
 pub mod Drained
 pub mod Kept
 pub mod LentBack

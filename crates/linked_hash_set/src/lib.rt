@@ -32,15 +32,17 @@
 //! # Calls by task
 //!
 //! - Create: `new`, `with_capacity`, `with_hasher`, `from_iter`, `clone`.
-//! - Insert: `insert`, `extend`, `get_or_insert` and `get_or_insert_with`, which move a present item
-//!   to the back; `insert_if_absent` and `replace`, which leave it in its place.
+//! - Insert: `insert`, `extend`, `get_or_insert` and `get_or_insert_with`, which move a present
+//!   item to the back; `insert_front`, which moves it to the front; `insert_if_absent` and
+//!   `replace`, which leave it in its place. `append` moves all items of another set.
 //! - Look up: `contains`, `get`, `front`, `back`. [`Equivalent`] has what a lookup takes: a
 //!   reference to an item, or `&str` for a `String`.
 //! - Remove: `remove`, `take`, `pop_front`, `pop_back`, `retain`, `clear`, `drain`.
-//! - Reorder: `to_back`, `refresh`, `to_front`.
+//! - Reorder: `to_back`, `refresh`, `to_front`, `move_before`, `move_after`, `reverse`, `sort`,
+//!   `sort_by`.
 //! - Operate on two sets: `difference`, `symmetric_difference`, `intersection`, `union`,
 //!   `is_subset`, `is_superset`, `is_disjoint`, `==`.
-//! - Iterate: `iter`, `into_iter`.
+//! - Iterate: `iter`, `into_iter`; `iter_from` or `iter_back_from` from an item on.
 //! - Memory: `capacity`, `reserve`, `shrink_to_fit`.
 //!
 //! # The two originals
@@ -65,4 +67,4 @@ pub use drain::Drain;
 pub use error::Refused;
 pub use linked_hash_map::{DefaultHashBuilder, Equivalent, LIMIT, NoRoom, ReserveError};
 pub use operations::{Difference, Intersection, SymmetricDifference, Union};
-pub use set::{IntoIter, Iter, LinkedHashSet};
+pub use set::{IntoIter, Iter, IterBackFrom, IterFrom, LinkedHashSet};

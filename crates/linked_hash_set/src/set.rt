@@ -4,6 +4,7 @@
 ghost use Rattle.std.specs.Prelude.{◌≡◌, ◌==◌, length};
 ghost use Rattle.linked_hash_set.specs.Validity.{IsValid};
 
+mod append;
 mod capacity;
 mod clone;
 mod collect;
@@ -12,10 +13,13 @@ mod create;
 mod get;
 mod insert;
 mod iter;
+mod iter_from;
 mod order;
 mod remove;
+mod sort;
 
 pub use self::iter::{IntoIter, Iter};
+pub use self::iter_from::{IterBackFrom, IterFrom};
 use linked_hash_map::{DefaultHashBuilder, LinkedHashMap};
 use std::hash::{BuildHasher, Hash};
 use std::marker::Model;
@@ -29,11 +33,11 @@ use std::marker::Model;
 ///
 /// - Only calls that return a `Result` allocate. An error changes nothing, except that an extension
 ///   keeps what it inserted before. Nothing panics.
-/// - A call that is handed no item hashes and compares none, except `clone`, comparisons, `hash`
-///   and the calls on two sets.
+/// - A call that is handed no item hashes and compares none, except `clone`, sorts, comparisons,
+///   `hash` and the calls on two sets, among them `append`.
 /// - Costs are averages: if all items hash alike, each lookup and each removal is O(n).
-/// - Only insertions, `reserve` and `shrink_to_fit` change the capacity, and no removal frees
-///   memory.
+/// - Only insertions, `append`, `reserve` and `shrink_to_fit` change the capacity, and no removal
+///   frees memory.
 ///
 /// # Examples
 ///

@@ -1,5 +1,5 @@
-//! What no line of `driver` can be: keys of other types, callers with contracts, signatures, writers
-//! that fail, and maps of many pairs.
+//! What no line of `driver` can be: keys of other types, callers with contracts, signatures,
+//! writers that fail, and maps of many pairs.
 
 mod absent_keys;
 mod borrowed;

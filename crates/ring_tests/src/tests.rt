@@ -4,4 +4,5 @@ mod growths;
 mod index;
 mod refusals;
 mod rings;
+mod sorts;
 mod support;

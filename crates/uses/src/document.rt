@@ -1,6 +1,8 @@
 //! A document: fields with names, in order.
-ghost use Rattle.std.specs.Prelude.{◌≡◌, ◌∷◌, ◌++◌, [], Some, None, IsSome, IsTrue, IsFalse, map, if◌then◌else◌, option_copied, false, IfOk, OnOk, OnErr, IfErr};
+ghost use Rattle.std.specs.Prelude.{◌≡◌, ◌∷◌, ◌++◌, [], Some, None, IsSome, IsTrue, IsFalse, map, if◌then◌else◌, option_copied, false, reverse, IfOk, OnOk, OnErr, IfErr};
 ghost use Rattle.std.specs.Bool.{Decides};
+ghost use Rattle.std.specs.List.Sorted.{IsPermutation, IsSorted};
+ghost use Rattle.std.specs.Map.{keys_of};
 ghost use Rattle.linked_hash_map.specs.Pairs.{find, value_at, set_value, without};
 
 use linked_hash_map::{LinkedHashMap, Refused};
@@ -85,6 +87,27 @@ impl<K: Eq + Hash, V> Document<K, V> {
             ≡ value_at K.eq self.old.fields.pairs other }
     {
         self.fields.remove(name)
+    }
+
+    /// Sorts the fields by their names. Each keeps its value.
+    pub fn sort(&mut self)
+    where
+        K: Ord,
+        ensures sorted { IsSorted K.cmp (keys_of self.new.fields.pairs) }
+        ensures same { IsPermutation self.old.fields.pairs self.new.fields.pairs }
+        ensures values { (name : K) → value_at K.eq self.new.fields.pairs name
+            ≡ value_at K.eq self.old.fields.pairs name }
+    {
+        self.fields.sort_keys();
+    }
+
+    /// Puts the fields in the opposite order. Each keeps its value.
+    pub fn reverse(&mut self)
+        ensures fields { self.new.fields.pairs ≡ reverse self.old.fields.pairs }
+        ensures values { (name : K) → value_at K.eq self.new.fields.pairs name
+            ≡ value_at K.eq self.old.fields.pairs name }
+    {
+        self.fields.reverse();
     }
 
     /// Gives a field another name, in its place, and tells whether it did: only if the old name

@@ -61,11 +61,11 @@ pub fn replay_in_touch<K: Eq + Hash + Drop, V: Drop, S: BuildHasher>(
 /// Runs the same commands on two maps that have the same pairs and the same mode, each with a build
 /// hasher of its own, and returns what comes of each run.
 ///
-/// If the same commands are refused in both runs, as if none is, their answers are the same, and the
-/// two maps have the same pairs in the same order, and the same capacity if they had: nothing but a
-/// refusal of memory rests on the hasher. A run uses its commands up, so they are given twice. If
-/// room for the replies of a run was refused, its map is as it was. It costs what the two runs
-/// cost, and takes the memory that they take.
+/// If the same commands are refused in both runs, as if none is, their answers are the same, and
+/// the two maps have the same pairs in the same order, and the same capacity if they had: nothing
+/// but a refusal of memory rests on the hasher. A run uses its commands up, so they are given
+/// twice. If room for the replies of a run was refused, its map is as it was. It costs what the two
+/// runs cost, and takes the memory that they take.
 pub fn replay_under_two_hashers<K: Eq + Hash + Drop, V: Drop, S: BuildHasher, T: BuildHasher>(
     first: &mut LinkedHashMap<K, V, S>,
     second: &mut LinkedHashMap<K, V, T>,

@@ -2,8 +2,8 @@
 //!
 //! The tests run with the Nth growth refused, for each N, until all of them say that every growth
 //! was given, and how many there are. That number is counted by hand. A line of a few bytes is read
-//! into a vector, which grows to 8, and a new line is copied. The set asks for its buckets, a filter
-//! and a chunk at its first line, and for nothing at its second.
+//! into a vector, which grows to 8, and a new line is copied. The set asks for its buckets, a
+//! filter and a chunk at its first line, and for nothing at its second.
 
 use super::support::checks::check_eq;
 use super::support::streams::Sink;

@@ -11,6 +11,7 @@ use uses::count::counts_of;
 use uses::document::{Document, copy_of, is_same};
 use uses::hasher::for_strangers;
 use uses::interner::Interner;
+use uses::listing::{first_rows, rows_after};
 use uses::loops::{
     copy_behind, first_and_third, first_of_cursor, insert_on_the_way, into_list, into_reversed,
     keys_in_order, oldest_key, reset, sum_by_values, sum_of, take_all, take_out_zeros,
@@ -20,6 +21,7 @@ use uses::memo::{Function, Memo};
 use uses::memory::{empty_out, rehashed, reserve_and_extend, reserve_and_insert};
 use uses::modes::insert_in_place;
 use uses::numbered::{Numbered, add_both};
+use uses::playlist::{Playlist, Song};
 use uses::prices::{Prices, limit};
 use uses::printing::insert_and_print;
 use uses::queue::Queue;
@@ -105,6 +107,60 @@ fn a_document_keeps_its_fields_in_order(rt: HostRuntime) {
     check_eq!(rt; document.remove(&2), Some(20));
     check_eq!(rt; document.get(&3), Some(&11));
     check!(rt; is_same(&given!(rt; copy_of(&document)), &document));
+}
+
+#[test]
+fn the_fields_of_a_document_are_sorted(rt: HostRuntime) {
+    let mut document = document_of(&rt, rt.alloc(), &[(2, 20), (3, 10), (1, 30)]);
+    let sorted = document_of(&rt, rt.alloc(), &[(1, 30), (2, 20), (3, 10)]);
+    document.sort();
+    check!(rt; is_same(&document, &sorted));
+    document.reverse();
+    check!(rt; !is_same(&document, &sorted));
+    check_eq!(rt; document.get(&2), Some(&20));
+}
+
+/// Inserts a song after another, and checks whether that is there.
+fn check_inserted(
+    rt: &impl Abort,
+    alloc: Global,
+    playlist: &mut Playlist,
+    other: u64,
+    number: u64,
+    is_after: bool,
+) {
+    let title = given!(rt; String::from_str(alloc, "Aria"));
+    let song = Song {
+        title,
+        seconds: 180,
+    };
+    check_eq!(rt; given!(rt; playlist.insert_after(other, number, song)), is_after);
+}
+
+#[test]
+fn songs_are_moved_and_arranged(rt: HostRuntime) {
+    let mut playlist = Playlist::new(rt.alloc());
+    check_inserted(&rt, rt.alloc(), &mut playlist, 0, 1, false);
+    check_inserted(&rt, rt.alloc(), &mut playlist, 0, 2, false);
+    check_inserted(&rt, rt.alloc(), &mut playlist, 1, 3, true);
+    check!(rt; playlist.move_up(2));
+    check!(rt; !playlist.move_up(1));
+    check!(rt; playlist.move_down(1));
+    check_eq!(rt; playlist.song_after(2), Some(1));
+    playlist.arrange(&[1, 2]);
+    check_eq!(rt; playlist.song_before(1), Some(3));
+    check_eq!(rt; playlist.song_after(1), Some(2));
+    check_eq!(rt; playlist.song_after(2), None);
+}
+
+#[test]
+fn rows_are_shown_in_pages(rt: HostRuntime) {
+    let rows = three_pairs(&rt, rt.alloc());
+    let page = given!(rt; first_rows(rt.alloc(), &rows, 2));
+    check_eq!(rt; page.as_slice(), [(&1, &10), (&2, &20)].as_slice());
+    let next = given!(rt; rows_after(rt.alloc(), &rows, &2, 2));
+    check_eq!(rt; given!(rt; next.ok_or("no row")).as_slice(), [(&3, &30)].as_slice());
+    check!(rt; given!(rt; rows_after(rt.alloc(), &rows, &4, 2)).is_none());
 }
 
 #[test]

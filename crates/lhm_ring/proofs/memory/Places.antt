@@ -1,6 +1,6 @@
 -- Where the places of chunks lie.
 use Rattle.std.proofs.Common.{◌≡◌, ℕ, zero, suc, ◌+◌, ◌-◌, ◌*◌, ◌<◌, ◌^◌, List, [], ◌∷◌, ◌++◌}
-use Rattle.std.proofs.Common.{length, length-append, map, true, refl, sym, ap, ◌∙◌, subst, arith}
+use Rattle.std.proofs.Common.{length, length-append, true, refl, sym, ap, ◌∙◌, subst, arith}
 use Rattle.std.proofs.Common.{lt→ltb}
 use Rattle.std.proofs.lemmas.List.{append-nil, append_assoc}
 use Rattle.std.specs.Prelude.{nat_lt}
@@ -8,10 +8,9 @@ use Rattle.std.proofs.Flags.{T_true}
 use Rattle.std.proofs.ptr.Rows.{one_more, next}
 use denote.RawPtr.{Ptr, block_ptr, null_ptr, ◌+ₚ◌}
 use lib.ListN.{length-map}
-use Rattle.lhm_ring.specs.declared.nodes.Chunk.{Chunk}
 use Rattle.lhm_ring.proofs.lists.ForAll.{AllByRecursion-left, AllByRecursion-right}
 use Rattle.lhm_ring.specs.Nodes.{Cell, pointers, is_block, AreBlocks, row, places}
-use Rattle.lhm_ring.specs.Links.{extent, place_count, IsLaid}
+use Rattle.lhm_ring.specs.Links.{place_count, IsLaid}
 
 pub places-none : (s : ℕ) → [] ≡ places s []
 unfolding places

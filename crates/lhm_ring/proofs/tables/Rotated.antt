@@ -48,7 +48,7 @@ last_at-push : {B : Type 0} (hs : List (Held B)) (t : Held B) → last_at (hs ++
 last_at-push [] t = refl
 last_at-push (u ∷ hs) t = ap Some (last_of-push u hs t)
 
-IsSome-pointer : {K V : Type 0} (o : Option (Position K V)) {p : Ptr} → pointer_of_some o ≡ Some p → IsSome o
+pub IsSome-pointer : {K V : Type 0} (o : Option (Position K V)) {p : Ptr} → pointer_of_some o ≡ Some p → IsSome o
 IsSome-pointer None {p} e = absurd (none_some p e)
 IsSome-pointer (Some at) e = refl
 

@@ -3,7 +3,8 @@
 -- their equality, so that `grind` has none to find; the first part of a conclusion shows it the
 -- call to match.
 use Rattle.std.proofs.Common.{◌≡◌, ◌⊎◌, false, ℕ, ◌+◌, ◌<◌, ◌≤◌, inl, inr, sym, take, get_or, cond, not, List, [], ◌∷◌}
-use Rattle.std.proofs.Common.{◌++◌, length, filter, map, is_some, Some, None, refl, ap, ◌∙◌, nat_eq}
+use Rattle.std.proofs.Common.{◌++◌, length, filter, map, is_some, Some, None, refl, ap, ◌∙◌, nat_eq, true}
+use Rattle.std.proofs.Common.{slice_get, reverse, subst, append_assoc, Option, option_to_list, ap₂, true≢false}
 use Rattle.std.specs.Cmp.Lexicographic.{nat_list_eq_equiv}
 use Rattle.std.specs.Prelude.{String, string_eq}
 use Rattle.std.specs.declared.alloc.Global.{Global}
@@ -12,18 +13,21 @@ use Rattle.std.specs.String.{string_bytes}
 use Rattle.std.specs.Cmp.{nat_eq_equiv}
 use Rattle.std.specs.Map.{keys_of, values_of}
 use Rattle.std.specs.Option.{option_or}
-use Rattle.std.specs.List.{Contains}
+use Rattle.std.specs.List.{Contains, IsDistinct}
+use Rattle.std.proofs.lemmas.List.{append-nil}
 use Rattle.std.proofs.lemmas.Bool.{eqb-true}
 use Rattle.std.proofs.lemmas.List.Elements.{All-weaker, All-contains_itself}
 use Rattle.linked_hash_map.specs.declared.map.Mode.{Mode}
 use Rattle.linked_hash_map.specs.declared.map.Mode.TheVariants.{Touch}
-use Rattle.linked_hash_map.specs.Pairs.{key_or, find, value_at, without, to_back_as_is, to_front, set_or_push, put}
+use Rattle.linked_hash_map.specs.Pairs.{key_or, find, value_at, without, from, to_back_as_is, to_front}
+use Rattle.linked_hash_map.specs.Pairs.{set_or_push, put, to_before, to_after}
 use Rattle.linked_hash_map.proofs.Callers.Keys.{length-put_most, key_or-find, keys_of-to_back, keys_of-to_back_own}
 use Rattle.linked_hash_map.proofs.Callers.Keys.{keys_of-without, keys_of-set_or_push, keys_of-append, keys_of-without_first}
 use Rattle.linked_hash_map.proofs.Callers.Keys.{keys_of-without_last, first-keys_of}
 use Rattle.linked_hash_map.proofs.Callers.Collected.{insert_each-append, insert_each-snoc}
 use Rattle.linked_hash_map.proofs.Callers.Counted.{CountsItems-start, CountsItems-counted, CountsItems-below}
 use Rattle.linked_hash_map.proofs.Callers.Counted.{CountsKnown-start, CountsKnown-counted, CountsKnown-fits}
+use Rattle.linked_hash_map.proofs.Callers.Cuts.{find-cut, find-second, from-cut, from-second_reverse, to_before-cut, to_after-cut}
 use Rattle.linked_hash_map.proofs.Callers.Dense.{values_of_dense_push, value_at_dense_each, eq-dense}
 use Rattle.linked_hash_map.proofs.Callers.EachPair.{All-find, All-without, All-to_back_as_is, All-put}
 use Rattle.linked_hash_map.proofs.Callers.Ends.{keys_of-take, take-keys_of, to_front-put, value_at-take}
@@ -45,6 +49,28 @@ module _ {V : Type 0} (mode : Mode) (pairs : List (ℕ × V)) (k : ℕ) (v : V) 
   pub length-put_number : (put nat_eq mode pairs k v ≡ put nat_eq mode pairs k v)
       × (length (put nat_eq mode pairs k v) ≤ length pairs + 1)
   length-put_number = (refl, length-put_most nat_eq mode pairs k v)
+
+-- the pairs, if the key goes to the back
+pub put_number : {V : Type 0} (mode : Mode) (pairs : List (ℕ × V)) (k : ℕ) (v : V) → mode ≡ Touch
+    → (put nat_eq mode pairs k v ≡ put nat_eq mode pairs k v)
+    × (put nat_eq mode pairs k v ≡ without nat_eq pairs k ++ (k, v) ∷ [])
+put_number mode pairs k v touch = (
+  refl,
+  ap (λ m. put nat_eq m pairs k v) touch ∙ ap (λ j. without nat_eq pairs k ++ (j, v) ∷ [])
+      (sym (eqb-true k (key_or k (find nat_eq pairs k)) (eq-stored nat_eq_equiv pairs k))),
+)
+
+-- the keys, if one that is present goes to the front
+pub keys_of-to_front_number : {V : Type 0} (pairs : List (ℕ × V)) (k : ℕ) → is_some (find nat_eq pairs k) ≡ true
+    → (to_front nat_eq pairs k ≡ to_front nat_eq pairs k)
+    × (keys_of (to_front nat_eq pairs k) ≡ k ∷ filter (λ j. not (nat_eq k j)) (keys_of pairs))
+keys_of-to_front_number {V} pairs k there = (refl, by_pair (find nat_eq pairs k) refl there)
+  where
+    by_pair : (o : Option (ℕ × V)) → find nat_eq pairs k ≡ o → is_some o ≡ true
+        → keys_of (option_to_list o ++ without nat_eq pairs k) ≡ k ∷ filter (λ j. not (nat_eq k j)) (keys_of pairs)
+    by_pair None is there = absurd (true≢false (sym there))
+    by_pair (Some p) is there =
+        ap₂ (λ j ks. j ∷ ks) (sym (eqb-true k p.0 (eq-find nat_eq_equiv pairs k p is))) (keys_of-without nat_eq pairs k)
 
 -- the pair that was put in, moved to the front
 module _ {V : Type 0} (mode : Mode) (pairs : List (ℕ × V)) (k : ℕ) (v : V) where
@@ -146,6 +172,42 @@ pub value_at-append_number : {V : Type 0} (pairs : List (ℕ × V)) (k : ℕ) (v
     ≡ option_or (value_at nat_eq pairs q) (cond (nat_eq q k) (Some v) None))
 value_at-append_number pairs k v = (refl, λ q. value_at-append nat_eq pairs k q v)
 
+-- a pair right before another, and moves of one of them
+module _ {V : Type 0} (xs ys : List (ℕ × V)) (one two : ℕ × V) (distinct : IsDistinct nat_eq (keys_of (xs ++ one ∷ two ∷ ys))) where
+  pub neighbors_number : (xs ++ one ∷ two ∷ ys ≡ xs ++ one ∷ two ∷ ys)
+      × (is_some (find nat_eq (xs ++ one ∷ two ∷ ys) one.0) ≡ true)
+      × (is_some (find nat_eq (xs ++ one ∷ two ∷ ys) two.0) ≡ true)
+      × (slice_get (keys_of (from nat_eq (xs ++ one ∷ two ∷ ys) one.0)) 1 ≡ Some two.0)
+      × (slice_get (keys_of (from nat_eq (reverse (xs ++ one ∷ two ∷ ys)) two.0)) 1 ≡ Some one.0)
+      × (to_before nat_eq nat_eq (xs ++ one ∷ two ∷ ys) two.0 one.0 ≡ xs ++ two ∷ one ∷ ys)
+  neighbors_number = (
+    refl,
+    ap is_some (find-cut nat_eq_equiv xs one (two ∷ ys) distinct),
+    ap is_some (find-second nat_eq_equiv xs one two ys distinct),
+    ap (λ (ps : List (ℕ × V)). slice_get (keys_of ps) 1) (from-cut nat_eq_equiv xs one (two ∷ ys) distinct),
+    ap (λ (ps : List (ℕ × V)). slice_get (keys_of ps) 1) (from-second_reverse nat_eq_equiv xs one two ys distinct),
+    to_before-cut nat_eq_equiv xs one [] two ys distinct,
+  )
+
+-- a pair that is put behind the others, and then right behind one of them
+module _ {V : Type 0} (xs ys : List (ℕ × V)) (one new : ℕ × V)
+    (distinct : IsDistinct nat_eq (keys_of ((xs ++ one ∷ ys) ++ new ∷ []))) where
+  pub placed_number : ((xs ++ one ∷ ys) ++ new ∷ [] ≡ (xs ++ one ∷ ys) ++ new ∷ [])
+      × (is_some (find nat_eq ((xs ++ one ∷ ys) ++ new ∷ []) one.0) ≡ true)
+      × (is_some (find nat_eq ((xs ++ one ∷ ys) ++ new ∷ []) new.0) ≡ true)
+      × (to_after nat_eq nat_eq ((xs ++ one ∷ ys) ++ new ∷ []) new.0 one.0 ≡ xs ++ one ∷ new ∷ ys)
+  placed_number =
+      let whole : (xs ++ one ∷ ys) ++ new ∷ [] ≡ xs ++ one ∷ (ys ++ new ∷ []) = append_assoc xs (one ∷ ys) (new ∷ []) in
+      let differ : IsDistinct nat_eq (keys_of (xs ++ one ∷ (ys ++ new ∷ []))) =
+      subst (λ (ps : List (ℕ × V)). IsDistinct nat_eq (keys_of ps)) whole distinct in (
+        refl,
+        ap (λ (ps : List (ℕ × V)). is_some (find nat_eq ps one.0)) whole
+            ∙ ap is_some (find-cut nat_eq_equiv xs one (ys ++ new ∷ []) differ),
+        ap is_some (find-cut nat_eq_equiv (xs ++ one ∷ ys) new [] distinct),
+        ap (λ (ps : List (ℕ × V)). to_after nat_eq nat_eq ps new.0 one.0) whole ∙ to_after-cut nat_eq_equiv xs one ys new [] differ
+            ∙ ap (λ (ps : List (ℕ × V)). xs ++ one ∷ new ∷ ps) (append-nil ys),
+      )
+
 -- what a number has after one that is new went to the back
 pub ruleset new_numbers = (value_at-append_number)
 
@@ -154,6 +216,12 @@ pub ruleset number_keys = (keys_of-put_number, length-put_number, cons-keys_of_f
 
 -- the pair at the front, and the keys behind it, at numbers
 pub ruleset front_keys = (to_front-put_number, length-put_number, keys_of-without_number, keys_of-take, take-keys_of, value_at-take_number)
+
+-- the same, and the keys after a move of one that is present
+pub ruleset moved_to_front = (front_keys, keys_of-to_front_number)
+
+-- the pairs after an insertion in Touch, at numbers
+pub ruleset number_pairs = (put_number, length-put_number)
 
 -- what is true of each pair, at numbers
 pub ruleset each_pair = (in-found_number, in-without_number, in-to_back_as_is_number, in-put_number)
@@ -194,3 +262,9 @@ pub ruleset turns = (put-without_first)
 
 -- turns, one after another, until each pair had its turn
 pub ruleset rounds = (IsTurned-start, IsTurned-turn, IsTurned-round)
+
+-- neighbors, of which one is moved before the other, at numbers
+pub ruleset neighbors = (neighbors_number)
+
+-- a new pair that is put right behind another, at numbers
+pub ruleset placed = (placed_number)

@@ -52,7 +52,7 @@ filter-none test (pair ∷ pairs) h = by_test (filter-none test pairs) (test pai
     by_test rest false h = ap (λ ps. pair ∷ ps) (rest h)
 
 -- the pairs, with another value for one that is not there
-pub set_value-none : {K V : Type 0} (eq : K → K → Bool) (pairs : List (K × V)) (k : K) (v : V)
+pub set_value-none : {A K V : Type 0} (eq : A → K → Bool) (pairs : List (K × V)) (k : A) (v : V)
     → find eq pairs k ≡ None → set_value eq pairs k v ≡ pairs
 set_value-none eq [] k v h = refl
 set_value-none eq (first ∷ pairs) k v h = by_test (set_value-none eq pairs k v) (eq k first.0) h
@@ -76,26 +76,27 @@ set_key-absent eq (first ∷ pairs) k h = by_test (set_key-absent eq pairs k) (e
     by_test rest false h = ap (λ ps. first ∷ ps) (rest h)
 
 -- a key has a pair exactly if it has a value
-pub is_some-value_at : {K V : Type 0} (eq : K → K → Bool) (pairs : List (K × V)) (k : K)
+pub is_some-value_at : {A K V : Type 0} (eq : A → K → Bool) (pairs : List (K × V)) (k : A)
     → is_some (value_at eq pairs k) ≡ is_some (find eq pairs k)
-is_some-value_at {K} {V} eq pairs k = by_pair (find eq pairs k)
+is_some-value_at {K = K} {V = V} eq pairs k = by_pair (find eq pairs k)
   where
     by_pair : (o : Option (K × V)) → is_some (option_map (λ pair. pair.1) o) ≡ is_some o
     by_pair None = refl
     by_pair (Some pair) = refl
 
 -- a key that has no value has no pair
-pub find-none : {K V : Type 0} (eq : K → K → Bool) (pairs : List (K × V)) (k : K) → value_at eq pairs k ≡ None → find eq pairs k ≡ None
+pub find-none : {A K V : Type 0} (eq : A → K → Bool) (pairs : List (K × V)) (k : A) → value_at eq pairs k ≡ None → find eq pairs k ≡ None
 find-none eq pairs k none = none_is (find eq pairs k) (sym (is_some-value_at eq pairs k) ∙ ap is_some none)
 
 -- calls with a key that is absent
-module _ {K V : Type 0} (eq : K → K → Bool) where
-  pub without-absent : (pairs : List (K × V)) (k : K) → find eq pairs k ≡ None → without eq pairs k ≡ pairs
-  without-absent pairs k none = filter-none (eq k) pairs none
+pub without-absent : {A K V : Type 0} (eq : A → K → Bool) (pairs : List (K × V)) (k : A) → find eq pairs k ≡ None
+    → without eq pairs k ≡ pairs
+without-absent eq pairs k none = filter-none (eq k) pairs none
 
+module _ {K V : Type 0} (eq : K → K → Bool) where
   pub to_back-absent : (pairs : List (K × V)) (k : K) (v : V) → find eq pairs k ≡ None
       → to_back eq pairs k v ≡ pairs ++ (k, v) ∷ []
-  to_back-absent pairs k v none = ap₂ (λ ps o. ps ++ (key_or k o, v) ∷ []) (without-absent pairs k none) none
+  to_back-absent pairs k v none = ap₂ (λ ps o. ps ++ (key_or k o, v) ∷ []) (without-absent eq pairs k none) none
 
   pub set_or_push-absent : (pairs : List (K × V)) (k : K) (v : V) → find eq pairs k ≡ None
       → set_or_push eq pairs k v ≡ pairs ++ (k, v) ∷ []

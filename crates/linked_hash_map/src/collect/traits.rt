@@ -84,7 +84,8 @@ impl<K: Eq + Hash + Drop, V: Drop, S: BuildHasher + Default + Drop> FromIterator
 /// Makes an empty map with a clone of the hasher, as `try_take` asks for. It is in
 /// [`Mode::Touch`](crate::Mode::Touch), of capacity 0 and takes no memory.
 ///
-/// No clause says that the hasher is a clone, since the clause of the trait is of the new map alone.
+/// No clause says that the hasher is a clone, since the clause of the trait is of the new map
+/// alone.
 ///
 /// # Examples
 ///

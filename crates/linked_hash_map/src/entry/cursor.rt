@@ -67,11 +67,11 @@ impl<K: Eq + Hash, V, S: BuildHasher> LinkedHashMap<K, V, S> {
     /// [`next_entry`](LinkedHashMap::next_entry) returns the entries. A pair that goes in later, as
     /// by a vacant entry, is not visited, and leaves the visit.
     ///
-    /// Another visit, by this call or by `entries`, ends it. So do `shrink_to_fit` and each call that
-    /// may remove or move a pair, except an entry's, and `replay` of such a command. A call by a key
-    /// does so only if that is present, and then also `entry`, and in both modes `insert` and the
-    /// extensions. `insert_front` does so for each key, `front_entry` and `back_entry` if there is
-    /// a pair.
+    /// Another visit, by this call or by `entries`, ends it. So do `shrink_to_fit` and each call
+    /// that may remove or move a pair, except an entry's, and `replay` of such a command. A call by
+    /// a key does so only if that is present, and then also `entry`, and in both modes `insert` and
+    /// the extensions. `insert_front` does so for each key, `front_entry` and `back_entry` if there
+    /// is a pair.
     ///
     /// # Examples
     ///

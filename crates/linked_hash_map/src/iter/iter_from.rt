@@ -87,8 +87,9 @@ impl<'a, K, V> Clone for IterFrom<'a, K, V> {
     }
 }
 
-/// A fused iterator over the pairs from one to the front, returned by `iter_back_from`. Its methods are
-/// O(1). It does not count the pairs left: the upper bound of its `size_hint` is the number of all.
+/// A fused iterator over the pairs from one to the front, returned by `iter_back_from`. Its methods
+/// are O(1). It does not count the pairs left: the upper bound of its `size_hint` is the number of
+/// all.
 #[derive(Drop)]
 pub struct IterBackFrom<'a, K, V> {
     table: &'a Table<K, V>,

@@ -175,8 +175,8 @@ impl<K: Eq + Hash, V, S: BuildHasher> LinkedHashMap<K, V, S> {
         self.visit.unvisited()
     }
 
-    /// Makes the pair of a key the current one, ending a visit, and returns the hash of the key, and
-    /// whether there is such a pair. Hashes the key once.
+    /// Makes the pair of a key the current one, ending a visit, and returns the hash of the key,
+    /// and whether there is such a pair. Hashes the key once.
     #[inline]
     pub(crate) fn seek(&mut self, key: &K) -> (u64, bool)
         ensures hash { result.0

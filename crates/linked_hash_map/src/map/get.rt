@@ -1,5 +1,5 @@
 //! Lookups, and indexing by a key that is present.
-ghost use Rattle.std.specs.Prelude.{◌≡◌, ◌≤◌, length, map, None, option_copied, option_map, is_some, IfNone, IfSome, OnSome, Some, IsSome};
+ghost use Rattle.std.specs.Prelude.{◌≡◌, ◌≤◌, length, map, None, option_copied, option_map, is_some, IfNone, IfSome, OnSome, Some, IsSome, false};
 ghost use Rattle.std.specs.List.{IsDistinct, AllByRecursion};
 ghost use Rattle.std.specs.Map.{keys_of};
 ghost use Rattle.std.specs.Map.Iter.{deref_pair};
@@ -122,6 +122,9 @@ impl<K: Eq + Hash, V, S: BuildHasher> LinkedHashMap<K, V, S> {
         ensures updates { (v : V) → OnSome result
             (UpdatesBy K.eq self.old.pairs (set_value Q.equivalent self.old.pairs key v)
             (Q.equivalent key) (Some v)) }
+        ensures others { (v : V) (q : K) → Q.equivalent key q ≡ false
+            → value_at K.eq (set_value Q.equivalent self.old.pairs key v) q
+            ≡ value_at K.eq self.old.pairs q }
         ensures keys { (v : V) → keys_of (set_value Q.equivalent self.old.pairs key v)
             ≡ keys_of self.old.pairs }
         ensures stays_valid { (v : V) → IsValid K.eq

@@ -112,7 +112,8 @@ impl<K: Eq + Hash, V, S: BuildHasher> LinkedHashMap<K, V, S> {
         Values::new(self.iter())
     }
 
-    /// Returns a double-ended iterator over mutable references to the values, front to back, in O(1).
+    /// Returns a double-ended iterator over mutable references to the values, front to back, in
+    /// O(1).
     ///
     /// # Examples
     ///

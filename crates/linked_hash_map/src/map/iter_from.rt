@@ -11,8 +11,8 @@ use equivalent::Equivalent;
 use std::hash::{BuildHasher, Hash};
 
 impl<K: Eq + Hash, V, S: BuildHasher> LinkedHashMap<K, V, S> {
-    /// Returns an iterator over the pairs from that of a key to the back, its own first, in O(1), or
-    /// `None` if the key is absent. Hashes the key once.
+    /// Returns an iterator over the pairs from that of a key to the back, its own first, in O(1),
+    /// or `None` if the key is absent. Hashes the key once.
     ///
     /// # Examples
     ///

@@ -1,5 +1,5 @@
-//! The order of the pairs: moves to the ends, and rotation.
-ghost use Rattle.std.specs.Prelude.{◌≡◌, ◌≤◌, ◌++◌, [], length, take, drop, is_some, IsTrue, IsFalse};
+//! The order of the pairs: moves to the ends, rotation and the reverse.
+ghost use Rattle.std.specs.Prelude.{◌≡◌, ◌≤◌, ◌++◌, [], length, take, drop, reverse, is_some, IsTrue, IsFalse};
 ghost use Rattle.linked_hash_map.specs.Pairs.{first, find, to_back_as_is, to_front};
 ghost use Rattle.linked_hash_map.specs.Cursor.{to_visit};
 ghost use Rattle.linked_hash_map.specs.Changes.{Keeps};
@@ -112,5 +112,31 @@ impl<K: Eq + Hash, V, S: BuildHasher> LinkedHashMap<K, V, S> {
     {
         self.visit.active = false;
         self.table.rotate_left(count);
+    }
+
+    /// Reverses the order of the pairs, in O(n). It allocates nothing, hashes no key and ends a
+    /// visit.
+    ///
+    /// # Examples
+    ///
+    /// ```rust
+    /// let mut map = LinkedHashMap::new(rt.alloc());
+    /// map.extend([('x', 1), ('y', 2), ('z', 3)])?;
+    /// map.reverse();
+    /// assert_eq!(rt; map.front(), Some((&'z', &3)));
+    /// assert_eq!(rt; map.back(), Some((&'x', &1)));
+    /// ```
+    pub fn reverse(&mut self)
+        ensures pairs { self.new.pairs ≡ reverse self.old.pairs }
+        ensures keeps { Keeps self.old self.new }
+        ensures ends_visit { to_visit self.new ≡ [] }
+        ensures valid { IsValid K.eq self.old }
+        ensures stays_valid { IsValid K.eq self.new }
+        // Consequences of `pairs`, for the proofs of callers.
+        ensures len { length self.new.pairs ≡ length self.old.pairs }
+        ensures finds { (q : K) → find K.eq self.new.pairs q ≡ find K.eq self.old.pairs q }
+    {
+        self.visit.active = false;
+        self.table.reverse();
     }
 }

@@ -1,9 +1,9 @@
 //! Insertion.
 
 ghost use Rattle.std.specs.Prelude.{◌≡◌, ◌+◌, ◌++◌, ◌∷◌, [], length, max, not, true, false, unwrap_or, None, Some, IsSome, IfSome, IfNone, option_copied, IsTrue, IfOk, IfErr, OnOk, OnErr, if◌then◌else◌};
-ghost use Rattle.linked_hash_map.specs.Pairs.{last};
+ghost use Rattle.linked_hash_map.specs.Pairs.{first, last};
 ghost use Rattle.linked_hash_set.specs.Inserts.{inserted, RefreshedOrMade};
-ghost use Rattle.linked_hash_set.specs.Items.{contains, find, to_back, push_if_absent, set_or_push};
+ghost use Rattle.linked_hash_set.specs.Items.{contains, find, to_back, put_front, push_if_absent, set_or_push};
 ghost use Rattle.linked_hash_set.specs.Updates.{Updates};
 ghost use Rattle.linked_hash_set.specs.Validity.{IsValid};
 
@@ -57,6 +57,52 @@ impl<T: Eq + Hash, S: BuildHasher> LinkedHashSet<T, S> {
         ensures full { OnErr result (length self.old.items ≡ self.old.capacity) }
     {
         match self.map.insert(item, ()) {
+            Ok(None) => Ok(true),
+            Ok(Some(_unit)) => Ok(false),
+            Err(refused) => Err(Refused { item: refused.key }),
+        }
+    }
+
+    /// Inserts an item at the front, and returns whether it is new. If it is present, the stored
+    /// item moves to the front, and `item` is dropped. Hashes the item once.
+    ///
+    /// It allocates, and is refused, as [`insert`](LinkedHashSet::insert) is, and costs as much.
+    ///
+    /// # Examples
+    ///
+    /// ```rust
+    /// let mut set = LinkedHashSet::new(rt.alloc());
+    /// assert!(rt; set.insert_front('x')?);
+    /// assert!(rt; set.insert_front('y')?);
+    /// assert_eq!(rt; set.front(), Some(&'y'));
+    /// assert!(rt; !set.insert_front('x')?);
+    /// assert_eq!(rt; set.front(), Some(&'x'));
+    /// ```
+    pub fn insert_front(&mut self, item: T) -> Result<bool, Refused<T>>
+    where
+        T: Drop,
+        ensures new { IfOk result (λ new. new ≡ not (contains T.eq self.old.items item)) }
+        ensures items { OnOk result (self.new.items ≡ put_front T.eq self.old.items item) }
+        ensures capacity { OnOk result
+            (self.new.capacity ≡ max self.old.capacity (length self.new.items)) }
+        ensures hasher { self.new.hasher ≡ self.old.hasher }
+        ensures stays_valid { IsValid T.eq self.new }
+        // Consequences of `new` and `items`, for the proofs of callers.
+        ensures updates { OnOk result
+            (Updates T.eq self.old.items self.new.items (T.eq item) true) }
+        ensures first { OnOk result (first self.new.items
+            ≡ Some (unwrap_or (find T.eq self.old.items item) item)) }
+        ensures pushed { IfOk result (λ new. IsTrue new
+            → self.new.items ≡ item ∷ self.old.items) }
+        ensures len { IfOk result (λ new.
+            length self.new.items ≡ length self.old.items + (if new then 1 else 0)) }
+
+        ensures item_back { IfErr result (λ refused. refused.item ≡ item) }
+        ensures unchanged { OnErr result (self.new ≡ self.old) }
+        ensures absent { OnErr result (contains T.eq self.old.items item ≡ false) }
+        ensures full { OnErr result (length self.old.items ≡ self.old.capacity) }
+    {
+        match self.map.insert_front(item, ()) {
             Ok(None) => Ok(true),
             Ok(Some(_unit)) => Ok(false),
             Err(refused) => Err(Refused { item: refused.key }),

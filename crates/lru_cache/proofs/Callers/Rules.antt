@@ -8,6 +8,7 @@ use Rattle.std.proofs.lemmas.List.Elements.{All-weaker, All-contains_itself}
 use Rattle.linked_hash_map.proofs.Callers.Rules as pairs
 use Rattle.lru_cache.specs.Cache.{inserted}
 use Rattle.lru_cache.proofs.Callers.EachPair.{All-inserted}
+use Rattle.lru_cache.proofs.Callers.Newest.{newest-all}
 
 -- each pair after an insertion of a number is the one that was put in, or was there
 pub in-inserted_number : {V : Type 0} (n : ℕ) (ps : List (ℕ × V)) (k : ℕ) (v : V) (i : ℕ) (d : ℕ × V)
@@ -23,3 +24,6 @@ in-inserted_number {V} n ps k v i d within = (
 
 -- what is true of each pair, at numbers
 pub ruleset each_pair = (pairs.each_pair, in-inserted_number)
+
+-- the pairs after an insertion in Touch, and the newest of them, at numbers
+pub ruleset number_pairs = (pairs.number_pairs, newest-all)

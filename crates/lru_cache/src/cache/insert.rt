@@ -80,8 +80,8 @@ impl<K: Eq + Hash, V, S: BuildHasher> LruCache<K, V, S> {
     /// pair used least recently, if the cache is full. At the capacity 0 the given pair comes back.
     ///
     /// It is refused if `insert` is. It is O(1), or up to O(n) if memory is asked for. Hashes a
-    /// present key once and a new key twice, or thrice if the cache is full and the memory that it
-    /// asks for is refused.
+    /// present key once and a new key twice, or three times if the cache is full and the memory
+    /// that it asks for is refused.
     ///
     /// # Examples
     ///

@@ -73,7 +73,8 @@ fn displayed<E: Display>(error: &E, fails_at: usize) -> (bool, usize) {
     (write!(writer, "{error}").is_err(), writer.calls)
 }
 
-/// Checks that the text of an error fails at each call at which its writer fails, which is its last.
+/// Checks that the text of an error fails at each call at which its writer fails, which is its
+/// last.
 fn assert_error_fails<E: Display>(rt: &impl Abort, error: &E) {
     let (failed, calls) = displayed(error, NEVER);
     check_eq!(rt; (failed, 0 < calls), (false, true));

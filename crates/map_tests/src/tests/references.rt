@@ -44,8 +44,8 @@ pub(super) fn say_if_given(rt: &(impl Print + AllocGlobal), given: bool, growths
 
 #[test]
 fn refused_extension_by_references_keeps_what_went_in(rt: HostRuntime) {
-    // The growths: buckets, a filter and a chunk of two nodes; another chunk for the third pair; one
-    // that the test asks for itself.
+    // The growths: buckets, a filter and a chunk of two nodes; another chunk for the third pair;
+    // one that the test asks for itself.
     let mut map = LinkedHashMap::new(rt.alloc());
     let mut items = [(&1, &10), (&1, &11), (&2, &20), (&3, &30)].into_iter();
     let extended = map.extend_refs(items.by_ref());

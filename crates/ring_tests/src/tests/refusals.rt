@@ -92,8 +92,8 @@ fn refused_growth_by_one_is_asked_for_again(rt: HostRuntime) {
 fn grow_by_one(rt: &(impl Abort + Print + AllocGlobal), made: Result<Ring<char, u64>, AllocError>) {
     if let Ok(mut ring) = made {
         // The growths: a chunk of two nodes for the fourth, a chunk of one for the sixth, the
-        // seventh, the eighth and the ninth, and a list of chunks for the eighth, whose chunk is the
-        // fifth.
+        // seventh, the eighth and the ninth, and a list of chunks for the eighth, whose chunk is
+        // the fifth.
         let given = grow_six_times(rt, &mut ring);
         check!(rt; is_ring(&ring, &[], 9));
         say_if_given(rt, given, 9);

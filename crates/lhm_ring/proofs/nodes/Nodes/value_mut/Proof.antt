@@ -9,7 +9,7 @@ use Rattle.lhm_ring.proofs.memory.Steps.{sets_last, is, env, sub, whole, tables,
 use Rattle.lhm_ring.proofs.memory.Steps.{owns, types_at, plain, Ptr, block_ptr, ptr_val, lies_at}
 use Rattle.lhm_ring.proofs.memory.Steps.{heard, opens, Stays, stay_dropped, walk_of, Goes-dropped}
 use Rattle.lhm_ring.proofs.memory.Steps.{after, word, word-Good, proved_at, leaves, id⊢, sem}
-use Rattle.lhm_ring.proofs.memory.Steps.{in_a_block, Some, never, part_at, Fml, fsep, fjoin3}
+use Rattle.lhm_ring.proofs.memory.Steps.{in_a_block, never, part_at, Fml, fsep, fjoin3}
 use Rattle.lhm_ring.proofs.memory.Steps.{Option, named, Lft, later, pick, await, group, split3}
 use Rattle.lhm_ring.proofs.memory.Steps.{follows, mem, MutBor, mut_ref_to, Goes-spent_ref, some}
 use Rattle.lhm_ring.proofs.memory.Steps.{fpack, ent, Ura, Logic, sep, done, part_of, states, tokens}

@@ -1,4 +1,4 @@
-use Rattle.std.proofs.Common.{◌≡◌, ◌+◌, ◌<◌, ◌∙◌, length, ap, sym, arith}
+use Rattle.std.proofs.Common.{◌≡◌, ◌+◌, ◌∙◌, length, ap, arith}
 use Rattle.std.specs.Prelude.{max}
 use Rattle.lhm_ring.proofs.tables.Tables.{length-capacity, IsTable-raised}
 use Rattle.lhm_ring.proofs.table.Table.raise_buckets.Goals as goal

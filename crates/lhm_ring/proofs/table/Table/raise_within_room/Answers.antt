@@ -1,4 +1,4 @@
-use Rattle.std.proofs.Common.{◌≡◌, ◌+◌, ◌<◌, ◌∙◌, length, ap, sym, subst, arith}
+use Rattle.std.proofs.Common.{◌≡◌, ◌+◌, ◌∙◌, length, ap, sym, subst, arith}
 use Rattle.std.specs.Prelude.{max}
 use Rattle.std.specs.Int.{IsPowerOfTwo}
 use Rattle.lhm_ring.proofs.indexes.BucketCounts.{buckets-at_least, IsNextPowerOfTwo-buckets}

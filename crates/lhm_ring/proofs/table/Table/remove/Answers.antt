@@ -15,7 +15,8 @@ pub invariant_of-self-2 : goal.invariant_of-self-2
 invariant_of-self-2 g c =
     let taken = c.take_out.ensures in
     let unlinked = c.unlink-key.ensures in
-    IsTable-removed c.self.invariant taken.links (rw c.in_ok-at.was at taken.lacks) unlinked.others unlinked.spares unlinked.nodes taken.buckets
+    let lacks = rw c.in_ok-at.was at taken.lacks in
+    IsTable-removed c.self.invariant taken.links lacks unlinked.others unlinked.spares unlinked.nodes taken.buckets
 
 pub returns-clause-removed : goal.returns-clause-removed
 returns-clause-removed g c =

@@ -28,4 +28,5 @@ returns-clause-pair g c =
     let ks = c.take_out_at.new.ring.held in let taken = c.take_out_at.ensures in
     rw (← c.self.view_is) (λ i at. ap (λ hs. slice_get (map (λ t. t.pair) hs) i) (sym taken.links.held)
     ∙ ap (λ ps. slice_get ps i) (pairs-entries ks)
-    ∙ slice_get-pair ks i (IsAt-entries ks i taken.links.held at) (λ xs t ys e q. ap (λ z. (z.1, z.2)) (c.unlink-key.ensures.triple xs t ys e q)))
+    ∙ slice_get-pair ks i (IsAt-entries ks i taken.links.held at)
+    (λ xs t ys e q. ap (λ z. (z.1, z.2)) (c.unlink-key.ensures.triple xs t ys e q)))

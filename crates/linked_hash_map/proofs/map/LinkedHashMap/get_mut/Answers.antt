@@ -1,6 +1,8 @@
 use Rattle.std.proofs.Common.{Some, option_map, refl, inl, ap, sym, ◌∙◌}
 use Rattle.linked_hash_map.specs.Nodes.{beside, pairs_of}
+use Rattle.linked_hash_map.specs.Pairs.{value_at}
 use Rattle.linked_hash_map.proofs.Callers.Keys.{keys_of-set_value}
+use Rattle.linked_hash_map.proofs.pairs.Calls.{set_value-none}
 use Rattle.linked_hash_map.proofs.nodes.StoredKeys.{set_value-stored, UpdatesBy-set_value}
 use Rattle.linked_hash_map.proofs.pairs.Written.{IsValid-set_value}
 use Rattle.linked_hash_map.proofs.lists.Options.{of-Some, of-None}
@@ -34,6 +36,7 @@ returns-in-Some g c =
             ∙ sym (ap (option_map (λ pair. pair.1)) it.pair);
         valid = valid;
         updates = UpdatesBy-set_value laws respects h distinct;
+        others = λ v. (UpdatesBy-set_value laws respects h distinct v).others;
         keys = λ v. keys_of-set_value g.Q.Equivalent.equivalent (pairs_of m.table.held) c.args.key v;
         stays_valid = IsValid-set_value valid (g.Q.Equivalent.equivalent c.args.key);
       },
@@ -42,13 +45,16 @@ returns-in-Some g c =
 pub returns-in-None : goal.returns-in-None
 returns-in-None g c =
     let m = c.self.inside in
+    let absent = of-None c.in-None.is c.locate-found.ensures.absent in
     rw (← c.self.view_is) (
       refl,
       record {
         writes_back = tt;
-        value = sym (ap (option_map (λ pair. pair.1)) (of-None c.in-None.is c.locate-found.ensures.absent));
+        value = sym (ap (option_map (λ pair. pair.1)) absent);
         valid = IsValid-view m refl c.self.invariant;
         updates = λ v. tt;
+        others = λ v q apart. ap (λ ps. value_at g.K.PartialEq.eq ps q)
+            (set_value-none g.Q.Equivalent.equivalent (pairs_of m.table.held) c.args.key v absent);
         keys = λ v. keys_of-set_value g.Q.Equivalent.equivalent (pairs_of m.table.held) c.args.key v;
         stays_valid = IsValid-set_value (IsValid-view m refl c.self.invariant) (g.Q.Equivalent.equivalent c.args.key);
       },

@@ -1,0 +1,88 @@
+//! Calls of a set by the place of its items.
+
+use super::iterators_from::advance_and_clone;
+use super::line::Line;
+use super::ordered::OrderedKey;
+use super::output::Output;
+use super::retaining::Calls;
+use super::sets::Set;
+use super::sorts::compare;
+use linked_hash_set::LinkedHashSet;
+use std::alloc::Global;
+
+/// Sorts by the texts as numbers modulo 7, compared as a word says.
+fn sort_by<'a>(set: &mut Set<'a>, line: &mut Line<'a>, output: &mut Output<'a>) {
+    let word = line.word();
+    let guard = line.guard();
+    let calls = Calls::new(line.counts());
+    let noted = &calls;
+    set.sort_by(move |item, other| {
+        guard.hold();
+        compare(word, noted.note(), item.number() % 7, other.number() % 7)
+    });
+    calls.show(output);
+}
+
+/// Sorts a set of the same items that are compared as they are, and appends it.
+fn sort<'a>(alloc: Global, set: &Set<'a>, output: &mut Output<'a>) {
+    output.end();
+    let mut sorted: LinkedHashSet<OrderedKey<'a>> = LinkedHashSet::new(alloc);
+    for item in set {
+        output.note(sorted.insert(item.ordered()));
+    }
+    output.begin();
+    sorted.sort();
+    output.show(&sorted);
+}
+
+/// Runs the call of this name that sorts a set or turns it round, and returns whether there is one.
+fn run_on_all<'a>(
+    alloc: Global,
+    name: &str,
+    line: &mut Line<'a>,
+    set: &mut Set<'a>,
+    output: &mut Output<'a>,
+) -> bool {
+    match name {
+        "sort_by" => sort_by(set, line, output),
+        "sort" => sort(alloc, set, output),
+        "reverse" => set.reverse(),
+        _ => return false,
+    }
+    true
+}
+
+/// Runs the call of this name that iterates from an item on, and returns whether there is one.
+fn iterate<'a>(name: &str, line: &mut Line<'a>, set: &Set<'a>, output: &mut Output<'a>) -> bool {
+    match name {
+        "iter_from" => {
+            let item = line.key();
+            advance_and_clone(set.iter_from(&item), line, output);
+        }
+        "iter_back_from" => {
+            let item = line.key();
+            advance_and_clone(set.iter_back_from(&item), line, output);
+        }
+        _ => return false,
+    }
+    true
+}
+
+/// Runs the call of this name, and returns whether there is one.
+pub fn run<'a>(
+    alloc: Global,
+    name: &str,
+    line: &mut Line<'a>,
+    set: &mut Set<'a>,
+    other: &mut Set<'a>,
+    output: &mut Output<'a>,
+) -> bool {
+    match name {
+        "append" => output.show_refusal(set.append(other)),
+        "insert_front" => output.show_result(set.insert_front(line.key())),
+        "move_before" => output.show(&set.move_before(&line.key(), &line.key())),
+        "move_after" => output.show(&set.move_after(&line.key(), &line.key())),
+        _ => return run_on_all(alloc, name, line, set, output) || iterate(name, line, set, output),
+    }
+    true
+}

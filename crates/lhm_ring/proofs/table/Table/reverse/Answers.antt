@@ -1,0 +1,46 @@
+use Rattle.std.proofs.Common.{◌<◌, length, refl, ap, ◌∙◌, arith}
+use Rattle.lhm_ring.proofs.tables.Reversed.{IsReversing-start, reversed-all, next_at, IsHeld-next, IsReversing-more}
+use Rattle.lhm_ring.proofs.tables.Rotated.{IsSome-pointer}
+use Rattle.lhm_ring.proofs.table.Table.reverse.Goals as goal
+use Rattle.lhm_ring.specs.Pointer.{pointer_of_some}
+
+pub loop-moved-init : goal.loop-moved-init
+loop-moved-init g c = record {
+  reversing = IsReversing-start c.args.self.now.held c.first-next.ensures;
+  keeps = record { capacity = refl; rechained = refl; made = refl };
+}
+
+pub unwrap-at-requires : goal.unwrap-at-requires
+unwrap-at-requires g c =
+    let hs = c.args.self.now.held in
+    let below : c.loop-moved._moved < length hs = omega (arith, c.loop-moved-test.true, c.len-len.ensures.value) in
+    IsSome-pointer c.loop-moved.next (next_at hs c.loop-moved.invariant.reversing below)
+
+pub next-next-requires : goal.next-next-requires
+next-next-requires g c =
+    let hs = c.args.self.now.held in
+    let below : c.loop-moved._moved < length hs = omega (arith, c.loop-moved-test.true, c.len-len.ensures.value) in
+    IsHeld-next hs c.loop-moved.invariant.reversing below (ap pointer_of_some c.unwrap-at.ensures)
+
+pub move_to_front-requires : goal.move_to_front-requires
+move_to_front-requires g c =
+    let hs = c.args.self.now.held in
+    let below : c.loop-moved._moved < length hs = omega (arith, c.loop-moved-test.true, c.len-len.ensures.value) in
+    IsHeld-next hs c.loop-moved.invariant.reversing below (ap pointer_of_some c.unwrap-at.ensures)
+
+pub loop-moved-preserved : goal.loop-moved-preserved
+loop-moved-preserved g c =
+    let hs = c.args.self.now.held in let inv = c.loop-moved.invariant in let moved = c.move_to_front.ensures in
+    let below : c.loop-moved._moved < length hs = omega (arith, c.loop-moved-test.true, c.len-len.ensures.value) in
+    record {
+      reversing = IsReversing-more hs inv.reversing below (ap pointer_of_some c.unwrap-at.ensures) moved.held c.next-next.ensures.next;
+      keeps = record {
+        capacity = moved.keeps.capacity ∙ inv.keeps.capacity;
+        rechained = moved.keeps.rechained ∙ inv.keeps.rechained;
+        made = moved.keeps.made ∙ inv.keeps.made;
+      };
+    }
+
+pub returns-clause-reversed : goal.returns-clause-reversed
+returns-clause-reversed g c = reversed-all c.args.self.now.held c.loop-moved.invariant.reversing
+    (omega (arith, c.loop-moved-test.false, c.len-len.ensures.value))

@@ -1,0 +1,10 @@
+use Rattle.lhm_ring.proofs.table.Table.reverse.Given as goal
+use Rattle.lhm_ring.proofs.tables.Reversed.{IsReversing}
+use Rattle.lhm_ring.specs.Pointer.{pointer_of_some}
+use Rattle.lhm_ring.specs.Table.{KeepsCounts}
+
+abbrev pub invariant-loop-moved : goal.invariant-loop-moved
+invariant-loop-moved g l = record {
+  reversing : IsReversing l.initial.self.held l.self.held (pointer_of_some l.next) l._moved;
+  keeps : KeepsCounts l.initial.self l.self;
+}

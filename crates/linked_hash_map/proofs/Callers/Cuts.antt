@@ -1,0 +1,138 @@
+-- For callers: pairs cut at one of them, and what each call says of it, in words of the cut.
+use Rattle.std.proofs.Common.{◌≡◌, suc, ◌+◌, Bool, true, false, cond, not, List, [], ◌∷◌, ◌++◌, length, reverse}
+use Rattle.std.proofs.Common.{Some, None, is_some, option_to_list, refl, sym, ap, ap₂, ◌∙◌, subst, true≢false, arith}
+use Rattle.std.proofs.Common.{append_assoc, length-append}
+use Rattle.std.specs.Cmp.{IsEquivalence}
+use Rattle.std.specs.List.{IsDistinct}
+use Rattle.std.specs.Map.{keys_of}
+use Rattle.std.proofs.Math.Seq.{take-append_seam, drop-append_seam}
+use Rattle.std.proofs.lemmas.List.{reverse-append}
+use Rattle.std.proofs.lemmas.List.Sorted.{IsPermutation-map, IsPermutation-reverse}
+use Rattle.std.proofs.lemmas.Map.Keys.{IsDistinct-tail, IsDistinct-IsPermutation}
+use Rattle.linked_hash_map.specs.Pairs.{find, from, without, count_before, to_behind, to_before, to_after}
+use Rattle.linked_hash_map.proofs.Callers.Keys.{without-absent}
+use Rattle.linked_hash_map.proofs.Callers.Turns.{find-others}
+
+module _ {K V : Type 0} {eq : K → K → Bool} (laws : IsEquivalence eq) where
+  abbrev Differ : List (K × V) → Type 0
+  Differ pairs = IsDistinct eq (keys_of pairs)
+
+  tail : (first : K × V) (pairs : List (K × V)) → Differ (first ∷ pairs) → Differ pairs
+  tail first pairs = IsDistinct-tail eq first.0 (keys_of pairs)
+
+  right : (xs ys : List (K × V)) → Differ (xs ++ ys) → Differ ys
+  right [] ys distinct = distinct
+  right (x ∷ xs) ys distinct = right xs ys (tail x (xs ++ ys) distinct)
+
+  -- the first pair has another key than one that is found behind it
+  apart : (first : K × V) (pairs : List (K × V)) (pair : K × V) → Differ (first ∷ pairs) → find eq pairs pair.0 ≡ Some pair
+      → eq pair.0 first.0 ≡ false
+  apart first pairs pair distinct found = by_test (eq pair.0 first.0) refl
+    where
+      by_test : (b : Bool) → eq pair.0 first.0 ≡ b → b ≡ false
+      by_test true same = absurd (true≢false (ap is_some (sym found ∙ find-others laws pairs pair.0 first distinct same)))
+      by_test false different = refl
+
+  -- the key of a pair finds it, and the others are those before it and behind it
+  own : (xs : List (K × V)) (pair : K × V) (ys : List (K × V)) → Differ (xs ++ pair ∷ ys)
+      → (find eq (xs ++ pair ∷ ys) pair.0 ≡ Some pair) × (without eq (xs ++ pair ∷ ys) pair.0 ≡ xs ++ ys)
+  own [] pair ys distinct = (
+    ap (λ b. cond b (Some pair) (find eq ys pair.0)) (laws.refl pair.0),
+    ap (λ b. cond (not b) (pair ∷ without eq ys pair.0) (without eq ys pair.0)) (laws.refl pair.0)
+        ∙ without-absent eq ys pair.0 (find-others laws ys pair.0 pair distinct (laws.refl pair.0)),
+  )
+  own (x ∷ xs) pair ys distinct =
+      let others = xs ++ pair ∷ ys in
+      let rest = own xs pair ys (tail x others distinct) in let differs = apart x others pair distinct rest.0 in (
+        ap (λ b. cond b (Some x) (find eq others pair.0)) differs ∙ rest.0,
+        ap (λ b. cond (not b) (x ∷ without eq others pair.0) (without eq others pair.0)) differs ∙ ap (λ ps. x ∷ ps) rest.1,
+      )
+
+  pub find-cut : (xs : List (K × V)) (pair : K × V) (ys : List (K × V)) → Differ (xs ++ pair ∷ ys)
+      → find eq (xs ++ pair ∷ ys) pair.0 ≡ Some pair
+  find-cut xs pair ys distinct = (own xs pair ys distinct).0
+
+  -- what is found in the second of two lists is not in the first
+  behind : (xs ys : List (K × V)) (pair : K × V) → Differ (xs ++ ys) → find eq ys pair.0 ≡ Some pair
+      → (find eq (xs ++ ys) pair.0 ≡ Some pair) × (find eq xs pair.0 ≡ None)
+  behind [] ys pair distinct found = (found, refl)
+  behind (x ∷ xs) ys pair distinct found =
+      let rest = behind xs ys pair (tail x (xs ++ ys) distinct) found in let differs = apart x (xs ++ ys) pair distinct rest.0 in (
+        ap (λ b. cond b (Some x) (find eq (xs ++ ys) pair.0)) differs ∙ rest.0,
+        ap (λ b. cond b (Some x) (find eq xs pair.0)) differs ∙ rest.1,
+      )
+
+  -- the pairs from that one on, to the back and to the front
+  pub from-cut : (xs : List (K × V)) (pair : K × V) (ys : List (K × V)) → Differ (xs ++ pair ∷ ys)
+      → from eq (xs ++ pair ∷ ys) pair.0 ≡ pair ∷ ys
+  from-cut [] pair ys distinct = ap (λ b. cond b (pair ∷ ys) (from eq ys pair.0)) (laws.refl pair.0)
+  from-cut (x ∷ xs) pair ys distinct =
+      let others = xs ++ pair ∷ ys in let differ = tail x others distinct in
+      ap (λ b. cond b (x ∷ others) (from eq others pair.0)) (apart x others pair distinct (find-cut xs pair ys differ))
+      ∙ from-cut xs pair ys differ
+
+  pub from-cut_reverse : (xs : List (K × V)) (pair : K × V) (ys : List (K × V)) → Differ (xs ++ pair ∷ ys)
+      → from eq (reverse (xs ++ pair ∷ ys)) pair.0 ≡ pair ∷ reverse xs
+  from-cut_reverse xs pair ys distinct =
+      let pairs = xs ++ pair ∷ ys in
+      let whole : reverse pairs ≡ reverse ys ++ pair ∷ reverse xs =
+      reverse-append xs (pair ∷ ys) ∙ ap (λ ps. ps ++ reverse xs) (reverse-append (pair ∷ []) ys)
+      ∙ append_assoc (reverse ys) (pair ∷ []) (reverse xs) in
+      ap (λ ps. from eq ps pair.0) whole
+      ∙ from-cut (reverse ys) pair (reverse xs)
+      (subst Differ whole (IsDistinct-IsPermutation eq laws.symm (keys_of pairs) (keys_of (reverse pairs))
+      (IsPermutation-map (λ (p : K × V). p.0) pairs (reverse pairs) (IsPermutation-reverse pairs)) distinct))
+
+  pub count_before-cut : (xs : List (K × V)) (pair : K × V) (ys : List (K × V)) → Differ (xs ++ pair ∷ ys)
+      → count_before eq (xs ++ pair ∷ ys) pair.0 ≡ length xs
+  count_before-cut [] pair ys distinct = ap (λ b. cond (not b) (1 + count_before eq ys pair.0) 0) (laws.refl pair.0)
+  count_before-cut (x ∷ xs) pair ys distinct =
+      let others = xs ++ pair ∷ ys in let differ = tail x others distinct in let rest = count_before-cut xs pair ys differ in
+      let one : 1 + count_before eq others pair.0 ≡ suc (length xs) = omega (arith, rest) in
+      ap (λ b. cond (not b) (1 + count_before eq others pair.0) 0) (apart x others pair distinct (find-cut xs pair ys differ)) ∙ one
+
+  -- that pair, moved before others right before it
+  to_behind-cut : (xs ys : List (K × V)) (pair : K × V) (zs : List (K × V)) → Differ (xs ++ (ys ++ pair ∷ zs))
+      → to_behind eq (xs ++ (ys ++ pair ∷ zs)) pair.0 (length xs) ≡ xs ++ pair ∷ (ys ++ zs)
+  to_behind-cut xs ys pair zs distinct =
+      let rest = ys ++ pair ∷ zs in let here = own ys pair zs (right xs rest distinct) in let there = behind xs rest pair distinct here.0 in
+      ap₂ (λ ps qs. without eq ps pair.0 ++ (option_to_list (find eq (xs ++ rest) pair.0) ++ without eq qs pair.0))
+      (take-append_seam xs rest) (drop-append_seam xs rest)
+      ∙ ap₂ (λ ps o. ps ++ (option_to_list o ++ without eq rest pair.0)) (without-absent eq xs pair.0 there.1) there.0
+      ∙ ap (λ ps. xs ++ pair ∷ ps) here.1
+
+  pub to_before-cut : (xs : List (K × V)) (other : K × V) (ys : List (K × V)) (pair : K × V) (zs : List (K × V))
+      → Differ (xs ++ other ∷ (ys ++ pair ∷ zs))
+      → to_before eq eq (xs ++ other ∷ (ys ++ pair ∷ zs)) pair.0 other.0 ≡ xs ++ pair ∷ other ∷ (ys ++ zs)
+  to_before-cut xs other ys pair zs distinct =
+      ap (to_behind eq (xs ++ other ∷ (ys ++ pair ∷ zs)) pair.0) (count_before-cut xs other (ys ++ pair ∷ zs) distinct)
+      ∙ to_behind-cut xs (other ∷ ys) pair zs distinct
+
+  pub to_after-cut : (xs : List (K × V)) (other : K × V) (ys : List (K × V)) (pair : K × V) (zs : List (K × V))
+      → Differ (xs ++ other ∷ (ys ++ pair ∷ zs))
+      → to_after eq eq (xs ++ other ∷ (ys ++ pair ∷ zs)) pair.0 other.0 ≡ xs ++ other ∷ pair ∷ (ys ++ zs)
+  to_after-cut xs other ys pair zs distinct =
+      let rest = ys ++ pair ∷ zs in let whole = append_assoc xs (other ∷ []) rest in
+      let count = count_before-cut xs other rest distinct in
+      let one : count_before eq (xs ++ other ∷ rest) other.0 + 1 ≡ length (xs ++ other ∷ []) =
+      omega (arith, count, length-append xs (other ∷ [])) in
+      ap (to_behind eq (xs ++ other ∷ rest) pair.0) one
+      ∙ ap (λ ps. to_behind eq ps pair.0 (length (xs ++ other ∷ []))) (sym whole)
+      ∙ to_behind-cut (xs ++ other ∷ []) ys pair zs (subst Differ (sym whole) distinct)
+      ∙ append_assoc xs (other ∷ []) (pair ∷ (ys ++ zs))
+
+  -- the second of two pairs side by side
+  module _ (xs : List (K × V)) (one two : K × V) (ys : List (K × V)) (distinct : Differ (xs ++ one ∷ two ∷ ys)) where
+    between : (xs ++ one ∷ []) ++ two ∷ ys ≡ xs ++ one ∷ two ∷ ys
+    between = append_assoc xs (one ∷ []) (two ∷ ys)
+
+    differ : Differ ((xs ++ one ∷ []) ++ two ∷ ys)
+    differ = subst Differ (sym between) distinct
+
+    pub find-second : find eq (xs ++ one ∷ two ∷ ys) two.0 ≡ Some two
+    find-second = ap (λ ps. find eq ps two.0) (sym between) ∙ find-cut (xs ++ one ∷ []) two ys differ
+
+    pub from-second_reverse : from eq (reverse (xs ++ one ∷ two ∷ ys)) two.0 ≡ two ∷ one ∷ reverse xs
+    from-second_reverse =
+        ap (λ ps. from eq (reverse ps) two.0) (sym between) ∙ from-cut_reverse (xs ++ one ∷ []) two ys differ
+        ∙ ap (λ ps. two ∷ ps) (reverse-append xs (one ∷ []))
