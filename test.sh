@@ -78,11 +78,11 @@ run_part programs-self-test scripts/programs --self-test
 show_part programs-self-test '^programs: [1-9][0-9]* tries end as they must$'
 end_if_failed
 
-run_part refused-growths nice -n 19 scripts/refused-growths &
-run_part wrong-bodies-self-test nice -n 19 scripts/wrong-bodies --self-test &
-run_part doc-tests scripts/doc-tests &
-run_part doc-tests-self-test scripts/doc-tests --self-test &
-run_part vendor-self-test scripts/vendor --self-test &
+run_part refused-growths nice scripts/refused-growths &
+run_part wrong-bodies-self-test nice scripts/wrong-bodies --self-test &
+run_part doc-tests nice scripts/doc-tests &
+run_part doc-tests-self-test nice scripts/doc-tests --self-test &
+run_part vendor-self-test nice scripts/vendor --self-test &
 
 echo "$(date +%H:%M) gate begins"
 (
