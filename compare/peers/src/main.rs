@@ -15,6 +15,7 @@ mod moves;
 mod order;
 mod peer;
 mod products;
+mod proto;
 mod small;
 mod twin;
 mod workloads;
@@ -27,6 +28,8 @@ use small::{MAPS, MOST_PAIRS};
 use std::process::ExitCode;
 use twin::Twin;
 use workloads::Workload;
+
+use proto::*;
 
 type Original = linked_hash_map::LinkedHashMap<u64, u64, Build>;
 
@@ -180,9 +183,24 @@ fn bench(peer: &str, order: &mut impl Order, rounds: u64, n: u64) {
             bench_sort::<Twin>(order, rounds, n);
             bench_sort_vector::<Twin>(order, rounds, n);
         }
-        _ => {}
+        _ => bench_proto(peer, order, rounds, n),
     }
 }
+
+macro_rules! bench_protos {
+    ($($name:literal => $map:ty,)*) => {
+        /// Times a prototype.
+        fn bench_proto(peer: &str, order: &mut impl Order, rounds: u64, n: u64) {
+            match peer {
+                $($name if n <= MOST_PAIRS => bench_small::<$map>(order, rounds, n),
+                  $name => bench_map::<$map>(order, rounds, n),)*
+                _ => {}
+            }
+        }
+    };
+}
+
+prototypes!(bench_protos);
 
 /// Times a peer at each size, in an order.
 fn run(peer: &str, order: &str, rounds: u64, sizes: &[u64]) {

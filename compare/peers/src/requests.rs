@@ -9,11 +9,13 @@
 mod hasher;
 mod order;
 mod peer;
+mod proto;
 mod small;
 mod twin;
 
 use hasher::Build;
 use peer::Map;
+use proto::*;
 use std::alloc::{GlobalAlloc, Layout, System};
 use std::process::ExitCode;
 use std::sync::atomic::{AtomicU64, Ordering};
@@ -80,6 +82,21 @@ fn show<M: Map>(name: &str, n: u64) {
     println!("{name} {n} {} {}", after.0 - before.0, after.1 - before.1);
 }
 
+macro_rules! protos {
+    ($($name:literal => $map:ty,)*) => {
+        fn show_protos(n: u64) {
+            $(show::<$map>($name, n);)*
+        }
+        fn show_sizes() {
+            eprintln!("original {}", std::mem::size_of::<linked_hash_map::LinkedHashMap<u64, u64, Build>>());
+            eprintln!("twin {}", std::mem::size_of::<Twin>());
+            $(eprintln!("{} {}", $name, std::mem::size_of::<$map>());)*
+        }
+    };
+}
+
+prototypes!(protos);
+
 fn main() -> ExitCode {
     let sizes: Vec<u64> = std::env::args().flat_map(|word| word.parse()).collect();
     for n in &sizes {
@@ -87,7 +104,9 @@ fn main() -> ExitCode {
         show::<hashlink::LinkedHashMap<u64, u64, Build>>("hashlink", *n);
         show::<indexmap::IndexMap<u64, u64, Build>>("indexmap", *n);
         show::<Twin>("twin", *n);
+        show_protos(*n);
     }
+    show_sizes();
     if sizes.is_empty() {
         eprintln!("usage: requests N ..");
         return ExitCode::from(2);

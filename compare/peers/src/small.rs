@@ -47,6 +47,19 @@ pub fn lookup<M: Map, O: Order>(maps: &[M], order: &mut O, n: u64) -> u64 {
     sink
 }
 
+/// Looks up as many absent keys of each map as it has pairs, and returns how many were there.
+pub fn miss<M: Map, O: Order>(maps: &[M], order: &mut O, n: u64) -> u64 {
+    let mut count = 0;
+    for (map, at) in maps.iter().zip(0..) {
+        for i in 0..n {
+            if map.get(mix(first(1 << 40, at) + order.index(i, n))).is_some() {
+                count += 1;
+            }
+        }
+    }
+    count
+}
+
 /// Goes over the pairs of each map.
 pub fn iterate<M: Map>(maps: &[M]) -> u64 {
     let mut sink: u64 = 0;
