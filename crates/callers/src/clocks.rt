@@ -6,6 +6,7 @@ use linked_hash_map::{LinkedHashMap, Refused};
 use std::hash::Hash;
 
 /// Takes what another clock knows into this one: of each node the larger count.
+#[tactic(auto, using(linked_hash_map::proofs::Callers::Merging::merges))]
 pub fn merge<K: Eq + Hash + Copy>(
     clock: &mut LinkedHashMap<K, u64>,
     other: &LinkedHashMap<K, u64>,

@@ -2,13 +2,14 @@
 #![tactic(auto)]
 
 pub mod clocks;
+#[tactic(auto, using(linked_hash_map::proofs::Callers::Groups::groups))]
 pub mod groups;
 #[tactic(auto, using(lru_cache::proofs::Callers::Rules::number_pairs))]
 pub mod history;
 pub mod parsed;
 pub mod seen;
 pub mod settings;
-#[tactic(auto, using(crate::proofs::Ways::steps))]
+#[tactic(auto, using(linked_hash_map::proofs::Callers::Rules::each_pair, crate::proofs::Ways::ways_few, crate::proofs::Ways::ways_more))]
 pub mod stairs;
 #[tactic(auto, using(linked_hash_map::proofs::Callers::Rules::moved_to_front))]
 pub mod switcher;

@@ -15,11 +15,14 @@ pub mod Equality
 pub mod Extended
 pub mod Fronts
 pub mod FromKeys
+pub mod Groups
 pub mod Insertions
 pub mod Iterators
+pub mod KeyOrder
 pub mod Keys
 pub mod Lookups
 pub mod Merges
+pub mod Merging
 pub mod Moves
 pub mod Permuted
 pub mod ReplacedKeys

@@ -1,10 +1,8 @@
 use Rattle.std.proofs.Common.{arith}
-use Rattle.callers.proofs.Known.{known-passed}
+use Rattle.linked_hash_map.proofs.Callers.Merging.{value_at_next}
 use Rattle.callers.proofs.clocks.covers.Goals as goal
 
 pub loop-node-preserved : goal.loop-node-preserved
-loop-node-preserved g c = λ q. let got = c.get.ensures in let copied = c.copied.ensures in
-    let count = c.unwrap_or.ensures in let enough = c.if-unwrap_or-count.false in
-    known-passed g.met.K.Eq.laws c.args.clock.now.pairs _ c.next.new.self c.in-Some.node.now
-    c.in-Some.count.now c.in-Some.ensures.steps q _ (c.loop-node.invariant q)
-    (grind (arith, got, copied, count, enough))
+loop-node-preserved g c = λ q. let was = c.loop-node.invariant q in
+    let next = value_at_next g.met.K.Eq.laws c.args.clock.now.pairs q c.in-Some.ensures.steps in
+    grind (arith, was, next)

@@ -1,10 +1,7 @@
 use Rattle.std.proofs.Common.{rules, arith}
-use Rattle.callers.proofs.Known.{IsMerging-more}
+use Rattle.linked_hash_map.proofs.Callers.Merging.{IsMerging-merged}
 use Rattle.callers.proofs.clocks.merge.Goals as goal
 
 pub loop-node-preserved : goal.loop-node-preserved
-loop-node-preserved g c = let known = c.entry.ensures.value in
-    let lent = c.in_ok-known.ensures.value in let larger = c.max.ensures in
-    IsMerging-more g.met.K.Eq.laws c.loop-node.clock.pairs _ c.next.new.self c.in-Some.node.now
-    c.in-Some.count.now c.in-Some.ensures.steps _ _ _ _ c.max.result c.loop-node.invariant
-    (c.entry.ensures.updates c.max.result) (search rules) (grind (arith, known, lent, larger))
+loop-node-preserved g c = IsMerging-merged g.met.K.Eq.laws c.max.result c.loop-node.invariant
+    c.in-Some.ensures.steps c.entry.ensures.acts (search rules) (grind (arith, c.in_ok-known.ensures.value))

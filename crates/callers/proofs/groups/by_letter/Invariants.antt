@@ -1,7 +1,9 @@
-use Rattle.std.proofs.Common.{◌≡◌, ℕ, take}
-use Rattle.callers.specs.Groups.{words_of, group_of}
+use Rattle.std.proofs.Common.{nat_eq, take}
+use Rattle.std.specs.Prelude.{slice_get}
+use Rattle.linked_hash_map.proofs.Callers.Groups.{GroupsItems}
+use Rattle.callers.specs.Groups.{Word}
 use Rattle.callers.proofs.groups.by_letter.Given as goal
 
 abbrev pub invariant-loop-word : goal.invariant-loop-word
-invariant-loop-word l = (letter : ℕ)
-    → group_of l.groups.pairs letter ≡ words_of letter (take l.word-index l.words)
+invariant-loop-word l = GroupsItems nat_eq (λ (word : Word). slice_get word.now 0)
+    l.groups.pairs (take l.word-index l.words)

@@ -1,7 +1,6 @@
-use Rattle.std.proofs.Common.{ap, ◌∙◌, nat_eq}
-use Rattle.std.specs.Map.{keys_of}
-use Rattle.linked_hash_map.proofs.Callers.Keys.{keys_of-without}
+use Rattle.linked_hash_map.proofs.Callers.KeyOrder.{keys_of_removed}
 use Rattle.callers.proofs.switcher.Switcher.close.Goals as goal
 
 pub returns-clause-order : goal.returns-clause-order
-returns-clause-order c = ap keys_of c.remove.ensures.pairs ∙ keys_of-without nat_eq c.args.self.now.windows.pairs c.args.window
+returns-clause-order c = keys_of_removed c.args.self.now.windows.pairs c.remove.new.self.pairs
+    c.args.window c.remove.ensures.pairs
