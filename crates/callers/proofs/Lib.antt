@@ -1,5 +1,3 @@
 pub mod Grouped
 pub mod Known
-pub mod Numbers
-pub mod Sets
 pub mod Ways
