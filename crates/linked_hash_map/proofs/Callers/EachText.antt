@@ -1,13 +1,11 @@
 -- For callers: `String` keys that are looked up as texts. What is true of the bytes of each key and
 -- its value is true of what a text finds, and still is after a call.
-use Rattle.std.proofs.Common.{◌≡◌, ◌⊎◌, inl, inr, ℕ, ◌<◌, true, List, length, get_or, option_map, Option, Some, None, is_some}
+use Rattle.std.proofs.Common.{◌≡◌, ℕ, true, List, option_map, Option, Some, None, is_some}
 use Rattle.std.proofs.Common.{unwrap_or, refl, sym, ap, subst, true≢false}
 use Rattle.std.specs.Cmp.Lexicographic.{bytes_decides}
-use Rattle.std.specs.List.{All, Contains}
+use Rattle.std.specs.List.{All}
 use Rattle.std.specs.Prelude.{String, string_eq}
 use Rattle.std.specs.String.{string_bytes, string_eq_equiv}
-use Rattle.std.specs.declared.alloc.Global.{Global}
-use Rattle.std.proofs.lemmas.List.Elements.{All-weaker, All-contains_itself}
 use Rattle.linked_hash_map.specs.declared.map.Mode.{Mode}
 use Rattle.linked_hash_map.specs.Pairs.{find, value_at, without, to_back_as_is, to_front, put}
 use Rattle.linked_hash_map.proofs.Callers.EachPair.{All-find, All-without, All-to_back_as_is, All-to_front, All-put}
@@ -52,45 +50,3 @@ module _ {Y V : Type 0} (P : List ℕ → V → Type 0) where
       → P (string_bytes key) v → AllTexts P (put string_eq mode pairs key v)
   AllTexts-put mode pairs key v all right = All-put (λ pair. P (string_bytes pair.0) pair.1) (string_eq_equiv {Z = Y}) mode
       pairs key v all (right-string_eq key v right)
-
--- each pair after a call was there, or has the bytes of the key and the value that were put in: for
--- the sets of `Rules`
-module _ {V : Type 0} (pairs : List (String Global × V)) (text : List ℕ) where
-  pub in-found_text : (pair : String Global × V) → find is_text pairs text ≡ Some pair
-      → (find is_text pairs text ≡ find is_text pairs text) × (text ≡ string_bytes pair.0) × Contains pairs pair
-  in-found_text pair found = (
-    refl,
-    (bytes_decides text (string_bytes pair.0)).0 (is_text-find pairs text pair found),
-    All-find (Contains pairs) is_text pairs text (All-contains_itself pairs) pair found,
-  )
-
-  module _ (i : ℕ) (d : String Global × V) where
-    pub in-without_text : i < length (without is_text pairs text)
-        → (get_or (without is_text pairs text) i d ≡ get_or (without is_text pairs text) i d)
-        × Contains pairs (get_or (without is_text pairs text) i d)
-    in-without_text within = (refl, All-without (Contains pairs) is_text pairs text (All-contains_itself pairs) i d within)
-
-    pub in-to_back_as_is_text : i < length (to_back_as_is is_text pairs text)
-        → (get_or (to_back_as_is is_text pairs text) i d ≡ get_or (to_back_as_is is_text pairs text) i d)
-        × Contains pairs (get_or (to_back_as_is is_text pairs text) i d)
-    in-to_back_as_is_text within =
-        (refl, All-to_back_as_is (Contains pairs) is_text pairs text (All-contains_itself pairs) i d within)
-
--- the pair has the bytes of the key and the value, or is there
-abbrev pub IsPutOrThere : {V : Type 0} → List (String Global × V) → String Global → V → String Global × V → Type 0
-IsPutOrThere pairs key v pair = ((string_bytes pair.0 ≡ string_bytes key) × (pair.1 ≡ v)) ⊎ Contains pairs pair
-
-module _ {V : Type 0} (pairs : List (String Global × V)) (key : String Global) (v : V) where
-  pub all_there : All (IsPutOrThere pairs key v) pairs
-  all_there = All-weaker (Contains pairs) (IsPutOrThere pairs key v) (λ p there. inr there) pairs (All-contains_itself pairs)
-
-  pub same-key : (other : String Global) → string_eq key other ≡ true → IsPutOrThere pairs key v (other, v)
-  same-key other same = inl (sym ((bytes_decides (string_bytes key) (string_bytes other)).0 same), refl)
-
-  pub in-put_text : (mode : Mode) (i : ℕ) (d : String Global × V) → i < length (put string_eq mode pairs key v)
-      → (get_or (put string_eq mode pairs key v) i d ≡ get_or (put string_eq mode pairs key v) i d)
-      × IsPutOrThere pairs key v (get_or (put string_eq mode pairs key v) i d)
-  in-put_text mode i d within = (
-    refl,
-    All-put (IsPutOrThere pairs key v) (string_eq_equiv {Z = Global}) mode pairs key v all_there same-key i d within,
-  )

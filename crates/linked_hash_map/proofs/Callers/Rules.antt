@@ -30,7 +30,6 @@ use Rattle.linked_hash_map.proofs.Callers.Counted.{CountsKnown-start, CountsKnow
 use Rattle.linked_hash_map.proofs.Callers.Cuts.{find-cut, find-second, from-cut, from-second_reverse, to_before-cut, to_after-cut}
 use Rattle.linked_hash_map.proofs.Callers.Dense.{values_of_dense_push, value_at_dense_each, eq-dense}
 use Rattle.linked_hash_map.proofs.Callers.EachPair.{All-find, All-without, All-to_back_as_is, All-put}
-use Rattle.linked_hash_map.proofs.Callers.EachText.{in-found_text, in-without_text, in-to_back_as_is_text, in-put_text}
 use Rattle.linked_hash_map.proofs.Callers.Ends.{keys_of-take, take-keys_of, to_front-put, value_at-take}
 use Rattle.linked_hash_map.proofs.Callers.Lookups.{eq-find, eq-stored, value_at-append, value_at-without_append}
 use Rattle.linked_hash_map.proofs.Callers.Rounds.{IsTurned-start, IsTurned-turn, IsTurned-round}
@@ -226,9 +225,6 @@ pub ruleset number_pairs = (put_number, length-put_number)
 
 -- what is true of each pair, at numbers
 pub ruleset each_pair = (in-found_number, in-without_number, in-to_back_as_is_number, in-put_number)
-
--- what is true of each pair, at `String` keys that are looked up by texts
-pub ruleset each_text = (in-found_text, in-without_text, in-to_back_as_is_text, in-put_text)
 
 -- the keys after an insertion in Keep, and after a removal, at texts
 pub ruleset text_keys = (keys_of-without_text, keys_of-set_or_push_text)

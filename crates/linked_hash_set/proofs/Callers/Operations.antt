@@ -1,5 +1,5 @@
--- For callers: which items are in a union, an intersection, a difference or a symmetric difference of
--- two sets, and in a set after a loop of insertions or removals.
+-- For callers: which items are in a union, an intersection, a difference or a symmetric difference
+-- of two sets, and in a set after a loop of insertions or removals.
 use Rattle.std.proofs.Common.{◌≡◌, ℕ, Bool, true, false, cond, not, ◌||◌, ◌&&◌, List, [], ◌∷◌, ◌++◌, filter, fold, map}
 use Rattle.std.proofs.Common.{refl, sym, ap, ap₂, ◌∙◌, subst, append_assoc, append-nil, arith}
 use Rattle.std.specs.Cmp.{IsEquivalence}
@@ -110,7 +110,8 @@ module _ {T : Type 0} {eq : T → T → Bool} (laws : IsEquivalence eq) where
           last b = grind arith
 
   -- after such insertions, one by one
-  pub contains-push_each : (xs ys : List T) (q : T) → contains eq (fold (push_if_absent eq) xs ys) q ≡ (contains eq xs q || contains eq ys q)
+  pub contains-push_each : (xs ys : List T) (q : T)
+      → contains eq (fold (push_if_absent eq) xs ys) q ≡ (contains eq xs q || contains eq ys q)
   contains-push_each xs [] q = grind arith
   contains-push_each xs (y ∷ ys) q = let first = contains-push_if_absent xs y q in
       let rest = contains-push_each (push_if_absent eq xs y) ys q in

@@ -3,12 +3,11 @@
 -- their equality; the first part of a conclusion shows `grind` the call to match.
 use Rattle.std.proofs.Common.{◌≡◌, ℕ, not, ◌||◌, ◌&&◌, List, [], ◌∷◌, refl, nat_eq}
 use Rattle.std.specs.Cmp.{nat_eq_equiv}
-use Rattle.std.specs.List.{IsDistinct}
-use Rattle.linked_hash_set.specs.Items.{contains, push_if_absent}
+use Rattle.linked_hash_set.specs.Items.{contains}
 use Rattle.linked_hash_set.specs.Operations.{difference, intersection, union, symmetric_difference}
-use Rattle.linked_hash_set.proofs.Callers.Operations.{contains-difference, contains-intersection, contains-union, contains-symmetric_difference}
-use Rattle.linked_hash_set.proofs.Callers.Removals.{without_each-nil, without_each-more}
-use Rattle.linked_hash_set.proofs.Callers.Unions.{IsUniting, IsUniting-start, IsUniting-more, IsUniting-end, IsUniting-contains}
+use Rattle.linked_hash_set.proofs.Callers.Operations.{contains-difference, contains-intersection, contains-union}
+use Rattle.linked_hash_set.proofs.Callers.Operations.{contains-symmetric_difference}
+use Rattle.linked_hash_set.proofs.Callers.Unions.{IsUniting, IsUniting-start, IsUniting-end, IsUniting-contains}
 
 module _ (xs ys : List ℕ) (q : ℕ) where
   pub contains-difference_number : (contains nat_eq (difference nat_eq xs ys) q ≡ contains nat_eq (difference nat_eq xs ys) q)
@@ -31,15 +30,11 @@ module _ (xs ys : List ℕ) (q : ℕ) where
 
 -- a union that is made an item at a time
 module _ {old other items left : List ℕ} (w : IsUniting nat_eq old other items left) where
-  pub uniting-more : {after ys : List ℕ} {x : ℕ} → left ≡ x ∷ ys → after ≡ push_if_absent nat_eq items x
-      → IsUniting nat_eq old other after ys
-  uniting-more more is = IsUniting-more nat_eq_equiv w more is
-
   pub uniting-contains : left ≡ [] → (q : ℕ) → contains nat_eq items q ≡ (contains nat_eq old q || contains nat_eq other q)
   uniting-contains none q = IsUniting-contains nat_eq_equiv w none q
 
--- what is in a union, an intersection, a difference and a symmetric difference, and in a union that is
--- made an item at a time, at numbers
+-- what is in a union, an intersection, a difference and a symmetric difference, and in a union that
+-- is made an item at a time, at its start and end, at numbers
 pub ruleset set_operations = (
   contains-difference_number,
   contains-intersection_number,
@@ -47,6 +42,5 @@ pub ruleset set_operations = (
   contains-symmetric_difference_number,
   IsUniting-start,
   IsUniting-end,
-  uniting-more,
   uniting-contains,
 )

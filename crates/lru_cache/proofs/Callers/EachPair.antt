@@ -35,5 +35,5 @@ module _ {Y V : Type 0} (P : List ℕ → V → Type 0) where
   pub AllTexts-insert : {S R E : Type 0} (old new : Cache (String Y) V S) (key : String Y) (v : V) (result : Result R E)
       → OnOk result (new.pairs ≡ inserted string_eq old.limit old.pairs key v) → OnErr result (new ≡ old)
       → P (string_bytes key) v → AllTexts P old.pairs → AllTexts P new.pairs
-  AllTexts-insert old new key v result is unchanged right all = All-insert (λ pair. P (string_bytes pair.0) pair.1) (string_eq_equiv {Z = Y})
-      old new key v result is unchanged (right-string_eq P key v right) all
+  AllTexts-insert old new key v result is unchanged right all =
+      All-insert (λ pair. P (string_bytes pair.0) pair.1) (string_eq_equiv {Z = Y}) old new key v result is unchanged (right-string_eq P key v right) all

@@ -3,15 +3,11 @@
 use Rattle.std.proofs.Common.{◌≡◌, ◌⊎◌, ℕ, ◌<◌, true, not, List, [], ◌∷◌, ◌++◌, filter, length, get_or, refl, inl, inr, ap, sym, nat_eq}
 use Rattle.std.proofs.Common.{is_some}
 use Rattle.std.specs.Map.{keys_of}
-use Rattle.std.specs.Prelude.{String, string_eq}
-use Rattle.std.specs.String.{string_eq_equiv}
-use Rattle.std.specs.declared.alloc.Global.{Global}
 use Rattle.std.specs.Cmp.{nat_eq_equiv}
 use Rattle.std.specs.List.{Contains}
 use Rattle.std.proofs.lemmas.Bool.{eqb-true}
 use Rattle.std.proofs.lemmas.List.Elements.{All-weaker, All-contains_itself}
 use Rattle.linked_hash_map.specs.Pairs.{find, to_back_as_is}
-use Rattle.linked_hash_map.proofs.Callers.EachText.{IsPutOrThere, all_there, same-key}
 use Rattle.linked_hash_map.proofs.Callers.Keys.{keys_of-without_first}
 use Rattle.linked_hash_map.proofs.Callers.Rules as pairs
 use Rattle.lru_cache.specs.Cache.{newest, inserted}
@@ -31,16 +27,6 @@ in-inserted_number {V} n ps k v i d within = (
       (λ key same. inl (ap (λ (j : ℕ). (j, v)) (sym (eqb-true k key same)))) i d within,
 )
 
--- each pair after an insertion by a text is the one that was put in, or was there
-pub in-inserted_text : {V : Type 0} (n : ℕ) (ps : List (String Global × V)) (key : String Global) (v : V) (i : ℕ) (d : String Global × V)
-    → i < length (inserted string_eq n ps key v)
-    → (get_or (inserted string_eq n ps key v) i d ≡ get_or (inserted string_eq n ps key v) i d)
-    × IsPutOrThere ps key v (get_or (inserted string_eq n ps key v) i d)
-in-inserted_text n ps key v i d within = (
-  refl,
-  All-inserted (IsPutOrThere ps key v) (string_eq_equiv {Z = Global}) n ps key v (all_there ps key v) (same-key ps key v) i d within,
-)
-
 -- the keys after each call, at numbers
 module _ {V : Type 0} (ps : List (ℕ × V)) where
   pub keys_of-inserted_number : (n k : ℕ) (v : V) → (inserted nat_eq n ps k v ≡ inserted nat_eq n ps k v)
@@ -55,17 +41,8 @@ module _ {V : Type 0} (ps : List (ℕ × V)) where
 -- what is true of each pair, at numbers
 pub ruleset each_pair = (pairs.each_pair, in-inserted_number)
 
--- what is true of each pair, at `String` keys that are looked up by texts
-pub ruleset each_text = (pairs.each_text, in-inserted_text)
-
--- the keys after an insertion, a lookup, a removal and a lower limit, at numbers
-pub ruleset cache_keys = (
-  keys_of-inserted_number,
-  keys_of-used_number,
-  pairs.keys_of-without_number,
-  keys_of-newest,
-  keys_of-without_first,
-)
+-- the keys after an insertion, a lower limit and a removal of the first pair, at numbers
+pub ruleset cache_keys = (keys_of-inserted_number, keys_of-newest, keys_of-without_first)
 
 -- the pairs after an insertion in Touch, and the newest of them, at numbers
 pub ruleset number_pairs = (pairs.number_pairs, newest-all)
