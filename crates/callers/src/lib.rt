@@ -7,6 +7,7 @@ pub mod groups;
 #[tactic(auto, using(lru_cache::proofs::Callers::Rules::number_pairs))]
 pub mod history;
 pub mod parsed;
+#[tactic(auto, using(linked_hash_set::proofs::Callers::Rules::set_operations))]
 pub mod seen;
 pub mod settings;
 #[tactic(auto, using(linked_hash_map::proofs::Callers::Rules::each_pair, crate::proofs::Ways::ways_few, crate::proofs::Ways::ways_more))]

@@ -10,6 +10,7 @@ pub mod Counts
 pub mod Cuts
 pub mod Dense
 pub mod EachPair
+pub mod EachText
 pub mod Ends
 pub mod Equality
 pub mod Extended

@@ -1,5 +1,6 @@
 -- Lemmas for callers of the library, one file a subject, beside those of `linked_hash_map`. They speak
 -- only of the words of the contracts.
 pub mod EachPair
+pub mod Keys
 pub mod Newest
 pub mod Rules

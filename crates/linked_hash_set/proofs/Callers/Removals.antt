@@ -1,5 +1,5 @@
 -- For callers: the items of a set without each of a list, removed one after another.
-use Rattle.std.proofs.Common.{◌≡◌, ℕ, ◌+◌, ◌<◌, Bool, not, List, [], ◌∷◌, ◌++◌, filter, length, take, get_or, refl, sym, ap, ◌∙◌, arith}
+use Rattle.std.proofs.Common.{◌≡◌, ℕ, ◌+◌, ◌<◌, Bool, not, List, [], ◌∷◌, ◌++◌, filter, fold, length, take, get_or, refl, sym, ap, ◌∙◌, arith}
 use Rattle.std.specs.List.{list_any}
 use Rattle.std.proofs.lemmas.List.{take_more}
 use Rattle.std.proofs.lemmas.List.Folds.{list_any-append}
@@ -26,3 +26,12 @@ module _ {T : Type 0} (eq : T → T → Bool) where
   without_each-more items xs {i = i} {x} was within is removed = removed ∙ ap (λ ys. without eq ys x) was
       ∙ sym (without_each-snoc items (take i xs) x)
       ∙ ap (without_each eq items) (ap (λ y. take i xs ++ y ∷ []) is ∙ sym (take_more xs i x within))
+
+  without_each-without : (items xs : List T) (x : T) → without_each eq (without eq items x) xs ≡ without_each eq items (x ∷ xs)
+  without_each-without [] xs x = refl
+  without_each-without (y ∷ items) xs x = grind (arith, without_each-without items xs x)
+
+  -- removals, one by one
+  pub fold-without : (items xs : List T) → fold (without eq) items xs ≡ without_each eq items xs
+  fold-without items [] = sym (without_each-nil items)
+  fold-without items (x ∷ xs) = fold-without (without eq items x) xs ∙ without_each-without items xs x
