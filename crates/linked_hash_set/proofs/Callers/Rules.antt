@@ -1,7 +1,7 @@
 -- For callers: sets of lemmas that an attribute names, as #[tactic(auto,
 -- using(linked_hash_set::proofs::Callers::Rules::set_operations))]. At numbers a lemma is stated at
 -- their equality; the first part of a conclusion shows `grind` the call to match.
-use Rattle.std.proofs.Common.{◌≡◌, ℕ, not, ◌||◌, ◌&&◌, List, [], ◌∷◌, refl, nat_eq}
+use Rattle.std.proofs.Common.{◌≡◌, ℕ, not, ◌||◌, ◌&&◌, List, [], refl, nat_eq}
 use Rattle.std.specs.Cmp.{nat_eq_equiv}
 use Rattle.linked_hash_set.specs.Items.{contains}
 use Rattle.linked_hash_set.specs.Operations.{difference, intersection, union, symmetric_difference}

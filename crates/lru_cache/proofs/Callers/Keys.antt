@@ -1,5 +1,5 @@
 -- For callers: the keys of a cache after each call, the one used least recently first.
-use Rattle.std.proofs.Common.{◌≡◌, ℕ, ◌-◌, ◌+◌, ◌<◌, ◌≤◌, Bool, true, cond, not, IsTrue, List, [], ◌∷◌, ◌++◌, filter, length, drop}
+use Rattle.std.proofs.Common.{◌≡◌, ℕ, ◌-◌, ◌+◌, ◌<◌, ◌≤◌, Bool, true, not, IsTrue, List, [], ◌∷◌, ◌++◌, filter, length, drop}
 use Rattle.std.proofs.Common.{Option, Some, None, is_some, option_to_list, refl, sym, ap, ap₂, ◌∙◌, true≢false, arith}
 use Rattle.std.proofs.Common.{length-append}
 use Rattle.std.specs.Cmp.{IsEquivalence}

@@ -2,7 +2,7 @@ use Rattle.std.proofs.Common.{ap, subst, sym}
 use Rattle.std.proofs.lemmas.List.Elements.{All-same}
 use Rattle.linked_hash_map.proofs.Callers.EachText.{AllTexts-value_at, AllTexts-to_back_as_is}
 use Rattle.lru_cache.proofs.Callers.EachPair.{AllTexts-insert}
-use Rattle.callers.specs.Numbers.{Says, AllSay, PairSays}
+use Rattle.callers.specs.Numbers.{Says, PairSays}
 use Rattle.callers.proofs.parsed.number_of.Goals as goal
 
 pub returns-in-Some-clause-number : goal.returns-in-Some-clause-number
