@@ -6,6 +6,7 @@ pub mod Arranged
 pub mod Beside
 pub mod Collected
 pub mod Counted
+pub mod Counting
 pub mod Counts
 pub mod Cuts
 pub mod Dense
@@ -21,6 +22,9 @@ pub mod Keys
 pub mod Lookups
 pub mod Merges
 pub mod Moves
+pub mod Names
+pub mod NumberRules
+pub mod Pages
 pub mod Permuted
 pub mod ReplacedKeys
 pub mod Replay
@@ -30,6 +34,7 @@ pub mod Rules
 pub mod Sessions
 pub mod Texts
 pub mod Turns
+pub mod TwoRuns
 pub mod Updates
 pub mod Valid
 pub mod Visits
