@@ -27,7 +27,7 @@ pub fn count_all<K: Eq + Hash + Copy>(
 }
 
 /// Counts each item that the map has, and leaves out the others.
-#[tactic(auto, using(linked_hash_map::proofs::Callers::Rules::known_counts))]
+#[tactic(auto, using(linked_hash_map::proofs::Callers::Counting::known_counts_fit))]
 pub fn count_known<K: Eq + Hash, S: BuildHasher>(counts: &mut LinkedHashMap<K, u64, S>, items: &[K])
     requires fits { (item : K) (count : ℕ) → value_at K.eq counts.old.pairs item ≡ Some count
         → count + length items.now < 2 ^ 64 }

@@ -46,6 +46,7 @@ impl Registers {
     }
 
     /// Takes the last `set` back: the registers are exactly as they were before it.
+    #[tactic(auto, using(linked_hash_map::proofs::Callers::NumberRules::undone))]
     pub fn undo(&mut self, change: Change)
         ensures { (before : List (ℕ × ℕ)) (value : ℕ) → IsDistinct nat_eq (keys_of before)
             → change.old ≡ value_at nat_eq before change.register

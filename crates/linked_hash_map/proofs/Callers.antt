@@ -6,6 +6,7 @@ pub mod Arranged
 pub mod Beside
 pub mod Collected
 pub mod Counted
+pub mod Counting
 pub mod Counts
 pub mod Cuts
 pub mod Dense
@@ -25,6 +26,9 @@ pub mod Lookups
 pub mod Merges
 pub mod Merging
 pub mod Moves
+pub mod Names
+pub mod NumberRules
+pub mod Pages
 pub mod Permuted
 pub mod ReplacedKeys
 pub mod Replay
@@ -34,6 +38,7 @@ pub mod Rules
 pub mod Sessions
 pub mod Texts
 pub mod Turns
+pub mod TwoRuns
 pub mod Updates
 pub mod Valid
 pub mod Visits

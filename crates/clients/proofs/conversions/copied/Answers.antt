@@ -1,5 +1,4 @@
-use Rattle.std.specs.Cmp.{nat_eq_equiv}
-use Rattle.linked_hash_map.proofs.Callers.Equality.{pairs-cloned}
+use Rattle.linked_hash_map.proofs.Callers.Names.{nat_eq_equiv, pairs-cloned}
 use Rattle.clients.proofs.conversions.copied.Goals as goal
 
 pub returns : goal.returns

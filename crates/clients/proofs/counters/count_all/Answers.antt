@@ -1,5 +1,4 @@
-use Rattle.std.proofs.Common.{rules}
-use Rattle.linked_hash_map.proofs.Callers.Counted.{CountsItems-counted}
+use Rattle.linked_hash_map.proofs.Callers.Names.{rules, CountsItems-counted}
 use Rattle.clients.proofs.counters.count_all.Goals as goal
 
 pub loop-item-preserved : goal.loop-item-preserved

@@ -1,5 +1,4 @@
-use Rattle.std.proofs.Common.{take}
-use Rattle.linked_hash_map.proofs.Callers.Counted.{CountsItems}
+use Rattle.linked_hash_map.proofs.Callers.Names.{take, CountsItems}
 use Rattle.clients.proofs.counters.count_all.Given as goal
 
 abbrev pub invariant-loop-item : goal.invariant-loop-item

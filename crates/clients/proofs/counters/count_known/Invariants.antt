@@ -1,5 +1,4 @@
-use Rattle.std.proofs.Common.{take}
-use Rattle.linked_hash_map.proofs.Callers.Counted.{CountsKnown}
+use Rattle.linked_hash_map.proofs.Callers.Names.{take, CountsKnown}
 use Rattle.clients.proofs.counters.count_known.Given as goal
 
 abbrev pub invariant-loop-item : goal.invariant-loop-item

@@ -1,6 +1,4 @@
-use Rattle.std.proofs.Common.{rules, ◌∷◌, [], refl}
-use Rattle.linked_hash_map.specs.declared.replay.Command.TheVariants.{Insert}
-use Rattle.linked_hash_map.proofs.Callers.Insertions.{NoneRefused-inserted}
+use Rattle.linked_hash_map.proofs.Callers.Names.{rules, ◌∷◌, [], refl, Insert, NoneRefused-inserted}
 use Rattle.clients.proofs.replayed.insert_two.Goals as goal
 
 pub returns-in-Ok : goal.returns-in-Ok

@@ -1,10 +1,7 @@
-use Rattle.std.proofs.Common.{◌<◌, ◌^◌, arith}
-use Rattle.linked_hash_map.proofs.Callers.WritingVisits.{VisitMaps-holds}
+use Rattle.linked_hash_map.proofs.Callers.Names.{◌<◌, ◌^◌, arith, VisitMaps-holds}
 use Rattle.clients.proofs.visit.double_even.Goals as goal
 
 pub overflow_mul-number : goal.overflow_mul-number
-overflow_mul-number g c =
-    let entry = c.in-Some.ensures in
-    let small = VisitMaps-holds g.met.K.Eq.laws c.loop-entry.invariant entry.visits
-    entry.valid.distinct entry.value (λ pair. pair.1 < 2 ^ 63) c.requires.fits in
-    omega (arith, small, c.get-number.ensures)
+overflow_mul-number g c = let entry = c.in-Some.ensures in let small = VisitMaps-holds
+    g.met.K.Eq.laws c.loop-entry.invariant entry.visits entry.valid.distinct entry.value
+    (λ pair. pair.1 < 2 ^ 63) c.requires.fits in omega (arith, small, c.get-number.ensures)

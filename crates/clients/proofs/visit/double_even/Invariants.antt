@@ -1,6 +1,4 @@
-use Rattle.std.proofs.Common.{◌*◌, length}
-use Rattle.linked_hash_map.specs.Cursor.{to_visit}
-use Rattle.linked_hash_map.specs.Visits.{VisitMaps}
+use Rattle.linked_hash_map.proofs.Callers.Names.{◌*◌, length, to_visit, VisitMaps}
 use Rattle.clients.specs.Tests.{is_even}
 use Rattle.clients.proofs.visit.double_even.Given as goal
 

@@ -1,5 +1,4 @@
-use Rattle.std.proofs.Common.{take}
-use Rattle.linked_hash_map.proofs.Callers.Counted.{CountsItems}
+use Rattle.linked_hash_map.proofs.Callers.Names.{take, CountsItems}
 use Rattle.uses.proofs.count.counts_of.Given as goal
 
 abbrev pub invariant-loop-word : goal.invariant-loop-word

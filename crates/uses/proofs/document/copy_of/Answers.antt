@@ -1,5 +1,4 @@
-use Rattle.std.specs.Cmp.{nat_eq_equiv}
-use Rattle.linked_hash_map.proofs.Callers.Equality.{pairs-clone}
+use Rattle.linked_hash_map.proofs.Callers.Names.{nat_eq_equiv, pairs-clone}
 use Rattle.uses.proofs.document.copy_of.Goals as goal
 
 pub returns : goal.returns

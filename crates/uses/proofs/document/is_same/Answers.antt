@@ -1,6 +1,6 @@
-use Rattle.std.specs.Cmp.{unsigned_Decides}
-use Rattle.linked_hash_map.proofs.Callers.Equality.{eq-Decides}
+use Rattle.linked_hash_map.proofs.Callers.Names.{unsigned_Decides, eq-Decides}
 use Rattle.uses.proofs.document.is_same.Goals as goal
 
 pub returns : goal.returns
-returns c = eq-Decides c.args.a.now.fields c.args.b.now.fields c.eq.result unsigned_Decides unsigned_Decides c.eq.ensures
+returns c = eq-Decides c.args.a.now.fields c.args.b.now.fields c.eq.result
+    unsigned_Decides unsigned_Decides c.eq.ensures

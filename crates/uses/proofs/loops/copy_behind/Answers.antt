@@ -1,18 +1,17 @@
-use Rattle.std.proofs.Common.{rules}
-use Rattle.std.specs.Cmp.{nat_eq_equiv}
-use Rattle.linked_hash_map.proofs.Callers.Visits as visit
+use Rattle.linked_hash_map.proofs.Callers.Names.{rules, nat_eq_equiv, VisitAppends-appended}
+use Rattle.linked_hash_map.proofs.Callers.Names.{VisitAppends-at, VisitAppends-end}
 use Rattle.uses.proofs.loops.copy_behind.Goals as goal
 
 pub loop-entry-preserved : goal.loop-entry-preserved
 loop-entry-preserved c = let told = c.in-Some.ensures in
-    visit.VisitAppends-appended nat_eq_equiv c.loop-entry.invariant told.visits
+    VisitAppends-appended nat_eq_equiv c.loop-entry.invariant told.visits
     told.valid.distinct told.value told.pairs (search rules) (search rules)
 
 pub returns-then-not-copy_pair_behind-clause-stops :
     goal.returns-then-not-copy_pair_behind-clause-stops
 returns-then-not-copy_pair_behind-clause-stops c = let told = c.in-Some.ensures in
-    rw (visit.VisitAppends-at nat_eq_equiv c.loop-entry.invariant told.visits told.valid.distinct
+    rw (VisitAppends-at nat_eq_equiv c.loop-entry.invariant told.visits told.valid.distinct
     told.value) (search rules)
 
 pub returns-clause-stops : goal.returns-clause-stops
-returns-clause-stops c = rw (visit.VisitAppends-end c.loop-entry.invariant (search rules)) tt
+returns-clause-stops c = rw (VisitAppends-end c.loop-entry.invariant (search rules)) tt

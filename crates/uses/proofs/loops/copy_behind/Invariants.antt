@@ -1,6 +1,4 @@
-use Rattle.std.proofs.Common.{◌+◌, length}
-use Rattle.linked_hash_map.specs.Cursor.{to_visit}
-use Rattle.linked_hash_map.proofs.Callers.Visits.{VisitAppends}
+use Rattle.linked_hash_map.proofs.Callers.Names.{◌+◌, length, to_visit, VisitAppends}
 use Rattle.uses.proofs.loops.copy_behind.Given as goal
 
 abbrev pub invariant-loop-entry : goal.invariant-loop-entry

@@ -1,5 +1,4 @@
-use Rattle.std.proofs.Common.{◌≡◌, ◌+◌, sum}
-use Rattle.std.specs.Map.{values_of}
+use Rattle.linked_hash_map.proofs.Callers.Names.{◌≡◌, ◌+◌, sum, values_of}
 use Rattle.uses.proofs.loops.sum_of.Given as goal
 
 abbrev pub invariant-loop-price : goal.invariant-loop-price

@@ -1,5 +1,4 @@
-use Rattle.std.proofs.Common.{rules}
-use Rattle.linked_hash_map.proofs.Callers.Visits.{VisitKeeps-removed}
+use Rattle.linked_hash_map.proofs.Callers.Names.{rules, VisitKeeps-removed}
 use Rattle.uses.proofs.loops.take_out_zeros.Goals as goal
 
 pub loop-entry-preserved-then-get-eq0 : goal.loop-entry-preserved-then-get-eq0

@@ -1,6 +1,4 @@
-use Rattle.std.proofs.Common.{◌≡◌, ◌+◌, length}
-use Rattle.linked_hash_map.specs.Cursor.{to_visit}
-use Rattle.linked_hash_map.specs.Visits.{VisitKeeps}
+use Rattle.linked_hash_map.proofs.Callers.Names.{◌≡◌, ◌+◌, length, to_visit, VisitKeeps}
 use Rattle.uses.specs.Counting.{has_count}
 use Rattle.uses.proofs.loops.take_out_zeros.Given as goal
 

@@ -1,6 +1,4 @@
-use Rattle.std.proofs.Common.{rules, arith}
-use Rattle.linked_hash_map.proofs.Callers.Valid.{IsValid-set_or_pushed}
-use Rattle.linked_hash_map.proofs.Callers.Writes.{set_or_push-own}
+use Rattle.linked_hash_map.proofs.Callers.Names.{rules, arith, IsValid-set_or_pushed, set_or_push-own}
 use Rattle.uses.proofs.refusal.insert_if_new.Goals as goal
 
 pub returns-clause-stays_valid : goal.returns-clause-stays_valid

@@ -1,5 +1,4 @@
-use Rattle.std.proofs.Common.{rules}
-use Rattle.linked_hash_map.proofs.Callers.Retained.{filter_same_pairs}
+use Rattle.linked_hash_map.proofs.Callers.Names.{rules, filter_same_pairs}
 use Rattle.uses.proofs.retains.keep_frequent.Goals as goal
 
 pub returns-clause-pairs : goal.returns-clause-pairs

@@ -1,5 +1,4 @@
-use Rattle.std.proofs.Common.{rules}
-use Rattle.std.proofs.lemmas.Fn.{filter_same}
+use Rattle.linked_hash_map.proofs.Callers.Names.{rules, filter_same}
 use Rattle.uses.proofs.tasks.cancel_from.Goals as goal
 
 pub returns-clause-order : goal.returns-clause-order

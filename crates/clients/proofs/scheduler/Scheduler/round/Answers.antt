@@ -1,5 +1,4 @@
-use Rattle.std.proofs.Common.{arith}
-use Rattle.linked_hash_map.proofs.Callers.Rounds.{IsTurned-turn}
+use Rattle.linked_hash_map.proofs.Callers.Names.{arith, IsTurned-turn}
 use Rattle.clients.proofs.scheduler.Scheduler.round.Goals as goal
 
 pub loop-turn-preserved : goal.loop-turn-preserved

@@ -1,5 +1,4 @@
-use Rattle.std.proofs.Common.{sym, arith}
-use Rattle.linked_hash_map.proofs.Callers.Turns.{IsRenaming-turn}
+use Rattle.linked_hash_map.proofs.Callers.Names.{sym, arith, IsRenaming-turn}
 use Rattle.uses.proofs.document.Document.rename.Goals as goal
 
 pub loop-turn-preserved : goal.loop-turn-preserved
