@@ -26,10 +26,10 @@ pub mod Lookups
 pub mod Merges
 pub mod Merging
 pub mod Moves
-pub mod Names
 pub mod NumberRules
 pub mod Pages
 pub mod Permuted
+pub mod Prelude
 pub mod ReplacedKeys
 pub mod Replay
 pub mod Retained

@@ -1,4 +1,4 @@
-use Rattle.linked_hash_map.proofs.Callers.Names.{nat_eq_equiv, pairs-cloned}
+use Rattle.linked_hash_map.proofs.Callers.Prelude.{nat_eq_equiv, pairs-cloned}
 use Rattle.clients.proofs.conversions.copied.Goals as goal
 
 pub returns : goal.returns

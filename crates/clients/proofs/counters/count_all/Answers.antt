@@ -1,4 +1,4 @@
-use Rattle.linked_hash_map.proofs.Callers.Names.{rules, CountsItems-counted}
+use Rattle.linked_hash_map.proofs.Callers.Prelude.{rules, CountsItems-counted}
 use Rattle.clients.proofs.counters.count_all.Goals as goal
 
 pub loop-item-preserved : goal.loop-item-preserved

@@ -1,4 +1,4 @@
-use Rattle.linked_hash_map.proofs.Callers.Names.{take, CountsItems}
+use Rattle.linked_hash_map.proofs.Callers.Prelude.{take, CountsItems}
 use Rattle.clients.proofs.counters.count_all.Given as goal
 
 abbrev pub invariant-loop-item : goal.invariant-loop-item

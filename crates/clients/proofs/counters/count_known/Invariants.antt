@@ -1,4 +1,4 @@
-use Rattle.linked_hash_map.proofs.Callers.Names.{take, CountsKnown}
+use Rattle.linked_hash_map.proofs.Callers.Prelude.{take, CountsKnown}
 use Rattle.clients.proofs.counters.count_known.Given as goal
 
 abbrev pub invariant-loop-item : goal.invariant-loop-item

@@ -1,4 +1,4 @@
-use Rattle.linked_hash_map.proofs.Callers.Names.{rules, ◌∷◌, [], refl, Insert, NoneRefused-inserted}
+use Rattle.linked_hash_map.proofs.Callers.Prelude.{rules, ◌∷◌, [], refl, Insert, NoneRefused-inserted}
 use Rattle.clients.proofs.replayed.insert_two.Goals as goal
 
 pub returns-in-Ok : goal.returns-in-Ok

@@ -1,4 +1,4 @@
-use Rattle.linked_hash_map.proofs.Callers.Names.{◌<◌, ◌^◌, arith, VisitMaps-holds}
+use Rattle.linked_hash_map.proofs.Callers.Prelude.{◌<◌, ◌^◌, arith, VisitMaps-holds}
 use Rattle.clients.proofs.visit.double_even.Goals as goal
 
 pub overflow_mul-number : goal.overflow_mul-number

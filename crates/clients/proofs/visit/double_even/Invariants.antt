@@ -1,4 +1,4 @@
-use Rattle.linked_hash_map.proofs.Callers.Names.{◌*◌, length, to_visit, VisitMaps}
+use Rattle.linked_hash_map.proofs.Callers.Prelude.{◌*◌, length, to_visit, VisitMaps}
 use Rattle.clients.specs.Tests.{is_even}
 use Rattle.clients.proofs.visit.double_even.Given as goal
 

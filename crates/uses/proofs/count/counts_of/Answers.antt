@@ -1,4 +1,4 @@
-use Rattle.linked_hash_map.proofs.Callers.Names.{rules, CountsItems-counted}
+use Rattle.linked_hash_map.proofs.Callers.Prelude.{rules, CountsItems-counted}
 use Rattle.uses.proofs.count.counts_of.Goals as goal
 
 pub loop-word-preserved : goal.loop-word-preserved

@@ -1,4 +1,4 @@
-use Rattle.linked_hash_map.proofs.Callers.Names.{take, CountsItems}
+use Rattle.linked_hash_map.proofs.Callers.Prelude.{take, CountsItems}
 use Rattle.uses.proofs.count.counts_of.Given as goal
 
 abbrev pub invariant-loop-word : goal.invariant-loop-word

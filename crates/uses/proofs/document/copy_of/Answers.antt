@@ -1,4 +1,4 @@
-use Rattle.linked_hash_map.proofs.Callers.Names.{nat_eq_equiv, pairs-clone}
+use Rattle.linked_hash_map.proofs.Callers.Prelude.{nat_eq_equiv, pairs-clone}
 use Rattle.uses.proofs.document.copy_of.Goals as goal
 
 pub returns : goal.returns

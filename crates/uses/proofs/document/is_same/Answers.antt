@@ -1,4 +1,4 @@
-use Rattle.linked_hash_map.proofs.Callers.Names.{unsigned_Decides, eq-Decides}
+use Rattle.linked_hash_map.proofs.Callers.Prelude.{unsigned_Decides, eq-Decides}
 use Rattle.uses.proofs.document.is_same.Goals as goal
 
 pub returns : goal.returns

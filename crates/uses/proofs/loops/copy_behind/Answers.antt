@@ -1,5 +1,5 @@
-use Rattle.linked_hash_map.proofs.Callers.Names.{rules, nat_eq_equiv, VisitAppends-appended}
-use Rattle.linked_hash_map.proofs.Callers.Names.{VisitAppends-at, VisitAppends-end}
+use Rattle.linked_hash_map.proofs.Callers.Prelude.{rules, nat_eq_equiv, VisitAppends-appended}
+use Rattle.linked_hash_map.proofs.Callers.Prelude.{VisitAppends-at, VisitAppends-end}
 use Rattle.uses.proofs.loops.copy_behind.Goals as goal
 
 pub loop-entry-preserved : goal.loop-entry-preserved

@@ -1,4 +1,4 @@
-use Rattle.linked_hash_map.proofs.Callers.Names.{◌+◌, length, to_visit, VisitAppends}
+use Rattle.linked_hash_map.proofs.Callers.Prelude.{◌+◌, length, to_visit, VisitAppends}
 use Rattle.uses.proofs.loops.copy_behind.Given as goal
 
 abbrev pub invariant-loop-entry : goal.invariant-loop-entry

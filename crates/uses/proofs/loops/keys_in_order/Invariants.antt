@@ -1,4 +1,4 @@
-use Rattle.linked_hash_map.proofs.Callers.Names.{◌≡◌, map, deref}
+use Rattle.linked_hash_map.proofs.Callers.Prelude.{◌≡◌, map, deref}
 use Rattle.uses.proofs.loops.keys_in_order.Given as goal
 
 abbrev pub invariant-loop-key : goal.invariant-loop-key

@@ -1,4 +1,4 @@
-use Rattle.linked_hash_map.proofs.Callers.Names.{◌≡◌, ◌+◌, sum, values_of}
+use Rattle.linked_hash_map.proofs.Callers.Prelude.{◌≡◌, ◌+◌, sum, values_of}
 use Rattle.uses.proofs.loops.sum_of.Given as goal
 
 abbrev pub invariant-loop-price : goal.invariant-loop-price

@@ -1,4 +1,4 @@
-use Rattle.linked_hash_map.proofs.Callers.Names.{◌≡◌, ◌+◌, length, to_visit, VisitKeeps}
+use Rattle.linked_hash_map.proofs.Callers.Prelude.{◌≡◌, ◌+◌, length, to_visit, VisitKeeps}
 use Rattle.uses.specs.Counting.{has_count}
 use Rattle.uses.proofs.loops.take_out_zeros.Given as goal
 

@@ -1,4 +1,4 @@
-use Rattle.linked_hash_map.proofs.Callers.Names.{◌≡◌, ◌++◌, length, keys_of, to_visit}
+use Rattle.linked_hash_map.proofs.Callers.Prelude.{◌≡◌, ◌++◌, length, keys_of, to_visit}
 use Rattle.uses.proofs.loops.visit_by_value.Given as goal
 
 abbrev pub invariant-loop-entry : goal.invariant-loop-entry

@@ -1,4 +1,4 @@
-use Rattle.linked_hash_map.proofs.Callers.Names.{rules, arith, IsValid-set_or_pushed, set_or_push-own}
+use Rattle.linked_hash_map.proofs.Callers.Prelude.{rules, arith, IsValid-set_or_pushed, set_or_push-own}
 use Rattle.uses.proofs.refusal.insert_if_new.Goals as goal
 
 pub returns-clause-stays_valid : goal.returns-clause-stays_valid

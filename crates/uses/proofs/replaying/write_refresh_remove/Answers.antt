@@ -1,4 +1,4 @@
-use Rattle.linked_hash_map.proofs.Callers.Names.{rules, ◌∷◌, [], refl, Write, Refresh, Remove}
+use Rattle.linked_hash_map.proofs.Callers.Prelude.{rules, ◌∷◌, [], refl, Write, Refresh, Remove}
 use Rattle.linked_hash_map.proofs.Callers.TwoRuns.{replayed_never_refused}
 use Rattle.uses.proofs.replaying.write_refresh_remove.Goals as goal
 

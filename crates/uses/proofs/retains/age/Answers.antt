@@ -1,4 +1,4 @@
-use Rattle.linked_hash_map.proofs.Callers.Names.{◌/◌, rules, map-filter_from_retain_pairs}
+use Rattle.linked_hash_map.proofs.Callers.Prelude.{◌/◌, rules, map-filter_from_retain_pairs}
 use Rattle.uses.proofs.retains.age.Goals as goal
 
 pub returns-clause-pairs : goal.returns-clause-pairs

@@ -1,4 +1,4 @@
-use Rattle.linked_hash_map.proofs.Callers.Names.{rules, filter_same_pairs}
+use Rattle.linked_hash_map.proofs.Callers.Prelude.{rules, filter_same_pairs}
 use Rattle.uses.proofs.retains.keep_frequent.Goals as goal
 
 pub returns-clause-pairs : goal.returns-clause-pairs

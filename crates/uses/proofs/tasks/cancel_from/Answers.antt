@@ -1,4 +1,4 @@
-use Rattle.linked_hash_map.proofs.Callers.Names.{rules, filter_same}
+use Rattle.linked_hash_map.proofs.Callers.Prelude.{rules, filter_same}
 use Rattle.uses.proofs.tasks.cancel_from.Goals as goal
 
 pub returns-clause-order : goal.returns-clause-order

@@ -1,4 +1,4 @@
-use Rattle.linked_hash_map.proofs.Callers.Names.{rules, ℕ, value_at-insert_each, same_text-laws}
+use Rattle.linked_hash_map.proofs.Callers.Prelude.{rules, ℕ, value_at-insert_each, same_text-laws}
 use Rattle.uses.proofs.text.note_pages.Goals as goal
 
 pub returns : goal.returns

@@ -1,4 +1,4 @@
-use Rattle.linked_hash_map.proofs.Callers.Names.{rules, values_of_dense_push, eq-dense}
+use Rattle.linked_hash_map.proofs.Callers.Prelude.{rules, values_of_dense_push, eq-dense}
 use Rattle.clients.proofs.interner.Interner.intern.Goals as goal
 
 pub returns-clause-one_name : goal.returns-clause-one_name

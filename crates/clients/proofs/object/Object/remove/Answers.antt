@@ -1,4 +1,4 @@
-use Rattle.linked_hash_map.proofs.Callers.Names.{ap, ◌∙◌, keys_of, string_eq, keys_of-without}
+use Rattle.linked_hash_map.proofs.Callers.Prelude.{ap, ◌∙◌, keys_of, string_eq, keys_of-without}
 use Rattle.clients.proofs.object.Object.remove.Goals as goal
 
 pub returns-clause-names : goal.returns-clause-names

@@ -1,4 +1,4 @@
-use Rattle.linked_hash_map.proofs.Callers.Names.{sym, ◌∙◌}
+use Rattle.linked_hash_map.proofs.Callers.Prelude.{sym, ◌∙◌}
 use Rattle.linked_hash_map.proofs.Callers.NumberRules.{undone_number}
 use Rattle.clients.proofs.registers.Registers.undo.Goals as goal
 

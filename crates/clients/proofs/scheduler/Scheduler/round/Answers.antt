@@ -1,4 +1,4 @@
-use Rattle.linked_hash_map.proofs.Callers.Names.{arith, IsTurned-turn}
+use Rattle.linked_hash_map.proofs.Callers.Prelude.{arith, IsTurned-turn}
 use Rattle.clients.proofs.scheduler.Scheduler.round.Goals as goal
 
 pub loop-turn-preserved : goal.loop-turn-preserved

@@ -1,4 +1,4 @@
-use Rattle.linked_hash_map.proofs.Callers.Names.{sym, arith, IsRenaming-turn}
+use Rattle.linked_hash_map.proofs.Callers.Prelude.{sym, arith, IsRenaming-turn}
 use Rattle.uses.proofs.document.Document.rename.Goals as goal
 
 pub loop-turn-preserved : goal.loop-turn-preserved

@@ -1,4 +1,4 @@
-use Rattle.linked_hash_map.proofs.Callers.Names.{IsArranged-next, IsArranged-all}
+use Rattle.linked_hash_map.proofs.Callers.Prelude.{IsArranged-next, IsArranged-all}
 use Rattle.uses.proofs.playlist.Playlist.arrange.Goals as goal
 
 pub loop-number-preserved : goal.loop-number-preserved

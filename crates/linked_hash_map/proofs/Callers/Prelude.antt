@@ -1,4 +1,4 @@
--- The names that proof files of callers cite most, passed on from one place. Declares nothing.
+-- For callers: the names that their proofs cite most, of std and of this library. It declares none.
 pub use Rattle.std.proofs.Common.{rules, arith, refl, sym, ap, ap₂, ◌∙◌, subst, inl, inr, ◌≡◌, ◌⊎◌, ◌≤◌, ◌<◌, ◌+◌, ◌-◌, ◌*◌, ◌/◌, ◌%◌, ◌^◌}
 pub use Rattle.std.proofs.Common.{ℕ, List, [], ◌∷◌, ◌++◌, length, map, filter, take, drop, fold, sum, min, max, nat_eq, Bool, true, false}
 pub use Rattle.std.proofs.Common.{cond, not, ◌==◌, ◌&&◌, Option, Some, None, is_some, option_map, unwrap_or, slice_get, get_or, IfSome, IfOk}
@@ -30,7 +30,6 @@ pub use Rattle.linked_hash_map.proofs.Callers.Keys.{keys_of-without}
 pub use Rattle.linked_hash_map.proofs.Callers.Retained.{filter_same_pairs, map_from_retain_pairs, map-filter_from_retain_pairs}
 pub use Rattle.linked_hash_map.proofs.Callers.Rounds.{IsTurned, IsTurned-turn}
 pub use Rattle.linked_hash_map.proofs.Callers.Rules.{keys_of-put_to_front}
-pub use Rattle.linked_hash_map.proofs.Callers.Counting.{CountsUpTo}
 pub use Rattle.linked_hash_map.proofs.Callers.Texts.{same_text-laws, by_bytes, by_bytes-append, find-is_text, find-drop_text}
 pub use Rattle.linked_hash_map.proofs.Callers.Turns.{IsRenaming, IsRenaming-turn}
 pub use Rattle.linked_hash_map.proofs.Callers.Valid.{IsValid-set_or_pushed}
