@@ -1,4 +1,5 @@
-use Rattle.linked_hash_map.proofs.Callers.Prelude.{rules, ◌∷◌, [], refl, Write, Refresh, Remove}
+use Rattle.linked_hash_map.specs.declared.replay.Command.TheVariants.{Write, Refresh, Remove}
+use Rattle.linked_hash_map.proofs.Callers.Prelude.{rules, ◌∷◌, [], refl}
 use Rattle.linked_hash_map.proofs.Callers.TwoRuns.{replayed_never_refused}
 use Rattle.uses.proofs.replaying.write_refresh_remove.Goals as goal
 
