@@ -1,10 +1,12 @@
 pub mod BlockPointers
 pub mod BlockValues
 pub mod BodiesChanged
+pub mod BucketParts
 pub mod ChunkPlaces
 pub mod ContentTaken
 pub mod ContentsSplitOff
 pub mod FieldSeen
+pub mod Lodging
 pub mod NodeAdded
 pub mod NodeFields
 pub mod NodeTaken

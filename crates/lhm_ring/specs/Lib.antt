@@ -1,3 +1,4 @@
+pub mod BucketBlock
 pub mod Buckets
 pub mod ContentLoan
 pub mod Drain

@@ -7,8 +7,8 @@ ghost use Rattle.lhm_ring.specs.Buckets.{buckets, HasNoChain};
 ghost use Rattle.lhm_ring.specs.Search.{HasKey, LacksKey};
 ghost use Rattle.lhm_ring.specs.Index.{Indexes, spots, OfNodeAt, ChangesLinks, HoldsOthers, IsOnChain, PutsFirst};
 
+use crate::bucket_block::{Dealloc, Head, Word};
 pub use crate::buckets::buckets_for;
-use crate::buckets::{Head, Word};
 use crate::pointer::{Link, Position};
 use crate::ring::Ring;
 use crate::search::Found;
@@ -18,6 +18,7 @@ use std::alloc::{AllocError, Global};
 use std::hash::Hash;
 use std::marker::{Model, PhantomData};
 use std::mem;
+use std_alloc::vec::Lodged;
 
 /// The chains of a ring, by their heads, and a filter of the hashes. Each call is given the ring,
 /// and changes its chain links alone.
@@ -28,13 +29,18 @@ use std::mem;
 pub struct Index<K, V> {
     // For each bucket the head of its chain, and a word of the filter: if the bit of a hash is not
     // set, no node has that hash.
-    pub(crate) heads: Vec<Head>,
-    pub(crate) words: Vec<Word>,
+    pub(crate) heads: Vec<Head, Lodged>,
+    pub(crate) words: Vec<Word, Lodged>,
+    // Both lie in one block of memory, which this is the right to free.
+    pub(crate) dealloc: Dealloc,
+    pub(crate) alloc: Global,
     pub(crate) marker: PhantomData<*mut (K, V)>,
 }
 
 impl<K, V> Model for Index<K, V> {
-    ghost use Rattle.std.specs.Prelude.{◌≡◌, ◌<◌, ◌≤◌, map, length, vec_capacity};
+    ghost use Rattle.std.specs.Prelude.{◌≡◌, ◌<◌, ◌*◌, map, length, vec_capacity};
+    ghost use Rattle.std.specs.Vec.{vec_ptr};
+    ghost use Rattle.lhm_ring.specs.BucketBlock.{words_address};
     ghost use Rattle.lhm_ring.specs.Buckets.{BucketState, IsBucketCount, leads_to, bits_of};
 
     ghost Value = { BucketState };
@@ -47,9 +53,11 @@ impl<K, V> Model for Index<K, V> {
     ghost invariant = { λ i. record {
       same_count : length i.words.items ≡ length i.heads.items;
       power : IsBucketCount (length i.heads.items);
-      -- one bucket comes with room for eight
-      heads_room : 0 < length i.heads.items → 8 ≤ vec_capacity i.heads;
-      words_room : 0 < length i.heads.items → 8 ≤ vec_capacity i.words;
+      -- there is room for a multiple of four
+      heads_room : vec_capacity i.heads ≡ 4 * i.dealloc.quarter;
+      words_room : vec_capacity i.words ≡ 4 * i.dealloc.quarter;
+      heads_at : 0 < i.dealloc.quarter → vec_ptr i.heads ≡ i.dealloc.at;
+      words_at : 0 < i.dealloc.quarter → vec_ptr i.words ≡ words_address i.dealloc.at i.dealloc.quarter;
     } };
 }
 
@@ -60,8 +68,10 @@ impl<K, V> Index<K, V> {
         ensures words { result.words ≡ [] }
     {
         Index {
-            heads: Vec::new(alloc),
-            words: Vec::new(alloc),
+            heads: Vec::new(Lodged),
+            words: Vec::new(Lodged),
+            dealloc: Dealloc::none(),
+            alloc,
             marker: PhantomData,
         }
     }
@@ -178,7 +188,7 @@ impl<K, V> Index<K, V> {
     pub(crate) fn spread(&mut self, count: usize, ring: &mut Ring<K, V>) -> usize
         requires buckets { 0 < length self.old.heads }
         requires some { 0 < count }
-        requires few { count ≤ 8 }
+        requires few { count ≤ 4 }
         requires power { IsPowerOfTwo count }
         requires small { length ring.old.held < 2 ^ 64 }
         ensures indexed { Indexes self.new (spots ring.new.held) }

@@ -2,6 +2,7 @@
 #![tactic(auto)]
 
 // Unsafe code: each function that reads or writes raw memory, or lends it, is proved by hand.
+pub(crate) mod bucket_block;
 pub(crate) mod content_loan;
 pub(crate) mod nodes;
 pub(crate) mod value_loan;

@@ -83,7 +83,7 @@ impl<K, V> Table<K, V> {
         requires limit { capacity ≤ 2 ^ 59 }
         requires some { 0 < buckets self.old.capacity }
         requires count { count ≡ buckets capacity }
-        requires few { count ≤ 8 }
+        requires few { count ≤ 4 }
         ensures held { self.new.held ≡ self.old.held }
         ensures capacity { OnOk result (self.new.capacity ≡ capacity) }
         ensures rechained { OnOk result

@@ -3,10 +3,10 @@ use Rattle.std.proofs.Common.{subst, T, ltb→lt, ◌^◌, ◌≡◌, ℕ, zero,
 use Rattle.std.proofs.Common.{◌++◌, map, refl, sym, ◌∙◌, ap, arith, length, get_or, set, Some, None}
 use Rattle.std.proofs.Common.{true}
 use denote.RawPtr.{Ptr, block_ptr, null_ptr, Testable, InBlock}
-use Rattle.lhm_ring.specs.declared.buckets.Head.{Head}
+use Rattle.lhm_ring.specs.declared.bucket_block.Head.{Head}
 use Rattle.std.proofs.lemmas.List.{length-map}
 use Rattle.lhm_ring.specs.Nodes.{is_null_or_block}
-use Rattle.lhm_ring.specs.declared.buckets.Word.{Word}
+use Rattle.lhm_ring.specs.declared.bucket_block.Word.{Word}
 use Rattle.lhm_ring.specs.Buckets.{BucketState, leads_to, bits_of}
 use Rattle.lhm_ring.specs.Pointer.{led_to}
 

@@ -8,7 +8,7 @@ use Rattle.std.proofs.lemmas.Bool.{cases_eq, eqb-false}
 use Rattle.std.proofs.lemmas.List.{length-map, map-set, get_or-map}
 use Rattle.std.proofs.lemmas.Nat.Bits.{bit_at_set_same, bit_at_set_other}
 use Rattle.lhm_ring.proofs.indexes.Spots.{PutsIn-spots}
-use Rattle.lhm_ring.specs.declared.buckets.Word.{Word}
+use Rattle.lhm_ring.specs.declared.bucket_block.Word.{Word}
 use Rattle.lhm_ring.specs.Buckets.{bits_of, may_contain, SetsBit}
 use Rattle.lhm_ring.specs.Ring.{Held}
 use Rattle.lhm_ring.specs.Index.{PutsIn, is_in, Spot, spot, spots, entries, CoversAll}

@@ -1,12 +1,13 @@
 use Rattle.std.proofs.Common.{arith}
 use Rattle.lhm_ring.proofs.indexes.BucketHeads.{get_or-cleared}
-use Rattle.lhm_ring.proofs.buckets.clear_heads.Goals as goal
+use Rattle.lhm_ring.proofs.bucket_block.clear_heads.Goals as goal
 
 pub heads-preserved : goal.heads-preserved
 heads-preserved c = record {
   cleared = get_or-cleared c.heads.heads.items c.heads.next (record { link = c.none.result }) c.none.ensures c.heads.invariant.cleared;
   buckets = c.heads.invariant.buckets;
   capacity = c.heads.invariant.capacity;
+  in_place = c.heads.invariant.in_place;
 }
 
 pub returns-clause-empty : goal.returns-clause-empty

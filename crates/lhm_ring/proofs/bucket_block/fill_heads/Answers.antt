@@ -1,7 +1,7 @@
 use Rattle.std.proofs.Common.{◌≡◌, ◌∙◌, ℕ, List, arith, get_or, map, None, sym, subst}
-use Rattle.lhm_ring.specs.declared.buckets.Head.{Head}
+use Rattle.lhm_ring.specs.declared.bucket_block.Head.{Head}
 use Rattle.lhm_ring.proofs.indexes.BucketHeads.{get_or-pushed}
-use Rattle.lhm_ring.proofs.buckets.fill_heads.Goals as goal
+use Rattle.lhm_ring.proofs.bucket_block.fill_heads.Goals as goal
 use Rattle.lhm_ring.specs.Buckets.{leads_to}
 
 pub heads-preserved : goal.heads-preserved
@@ -11,4 +11,5 @@ heads-preserved c = record {
       (record { link = c.none.result }) c.none.ensures c.heads.invariant.empty);
   few = omega (arith, c.push_reserved.ensures.len, c.len.ensures, c.heads-test.true);
   capacity = c.push_reserved.ensures.capacity ∙ c.heads.invariant.capacity;
+  in_place = c.push_reserved.ensures.in_place ∙ c.heads.invariant.in_place;
 }

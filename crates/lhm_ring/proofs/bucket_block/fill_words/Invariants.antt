@@ -1,11 +1,12 @@
 use Rattle.std.proofs.Common.{◌≡◌, ◌≤◌, ◌-◌, vec_len}
-use Rattle.std.specs.Vec.{vec_capacity}
-use Rattle.lhm_ring.proofs.buckets.fill_words.Given as goal
+use Rattle.std.specs.Vec.{vec_capacity, vec_ptr}
+use Rattle.lhm_ring.proofs.bucket_block.fill_words.Given as goal
 
 abbrev pub invariant-words : goal.invariant-words
 invariant-words l = record {
   few : vec_len l.words ≤ l.count;
   capacity : vec_capacity l.words ≡ vec_capacity l.fn.words;
+  in_place : vec_ptr l.words ≡ vec_ptr l.fn.words;
 }
 
 abbrev pub decreases-words : goal.decreases-words

@@ -1,0 +1,160 @@
+-- `split_block` gives the memory of a block to two vectors. Assumes `Logic`.
+use Rattle.lhm_ring.proofs.memory.Steps.{◌≡◌, ℕ, ◌+◌, ◌*◌, ◌<◌, ◌^◌, [], ◌∷◌, ◌++◌, refl, sym, ap, ◌∙◌}
+use Rattle.lhm_ring.proofs.memory.Steps.{subst, arith, Val, vint, w64, SProp, ◌∵◌, ‵, raw, ◌⊛◌, at_ret}
+use Rattle.lhm_ring.proofs.memory.Steps.{◌$◌, !, qed, by, move, keep, use1, split, fsplit, fsplit3}
+use Rattle.lhm_ring.proofs.memory.Steps.{fjoin, rewrite, stop, fld, bin, of_opd, no_more, and_then}
+use Rattle.lhm_ring.proofs.memory.Steps.{first, blocks, exec, returns, alloc_all, pass_all, free_all}
+use Rattle.lhm_ring.proofs.memory.Steps.{look_at, get, get_in, sets, sets_last, is, env, sub, whole}
+use Rattle.lhm_ring.proofs.memory.Steps.{agg, tables, fact, usize, yes, owns, types_at, plain, Ptr}
+use Rattle.lhm_ring.proofs.memory.Steps.{block_ptr, ptr_val, room_for, heard, Stays, stay_dropped}
+use Rattle.lhm_ring.proofs.memory.Steps.{walk_of, Goes-dropped, after, proved_at, leaves, id⊢}
+use Rattle.lhm_ring.proofs.memory.Steps.{flt_l, flt_i, in_a_block, later, pick, await, some, given}
+use Rattle.lhm_ring.proofs.memory.Steps.{learn, framed, vstruct, vcons, vnil, all_spent, runs_with}
+use Rattle.lhm_ring.proofs.memory.Steps.{states, states_also, param, param_laws, layout, Fml, fsep}
+use Rattle.lhm_ring.proofs.memory.Steps.{RattleType, Laws, Ura, Logic, ent}
+use base.Fml.{fwand, flt}
+use denote.Steps.{only}
+use denote.Struct.Struct.{as_fields}
+use denote.Triple.Call.{calls_at}
+use denote.Laws.{Are, Ises}
+use denote.Triple.Clauses.{Clauses}
+use denote.Triple.Entry.{alive}
+use denote.Triple.Statement.{Triple}
+use prog.Memory.{Memory}
+use prog.Routine.{Routine}
+use prog.Wp.{Calls, Loops, WpFn}
+use contract.Monad.{Fun}
+use sound.WpLaws.{FmC}
+use types.ByLocal.{lands_as}
+use types.Run.{lit}
+use Rattle.std.specs.Allocator.{array_of}
+use Rattle.std.specs.Vec.Ownership.{lodged, owns_if}
+use Rattle.std.specs.contracts.alloc.Global as heap
+use Rattle.std.specs.contracts.impls.GlobalAllocator.TheImpl.{ghosts}
+use Rattle.std.proofs.alloc.Calls.{Goes-blank}
+use Rattle.std.proofs.mem.Timeless.{timeless, timeless_laws}
+use Rattle.std_alloc.proofs.VecSteps.Opens.{is_live}
+use Rattle.std_alloc.proofs.vec.lodge.Met as lodge_met
+use Rattle.std_alloc.specs.declared.vec.Vec.{Vec}
+use Rattle.std_alloc.specs.declared.vec.lodged.Lodged.{Lodged}
+use Rattle.lhm_ring.specs.contracts.bucket_block.Head.{the_row as head}
+use Rattle.lhm_ring.specs.contracts.bucket_block.Word.{the_row as word}
+use Rattle.lhm_ring.specs.contracts.bucket_block.Dealloc.{the_row as dealloc}
+use Rattle.lhm_ring.proofs.bucket_block.Head.TheLaws as head-laws
+use Rattle.lhm_ring.proofs.bucket_block.Word.TheLaws as word-laws
+use Rattle.lhm_ring.proofs.memory.BlockValues.{block_val, block_Good, BlockType, block_known}
+use Rattle.lhm_ring.proofs.memory.BucketParts.{block_parts, head₀, word₀, head₀-laws, word₀-laws}
+use Rattle.lhm_ring.proofs.memory.Lodging.{Lodging, lodging_laws, lodge_key, tells, none_made, three_made, Lodges, at_lodge, IsLodged, lodge_goes, lodge_gives, row_of_room}
+use Rattle.lhm_ring.specs.BucketBlock.{words_address, parts_own}
+use Rattle.lhm_ring.specs.Nodes.{chunk_token}
+use Rattle.lhm_ring.specs.contracts.bucket_block.split_block.{ended, clauses}
+use Rattle.lhm_ring.specs.contracts.bucket_block.split_block.Key.{name as #self}
+use Rattle.lhm_ring.proofs.bucket_block.split_block.Statement.{statement}
+use Rattle.lhm_ring.proofs.bucket_block.split_block.Code as code
+
+abbrev Block : RattleType
+Block = BlockType head heap.the_row ghosts
+
+abbrev laws_of : (Y : RattleType) → Laws Y → Laws (Lodging (param 0 Y))
+laws_of Y L = lodging_laws (param 0 Y) (param_laws 0 Y L)
+
+abbrev stayed : Stays ended.signature.params ended.kept
+stayed = (stay_dropped (plain (λ _. Block)) yes, (stay_dropped (plain (λ _. usize)) yes, tt))
+
+module _ {M : Type 1} {𝓤 : Ura M} (𝓛 : Logic 𝓤) (at_mem : Memory → SProp 𝓤) (run : Routine → Fun 𝓤) where
+  open 𝓛 use {H}
+
+  abbrev c : Clauses 𝓤 ended
+  c = clauses 𝓛 at_mem run
+
+  module _ (C : Calls 𝓤 H) (Λ : Loops 𝓤 H) (fr : FmC 𝓤 H 𝓛.laws C) (lh : Triple 𝓤 (C (lodge_key head₀)) (Lodges head₀ 𝓛 at_mem run))
+      (lw : Triple 𝓤 (C (lodge_key word₀)) (Lodges word₀ 𝓛 at_mem run)) where
+    walks : (y : (walk_of 𝓛 ended stayed c).Ghost) → Are (types_at ended.signature.params y.0.0) (Ises (types_at ended.signature.params y.0.0)) y.0.3 y.0.4
+        → ent 𝓤 ((walk_of 𝓛 ended stayed c).pre y) (WpFn 𝓤 H C Λ code.function ((walk_of 𝓛 ended stayed c).args y) ((walk_of 𝓛 ended stayed c).post y))
+    walks y are =
+        let κs = y.0.0 in let a = y.0.3 in let vss = y.0.4 in let Post : Val → SProp 𝓤 = (walk_of 𝓛 ended stayed c).post y in
+        let r = a.0 in let m : ℕ = a.1.0 in
+        let Asked : Type 0 = (q : ℕ) × (0 < q) × (m ≡ 4 * q) × (r.count ≡ 5 * q) in
+        qed 𝓛 ((raw (alive 𝓛 ended.signature κs y.0.1) ⊛ ‵ (owns (types_at ended.signature.params κs) a vss)) ∷ raw (fact 𝓤 Asked) ∷ []) ∵
+        move ! (1 ∷ []) $ heard ! Asked (λ asked. split ! $ move ! (1 ∷ []) $ fsplit ! $
+        block_known head heap.the_row ghosts ! r vss.0 (λ told. fsplit3 ! $ flt_l ! (λ fit₀.
+        let q : ℕ = asked.0 in let some_room : 0 < q = asked.1 in let room_is : m ≡ 4 * q = asked.2 in
+        let counted : r.count ≡ 5 * q = asked.3 in
+        let fit : 5 * q * 8 < 2 ^ 63 = subst (λ (k : ℕ). k * 8 < 2 ^ 63) counted fit₀ in
+        let f₆₄ : m < 2 ^ 64 = are.1.0.1 in
+        -- [the token; the memory; ..; what is alive]
+        keep ! (1 ∷ 0 ∷ 3 ∷ []) $
+        in_a_block ! r.ptr (λ p. room_for (array_of head r.count) p) (id⊢ 𝓤 _) (λ b o e.
+        let p : Ptr = block_ptr b o in
+        rewrite ! 0 (λ (k : ℕ). ‵ (room_for (array_of head k) p)) counted refl $
+        rewrite ! 1 (λ (k : ℕ). ‵ (chunk_token (array_of head k) r.ptr)) counted refl $
+        rewrite ! 1 (λ (p' : Ptr). ‵ (chunk_token (array_of head (5 * q)) p')) e refl $
+        let Back : Fml = fwand (parts_own p q) (room_for (array_of head (5 * q)) p) in
+        use1 𝓛 (‵ (parts_own p q) ⊛ ‵ Back) (block_parts 𝓛 b o q) $ split ! $ fsplit ! $
+        -- [the heads' memory; the words' memory; that they join; the token; what is alive]
+        move ! (3 ∷ 2 ∷ []) $ fjoin ! $ flt_i ! (5 * q * 8) (2 ^ 63) fit $ fjoin ! $
+        let Owned : Fml = fsep (flt (5 * q * 8) (2 ^ 63)) (fsep (chunk_token (array_of head (5 * q)) p) Back) in
+        rewrite ! 0 (λ z. ‵ (owns_if z Owned)) (sym (is_live q some_room)) refl $
+        -- [the dealloc; the heads' memory; the words' memory; what is alive]
+        let at : ℕ = o + 4 * q * 8 in let at' : ℕ = m * 8 + o in
+        let moved : at ≡ at' = omega (arith, room_is) in
+        let roomy : 0 < 4 * q = omega (arith, some_room) in
+        let small : m < 2 ^ 63 = omega (arith, room_is, fit) in
+        let f₈ : m * 8 < 2 ^ 64 = omega (arith, room_is, fit) in
+        move ! (1 ∷ []) $ use1 𝓛 (‵ (lodged (param 0 head) p 0 (4 * q) []))
+        (row_of_room head head-laws.the_row_laws 𝓛 b o (4 * q) roomy (omega (arith, fit))) $
+        rewrite ! 0 (λ (k : ℕ). ‵ (lodged (param 0 head) p 0 k [])) (sym room_is) refl $
+        move ! (2 ∷ []) $ use1 𝓛 (‵ (lodged (param 0 word) (block_ptr b at) 0 (4 * q) []))
+        (row_of_room word word-laws.the_row_laws 𝓛 b at (4 * q) roomy (omega (arith, fit))) $
+        rewrite ! 0 (λ (k : ℕ). ‵ (lodged (param 0 word) (block_ptr b at) 0 k [])) (sym room_is) refl $
+        rewrite ! 0 (λ (k : ℕ). ‵ (lodged (param 0 word) (block_ptr b k) 0 m [])) moved refl $
+        move ! (1 ∷ []) $
+        -- [the heads; the words; the dealloc; what is alive]
+        let of_heads = Lodges head₀ 𝓛 at_mem run in let of_words = Lodges word₀ 𝓛 at_mem run in
+        let yh = at_lodge head₀ 𝓛 at_mem run b o m in let yw = at_lodge word₀ 𝓛 at_mem run b at' m in
+        runs_with ! C Λ code.function Post (block_val r.ptr ∷ vint w64 m ∷ []) (λ i. told i ++ (are.1.0.0 i ++ [])) $
+        alloc_all ! (λ l. pass_all ! refl (block_Good r.ptr, ((tt, record { fits = f₆₄ }), tt)) $ let Ev = env (code.function).locals l in
+        sets ! (is ! (of_opd ! (get_in ! (fld ! refl (stop !)) (sub ! 0 refl (whole !)))) (ap ptr_val e)) refl (tt, tt) $
+        first ! $ blocks ! $
+        use1 𝓛 (raw (of_heads.pre yh)) (lodge_goes head₀ 𝓛 at_mem run b o m small) $
+        calls_at ! fr of_heads lh yh
+        (and_then ! (get ! refl) (and_then ! (lit ! tt) (and_then ! (get ! refl) (no_more !)))) (λ u.
+        use1 𝓛 (later (some (λ (hs : Vec head₀.Denot Lodged). given (IsLodged head₀ 𝓛 at_mem run b o m hs) (‵ ((Lodging (param 0 head₀)).own_val hs (u ∷ []))))))
+        (lodge_gives head₀ 𝓛 at_mem run b o m u) $ await ! tt $ pick ! (λ hs. learn ! (λ ih.
+        tells ! (Lodging (param 0 head₀)) (laws_of head₀ head₀-laws) hs (u ∷ []) (λ vh eh gh. lands_as ! (ap only eh) refl gh $
+        move ! (1 ∷ []) $
+        sets ! (bin ! (get ! refl) (lit ! tt) (record { fits = f₈ })) refl (tt, record { fits = f₈ }) $
+        sets ! (bin ! (get ! refl) (get ! refl) tt) refl (tt, tt) $ sets ! (of_opd ! (get ! refl)) refl (tt, tt) $
+        use1 𝓛 (raw (of_words.pre yw)) (lodge_goes word₀ 𝓛 at_mem run b at' m small) $
+        calls_at ! fr of_words lw yw
+        (and_then ! (get ! refl) (and_then ! (lit ! tt) (and_then ! (get ! refl) (no_more !)))) (λ v.
+        use1 𝓛 (later (some (λ (ws : Vec word₀.Denot Lodged). given (IsLodged word₀ 𝓛 at_mem run b at' m ws) (‵ ((Lodging (param 0 word₀)).own_val ws (v ∷ []))))))
+        (lodge_gives word₀ 𝓛 at_mem run b at' m v) $ await ! tt $ pick ! (λ ws. learn ! (λ iw.
+        tells ! (Lodging (param 0 word₀)) (laws_of word₀ word₀-laws) ws (v ∷ []) (λ vw ew gw. lands_as ! (ap only ew) refl gw $
+        let none : Val = vstruct vnil in
+        let all : Val = vstruct (vcons vh (vcons vw (vcons none vnil))) in
+        let good = as_fields (layout (Lodging head) ∷ layout (Lodging word) ∷ layout dealloc ∷ []) (vh ∷ vw ∷ none ∷ []) (gh, (gw, ((tt, tt), tt))) in
+        let out : dealloc.Denot = record { at = p; quarter = q } in
+        sets ! (of_opd ! (get ! refl)) refl gh $ sets ! (of_opd ! (get ! refl)) refl gw $ sets ! (agg ! (no_more !)) refl (tt, tt) $
+        sets_last ! (agg ! (and_then ! (get ! refl) (and_then ! (get ! refl) (and_then ! (get ! refl) (no_more !))))) refl good $
+        exec ! C Λ Ev (after 2 (code.function).body) (at_ret Ev Post) $ sets ! (of_opd ! (get ! refl)) refl good $
+        -- [the words; the heads; the dealloc; what is alive]
+        move ! (2 ∷ []) $ none_made ! $ fjoin ! $ move ! (2 ∷ 1 ∷ 0 ∷ []) $
+        three_made ! (Lodging head) (Lodging word) dealloc hs ws out vh vw none $
+        states ! ((hs.ptr ≡ p) × (ws.ptr ≡ words_address p q)) (ih.3, iw.3 ∙ ap (λ (k : ℕ). block_ptr b k) (sym moved)) $
+        states_also ! (m ≡ 4 * q) room_is $
+        states_also ! ((ws.items ≡ []) × (ws.len ≡ 0) × (ws.cap ≡ m)) (iw.0, iw.1, iw.2) $
+        states_also ! ((hs.items ≡ []) × (hs.len ≡ 0) × (hs.cap ≡ m)) (ih.0, ih.1, ih.2) $ all_spent ! 2 $
+        returns ! (look_at ! 0 refl) $ free_all ! refl $ keep ! (3 ∷ 0 ∷ 2 ∷ 1 ∷ []) $ by !
+        (leaves 𝓛 ended stayed c y all (hs, ws, out) (tt, (tt, tt)) (tt, (tt, tt))))))))))))))))
+
+pub cut_spec : {M : Type 1} → statement M
+cut_spec 𝓤 𝓛 𝓜 𝓡 wired =
+    let H = 𝓛.H in let 𝓣 = tables 𝓤 H 𝓜 𝓡 𝓡.env in
+    proved_at 𝓛 ended stayed (c 𝓛 𝓜.mem 𝓡.returns) 𝓜 𝓡 (
+      Goes-blank 𝓛 0 (plain (λ _. Block)) yes (λ κs x f. tt),
+      (Goes-dropped 𝓛 0 (plain (λ _. usize)) yes (λ κs x f. refl), tt),
+    ) #self code.function (code.unfolded 𝓤 H 𝓜 𝓡 wired)
+    (walks 𝓛 𝓜.mem 𝓡.returns 𝓣.C 𝓣.Λ (framed 𝓤 H 𝓜 𝓣)
+    (lodge_met.met 𝓤 𝓛 𝓜 𝓡 (code.calls-std_alloc::vec::lodge 𝓡.env wired) (timeless head₀) (timeless_laws head₀ head₀-laws))
+    (lodge_met.met 𝓤 𝓛 𝓜 𝓡 (code.calls-std_alloc::vec::lodge 𝓡.env wired) (timeless word₀) (timeless_laws word₀ word₀-laws)))

@@ -1,9 +1,0 @@
-use Rattle.std.proofs.Common.{◌≡◌, vec_len}
-use Rattle.std.specs.Vec.{vec_capacity}
-use Rattle.lhm_ring.proofs.buckets.empty_words.Given as goal
-
-abbrev pub invariant-words : goal.invariant-words
-invariant-words l = vec_capacity l.words ≡ vec_capacity l.fn.words
-
-abbrev pub decreases-words : goal.decreases-words
-decreases-words l = vec_len l.words

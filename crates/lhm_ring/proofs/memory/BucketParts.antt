@@ -1,0 +1,78 @@
+-- The memory of a block is split into that of heads and that of words, and joined again. Assumes `Logic`.
+use Rattle.lhm_ring.proofs.memory.Steps.{◌≡◌, ℕ, ◌+◌, ◌*◌, ◌<◌, [], ◌∷◌, refl, sym, arith, Ura, Ty}
+use Rattle.lhm_ring.proofs.memory.Steps.{ent, sep, SProp, ty_array, ◌∵◌, ‵, raw, ◌⊛◌, ◌$◌, !, qed}
+use Rattle.lhm_ring.proofs.memory.Steps.{by, move, use1, use2, split, fsplit, fjoin, rewrite, done}
+use Rattle.lhm_ring.proofs.memory.Steps.{Logic, sem, layout, Laws, block_ptr, froom, as_raw, keep, RattleType}
+use Rattle.std.proofs.Common.{◌≤◌, ◌-◌}
+use mir.Raw.{raw as bare}
+use base.Fml.{fwand}
+use base.Logic.{wand, apply∗}
+use denote.RawPtr.{Ptr, room_for}
+use types.Kit.{assume, frame}
+use Rattle.std.specs.Allocator.{array_of}
+use Rattle.std.proofs.RawLayout.{as_written}
+use Rattle.std_alloc.proofs.VecSteps.El.{El, sz}
+use Rattle.std_alloc.proofs.VecSteps.Rows.{room_split, glued}
+use Rattle.lhm_ring.specs.contracts.bucket_block.Head.{the_row as head}
+use Rattle.lhm_ring.specs.contracts.bucket_block.Word.{the_row as word}
+use Rattle.lhm_ring.proofs.bucket_block.Head.TheLaws as head-laws
+use Rattle.lhm_ring.proofs.bucket_block.Word.TheLaws as word-laws
+use Rattle.lhm_ring.proofs.memory.Lodging.{element}
+use Rattle.lhm_ring.specs.BucketBlock.{parts_own}
+
+-- the same with no name in their machine types, as a call of a generic function has them
+abbrev pub head₀ : RattleType
+head₀ = record { Denot = head.Denot; mir = bare (layout head) ∷ []; written = head.written; reaches = head.reaches; lives = head.lives; own_val = head.own_val; exit = head.exit; coded = head.coded; shr_at = head.shr_at }
+
+pub head₀-laws : Laws head₀
+head₀-laws =
+    let L = head-laws.the_row_laws in
+    record { one = refl; single = L.single; lawful = λ 𝓛. record { typed = (L.lawful 𝓛).typed }; drops = λ 𝓛. L.drops 𝓛; shares = λ 𝓛. L.shares 𝓛; shr_laws = L.shr_laws }
+
+abbrev pub word₀ : RattleType
+word₀ = record { Denot = word.Denot; mir = bare (layout word) ∷ []; written = word.written; reaches = word.reaches; lives = word.lives; own_val = word.own_val; exit = word.exit; coded = word.coded; shr_at = word.shr_at }
+
+pub word₀-laws : Laws word₀
+word₀-laws =
+    let L = word-laws.the_row_laws in
+    record { one = refl; single = L.single; lawful = λ 𝓛. record { typed = (L.lawful 𝓛).typed }; drops = λ 𝓛. L.drops 𝓛; shares = λ 𝓛. L.shares 𝓛; shr_laws = L.shr_laws }
+
+abbrev pub heads : Ty
+heads = layout head
+
+abbrev pub words : Ty
+words = layout word
+
+abbrev of_heads : El
+of_heads = element head head-laws.the_row_laws
+
+module _ {M : Type 1} {𝓤 : Ura M} (𝓛 : Logic 𝓤) (b o q : ℕ) where
+  open 𝓛 use {H}
+
+  abbrev Whole : SProp 𝓤
+  Whole = H.room (ty_array heads (5 * q)) b o
+
+  pub block_parts : ent 𝓤 (sem 𝓛 (room_for (array_of head (5 * q)) (block_ptr b o)))
+      (sep 𝓤 (sem 𝓛 (parts_own (block_ptr b o) q))
+      (sem 𝓛 (fwand (parts_own (block_ptr b o) q) (room_for (array_of head (5 * q)) (block_ptr b o)))))
+  block_parts =
+      let at : ℕ = o + 4 * q * 8 in
+      let Behind : SProp 𝓤 = H.room (ty_array heads q) b at in
+      let Words : SProp 𝓤 = H.room (ty_array words (4 * q)) b at in
+      let left : 5 * q - 4 * q ≡ q = omega arith in
+      let less : 4 * q ≤ 5 * q = omega arith in
+      let all : 4 * q + q ≡ 5 * q = omega arith in
+      let same : 4 * q * 2 ≡ q * 8 = omega arith in
+      qed 𝓛 (‵ (froom (array_of head (5 * q)) b o) ∷ []) ∵ as_written ! (ty_array heads (5 * q)) b o $
+      use1 𝓛 (‵ (froom (ty_array heads (4 * q)) b o) ⊛ ‵ (froom (ty_array heads (5 * q - 4 * q)) b at))
+      (room_split of_heads 𝓛 (4 * q) (5 * q) b o less) $ split ! $ move ! (1 ∷ []) $
+      rewrite ! 0 (λ (k : ℕ). ‵ (froom (ty_array heads k) b at)) left refl $
+      use1 𝓛 (‵ (froom (ty_array words (4 * q)) b at) ⊛ raw (wand 𝓤 Words Behind))
+      (𝓛.laws.room_as (ty_array heads q) (ty_array words (4 * q)) b at same tt) $ split ! $
+      as_raw ! (ty_array words (4 * q)) b at $ move ! (2 ∷ []) $ as_raw ! (ty_array heads (4 * q)) b o $
+      move ! (0 ∷ 1 ∷ []) $ fjoin ! $ move ! (0 ∷ 1 ∷ []) $ frame ! $
+      assume ! (‵ (parts_own (block_ptr b o) q)) $ fsplit ! $ as_written ! (ty_array heads (4 * q)) b o $
+      move ! (1 ∷ []) $ as_written ! (ty_array words (4 * q)) b at $ move ! (0 ∷ 2 ∷ []) $
+      use2 𝓛 (‵ (froom (ty_array heads q) b at)) (apply∗ 𝓤 Words Behind) $ move ! (1 ∷ 0 ∷ []) $
+      use2 𝓛 (‵ (froom (ty_array heads (5 * q)) b o)) (glued of_heads 𝓛 (4 * q) q (5 * q) b o all) $
+      as_raw ! (ty_array heads (5 * q)) b o $ done !
