@@ -1,11 +1,12 @@
 """The memory of a map: how many requests each change of its capacity makes, and in which order.
 
 The capacity is the number of pairs that fit. There are as many buckets as the capacity, rounded up
-to a power of two, or none at 0. Each bucket has a head and a word of the filter.
+to a power of two, or none at 0. Each bucket has a head and a word of the filter, and one block has
+the heads and the words of all.
 
 A growth asks, in this order, for
-- heads and then filter words, if it needs more buckets than there is room for: each has as much
-  room as there are buckets when it is asked for, but room for 8 if these are fewer, and none for 0;
+- a block of buckets, if it needs more than there is room for: it has as much room as there are
+  buckets when it is asked for, but room for 4 if these are fewer, and there is none for 0;
 - a longer list of chunks, if all its places are taken: the list has 4 places at first, then 8, 16,
   and so on. The first four chunks are not in it if they have two nodes each and come before all
   others;
@@ -13,11 +14,11 @@ A growth asks, in this order, for
   growth by one makes it at least two nodes, or from 16 nodes on half as many as there are, at most
   64, and at most as many as there are then buckets beyond the nodes, or with one bucket two.
 
-If one is refused, the growth gives back the buckets and the filter, and the capacity stays. A list
+If one is refused, the growth gives back the buckets, and the capacity stays. A list
 that was made longer stays so, since it belongs to the map and not to the growth. What is made anew
 (a map with a capacity, a clone, the nodes of a shrinking) is given back as a whole.
 
-A shrinking to fewer buckets asks for new heads and words and then, as a new ring does, for one
+A shrinking to fewer buckets asks for a new block of these and then, as a new ring does, for one
 chunk of exactly the pairs, and for a list before it if they are not two. With as many buckets it
 asks for nothing, and the nodes stay; without pairs it frees all. No other call asks for memory for
 pairs.
@@ -31,8 +32,9 @@ MOST_AHEAD = 64
 FIRST_LIST = 4
 # How many chunks of two nodes need no list.
 MOST_INLINE = 4
-# How many buckets the first heads and words have room for.
-FIRST_ROOM = 8
+# How many buckets the first block has room for, and the bytes of a bucket: a head and a word.
+FIRST_ROOM = 4
+BUCKET = 10
 # A request for so many bytes is refused on any machine.
 NO_MACHINE = 2**47
 
@@ -43,10 +45,8 @@ def buckets_for(capacity):
 
 
 def is_given_buckets(count, effects):
-    """Asks for heads and filter words, and returns whether both are given."""
-    if count == 0:
-        return True
-    return effects.ask() and count * 8 < NO_MACHINE and effects.ask()
+    """Asks for a block of buckets, and returns whether it is given."""
+    return count == 0 or effects.ask() and count * BUCKET < NO_MACHINE
 
 
 class Memory:

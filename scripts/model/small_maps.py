@@ -6,12 +6,12 @@ import subprocess
 import tempfile
 
 from effects import Effects
-from memory import FIRST_ROOM, Memory
+from memory import BUCKET, FIRST_ROOM, Memory
 from program import SMALL_SIZES
 
 PAGE = "docs/PERFORMANCE.md"
-# The bytes of a node, of a bucket with its word of the filter, and of a place in the list of chunks.
-NODE, BUCKET, PLACE = 48, 10, 16
+# The bytes of a node, and of a place in the list of chunks.
+NODE, PLACE = 48, 16
 # How many maps bench fills, and the most bytes of a request for one of them.
 MAPS, MOST_BYTES = 4_000, 4_096
 
