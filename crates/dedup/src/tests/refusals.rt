@@ -2,8 +2,8 @@
 //!
 //! The tests run with the Nth growth refused, for each N, until all of them say that every growth
 //! was given, and how many there are. That number is counted by hand. A line of a few bytes is read
-//! into a vector, which grows to 8, and a new line is copied. The set asks for its buckets, a
-//! filter and a chunk at its first line, and for nothing at its second.
+//! into a vector, which grows to 8, and a new line is copied. The set asks for its buckets and a
+//! chunk at its first line, and for nothing at its second.
 
 use super::support::checks::check_eq;
 use super::support::streams::Sink;
@@ -47,12 +47,12 @@ fn check_run(rt: &(impl Abort + Print), alloc: Global) {
         (status, output.bytes(), given || is_refused(status, output.bytes(), faults.bytes())),
         (status, output.bytes(), true)
     );
-    say_if_given(rt, given, 6);
+    say_if_given(rt, given, 5);
 }
 
 #[test]
 fn refused_growth_of_a_run(rt: HostRuntime) {
-    // The line that is read, two copies, and the set's growths: three for the first item.
+    // The line that is read, two copies, and the set's growths: two for the first item.
     check_run(&rt, rt.alloc());
 }
 
@@ -77,11 +77,11 @@ fn check_pass(rt: &(impl Abort + Print), alloc: Global, keep: Keep, lines: &[u8]
 
 #[test]
 fn refused_growth_of_last_lines(rt: HostRuntime) {
-    check_pass(&rt, rt.alloc(), Keep::Last, b"b\na\n", 6);
+    check_pass(&rt, rt.alloc(), Keep::Last, b"b\na\n", 5);
 }
 
 #[test]
 fn refused_growth_of_a_window(rt: HostRuntime) {
     // The third line is new again, and is copied: the set has room for it.
-    check_pass(&rt, rt.alloc(), Keep::Window(1), b"a\nb\na\n", 7);
+    check_pass(&rt, rt.alloc(), Keep::Window(1), b"a\nb\na\n", 6);
 }

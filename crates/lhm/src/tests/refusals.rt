@@ -3,8 +3,8 @@
 //! The tests named `refused_` run with the Nth growth refused, for each N, until all of them say
 //! that every growth was given, and how many there are. That number is counted by hand. A vector of
 //! bytes grows to 8, and one of commands or of pairs to 4, and each doubles from there. The room of
-//! the replies is one growth, and so is the list of a draining. A map asks for its buckets, a
-//! filter and a chunk at its first pair, and for a chunk at its third.
+//! the replies is one growth, and so is the list of a draining. A map asks for its buckets and a
+//! chunk at its first pair, and for a chunk at its third.
 
 use super::support::checks::{check_eq, given};
 use super::support::fakes::{Sink, Source};
@@ -96,7 +96,7 @@ fn refused_growth_of_a_run(rt: HostRuntime) {
     let input = b"insert 1 10\ninsert 2 20\ninsert 3 30\ninsert 1 11\nremove 1\n";
     // 57 bytes of input, to 64, five commands, to 8, the replies, the first and the third pair of
     // the map, and 101 bytes of output, to 128.
-    check_ways(&rt, rt.alloc(), input, &ways, 16);
+    check_ways(&rt, rt.alloc(), input, &ways, 15);
 }
 
 #[test]
@@ -109,7 +109,7 @@ fn refused_growth_of_an_extension(rt: HostRuntime) {
     ];
     // 22 bytes of input, to 32, the pairs, a command, the replies, the first and the third pair of
     // the map, and 37 bytes of output, to 64.
-    check_ways(&rt, rt.alloc(), b"extend 1 10 2 20 3 30\n", &ways, 14);
+    check_ways(&rt, rt.alloc(), b"extend 1 10 2 20 3 30\n", &ways, 13);
 }
 
 #[test]
@@ -122,7 +122,7 @@ fn refused_growth_of_a_draining(rt: HostRuntime) {
     ];
     // 17 bytes of input, to 32, the commands, the replies, a pair of the map, its list, and 43
     // bytes of output, to 64.
-    check_ways(&rt, rt.alloc(), b"insert 1 1\ndrain\n", &ways, 13);
+    check_ways(&rt, rt.alloc(), b"insert 1 1\ndrain\n", &ways, 12);
 }
 
 /// Checks the line of a reply. Its text has room, so that nothing is refused.

@@ -44,13 +44,13 @@ pub(super) fn say_if_given(rt: &(impl Print + AllocGlobal), given: bool, growths
 
 #[test]
 fn refused_extension_by_references_keeps_what_went_in(rt: HostRuntime) {
-    // The growths: buckets, a filter and a chunk of two nodes; another chunk for the third pair;
-    // one that the test asks for itself.
+    // The growths: buckets and a chunk of two nodes; another chunk for the third pair; one that the
+    // test asks for itself.
     let mut map = LinkedHashMap::new(rt.alloc());
     let mut items = [(&1, &10), (&1, &11), (&2, &20), (&3, &30)].into_iter();
     let extended = map.extend_refs(items.by_ref());
     assert_extended(&rt, &map, extended, items.len());
-    say_if_given(&rt, map.len() == 3, 5);
+    say_if_given(&rt, map.len() == 3, 4);
 }
 
 /// Checks what the extension returns that leaves these pairs, and how many items it leaves.
