@@ -1,17 +1,17 @@
 -- The memory of a block is split into that of heads and that of words, and joined again. Assumes `Logic`.
-use Rattle.lhm_ring.proofs.memory.Steps.{◌≡◌, ℕ, ◌+◌, ◌*◌, ◌<◌, [], ◌∷◌, refl, sym, arith, Ura, Ty}
+use Rattle.lhm_ring.proofs.memory.Steps.{◌≡◌, ℕ, ◌+◌, ◌*◌, [], ◌∷◌, refl, arith, Ura, Ty}
 use Rattle.lhm_ring.proofs.memory.Steps.{ent, sep, SProp, ty_array, ◌∵◌, ‵, raw, ◌⊛◌, ◌$◌, !, qed}
-use Rattle.lhm_ring.proofs.memory.Steps.{by, move, use1, use2, split, fsplit, fjoin, rewrite, done}
-use Rattle.lhm_ring.proofs.memory.Steps.{Logic, sem, layout, Laws, block_ptr, froom, as_raw, keep, RattleType}
+use Rattle.lhm_ring.proofs.memory.Steps.{move, use1, use2, split, fsplit, fjoin, rewrite, done}
+use Rattle.lhm_ring.proofs.memory.Steps.{Logic, sem, layout, Laws, block_ptr, froom, as_raw, RattleType}
 use Rattle.std.proofs.Common.{◌≤◌, ◌-◌}
 use mir.Raw.{raw as bare}
 use base.Fml.{fwand}
 use base.Logic.{wand, apply∗}
-use denote.RawPtr.{Ptr, room_for}
+use denote.RawPtr.{room_for}
 use types.Kit.{assume, frame}
 use Rattle.std.specs.Allocator.{array_of}
 use Rattle.std.proofs.RawLayout.{as_written}
-use Rattle.std_alloc.proofs.VecSteps.El.{El, sz}
+use Rattle.std_alloc.proofs.VecSteps.El.{El}
 use Rattle.std_alloc.proofs.VecSteps.Rows.{room_split, glued}
 use Rattle.lhm_ring.specs.contracts.bucket_block.Head.{the_row as head}
 use Rattle.lhm_ring.specs.contracts.bucket_block.Word.{the_row as word}
@@ -22,20 +22,56 @@ use Rattle.lhm_ring.specs.BucketBlock.{parts_own}
 
 -- the same with no name in their machine types, as a call of a generic function has them
 abbrev pub head₀ : RattleType
-head₀ = record { Denot = head.Denot; mir = bare (layout head) ∷ []; written = head.written; reaches = head.reaches; lives = head.lives; own_val = head.own_val; exit = head.exit; coded = head.coded; shr_at = head.shr_at }
+head₀ = record {
+  Denot = head.Denot;
+  mir = bare (layout head) ∷ [];
+  written = head.written;
+  reaches = head.reaches;
+  lives = head.lives;
+  own_val = head.own_val;
+  exit = head.exit;
+  coded = head.coded;
+  shr_at = head.shr_at;
+}
 
 pub head₀-laws : Laws head₀
 head₀-laws =
     let L = head-laws.the_row_laws in
-    record { one = refl; single = L.single; lawful = λ 𝓛. record { typed = (L.lawful 𝓛).typed }; drops = λ 𝓛. L.drops 𝓛; shares = λ 𝓛. L.shares 𝓛; shr_laws = L.shr_laws }
+    record {
+      one = refl;
+      single = L.single;
+      lawful = λ 𝓛. record { typed = (L.lawful 𝓛).typed };
+      drops = λ 𝓛. L.drops 𝓛;
+      shares = λ 𝓛.
+          L.shares 𝓛;
+      shr_laws = L.shr_laws;
+    }
 
 abbrev pub word₀ : RattleType
-word₀ = record { Denot = word.Denot; mir = bare (layout word) ∷ []; written = word.written; reaches = word.reaches; lives = word.lives; own_val = word.own_val; exit = word.exit; coded = word.coded; shr_at = word.shr_at }
+word₀ = record {
+  Denot = word.Denot;
+  mir = bare (layout word) ∷ [];
+  written = word.written;
+  reaches = word.reaches;
+  lives = word.lives;
+  own_val = word.own_val;
+  exit = word.exit;
+  coded = word.coded;
+  shr_at = word.shr_at;
+}
 
 pub word₀-laws : Laws word₀
 word₀-laws =
     let L = word-laws.the_row_laws in
-    record { one = refl; single = L.single; lawful = λ 𝓛. record { typed = (L.lawful 𝓛).typed }; drops = λ 𝓛. L.drops 𝓛; shares = λ 𝓛. L.shares 𝓛; shr_laws = L.shr_laws }
+    record {
+      one = refl;
+      single = L.single;
+      lawful = λ 𝓛. record { typed = (L.lawful 𝓛).typed };
+      drops = λ 𝓛. L.drops 𝓛;
+      shares = λ 𝓛.
+          L.shares 𝓛;
+      shr_laws = L.shr_laws;
+    }
 
 abbrev pub heads : Ty
 heads = layout head

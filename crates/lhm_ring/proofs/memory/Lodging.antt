@@ -1,6 +1,6 @@
 -- A vector is made of the memory of others by `lodge`, and gives it back by `dislodge`. Assumes `Logic`.
 use Rattle.lhm_ring.proofs.memory.Steps.{◌≡◌, ℕ, ◌+◌, ◌*◌, ◌<◌, ◌^◌, List, [], ◌∷◌, refl, ap, ◌∙◌}
-use Rattle.lhm_ring.proofs.memory.Steps.{arith, length, Ura, ftrue, fsep, flft, full_share, ent, emp}
+use Rattle.lhm_ring.proofs.memory.Steps.{arith, Ura, ftrue, fsep, flft, full_share, ent, emp}
 use Rattle.lhm_ring.proofs.memory.Steps.{SProp, id⊢, w64, ty_array, a_type, Val, vptr, vint, ◌∵◌}
 use Rattle.lhm_ring.proofs.memory.Steps.{‵, raw, ◌⊛◌, ◌$◌, !, qed, move, keep, drop, use0, use1, use2}
 use Rattle.lhm_ring.proofs.memory.Steps.{split, join, fsplit, fjoin, rewrite, feq_i, feq_l, flt_l}
@@ -65,7 +65,13 @@ module _ {M : Type 1} {𝓤 : Ura M} {𝓛 : Logic 𝓤} {K : Type 0} {Γ : List
   pub tells : K → (S : RattleType) → Laws S → (x : S.Denot) (vs : List Val)
       → ((v : Val) → vs ≡ v ∷ [] → T (has_ty (layout S) v) × WT v → Seq K 𝓛 (‵ (S.own_val x (v ∷ [])) ∷ Γ) G)
       → Seq K 𝓛 (‵ (S.own_val x vs) ∷ Γ) G
-  tells t S L = handle_tells (record { row = S; laws = L; g = record { dealloc_token = λ a τ p. ftrue }; d = dict_at 0; drops = dict_at 0 }) t
+  tells t S L = handle_tells (record {
+    row = S;
+    laws = L;
+    g = record { dealloc_token = λ a τ p. ftrue };
+    d = dict_at 0;
+    drops = dict_at 0;
+  }) t
 
   -- a struct of no field and one of three are made of their fields: what a struct owns does not read
   -- its name
@@ -78,11 +84,14 @@ module _ {M : Type 1} {𝓤 : Ura M} {𝓛 : Logic 𝓤} {K : Type 0} {Γ : List
   none_had t vs k = fpick t (λ vss. fsplit t $ feq_l t (λ e. drop t $ k e))
 
   pub three_made : K → (R S U : RattleType) (x : R.Denot) (y : S.Denot) (z : U.Denot) (u v w : Val)
-      → Step K 𝓛 (‵ ((plainly (R ∷ S ∷ U ∷ [])).own_val (x, (y, (z, tt))) (vstruct (vcons u (vcons v (vcons w vnil))) ∷ [])) ∷ Γ) G (‵ (R.own_val x (u ∷ [])) ∷ ‵ (S.own_val y (v ∷ [])) ∷ ‵ (U.own_val z (w ∷ [])) ∷ Γ) G
+      → Step K 𝓛 (‵ ((plainly (R ∷ S ∷ U ∷ [])).own_val (x, (y, (z, tt))) (vstruct (vcons u (vcons v (vcons w vnil))) ∷ [])) ∷ Γ) G
+      (‵ (R.own_val x (u ∷ [])) ∷ ‵ (S.own_val y (v ∷ [])) ∷ ‵ (U.own_val z (w ∷ [])) ∷ Γ) G
   three_made t R S U x y z u v w = step (λ s.
       let all : Val = vstruct (vcons u (vcons v (vcons w vnil))) in
-      nothing t $ move t (3 ∷ 0 ∷ []) $ fjoin t $ move t (2 ∷ 0 ∷ []) $ fjoin t $ move t (1 ∷ 0 ∷ []) $ fjoin t $ feq_i t (List Val) (all ∷ []) (all ∷ []) refl $ fjoin t $
-      fpack t (Valss (R ∷ S ∷ U ∷ [])) (within (record { name = []; args = []; types = []; fields = R ∷ S ∷ U ∷ [] }) (x, (y, (z, tt))) (all ∷ [])) (u ∷ [], (v ∷ [], (w ∷ [], tt))) $ s)
+      nothing t $ move t (3 ∷ 0 ∷ []) $ fjoin t $ move t (2 ∷ 0 ∷ []) $ fjoin t $ move t (1 ∷ 0 ∷ []) $ fjoin t $ feq_i t (List Val)
+      (all ∷ []) (all ∷ []) refl $ fjoin t $
+      fpack t (Valss (R ∷ S ∷ U ∷ [])) (within (record { name = []; args = []; types = []; fields = R ∷ S ∷ U ∷ [] }) (x, (y, (z, tt)))
+      (all ∷ [])) (u ∷ [], (v ∷ [], (w ∷ [], tt))) $ s)
 
 module _ (Y : RattleType) {M : Type 1} {𝓤 : Ura M} (𝓛 : Logic 𝓤) (at_mem : Memory → SProp 𝓤) (run : Routine → Fun 𝓤) where
   open 𝓛 use {H}
@@ -95,7 +104,16 @@ module _ (Y : RattleType) {M : Type 1} {𝓤 : Ura M} (𝓛 : Logic 𝓤) (at_me
 
   module _ (b o c : ℕ) where
     abbrev pub at_lodge : Lodges.Ghost
-    at_lodge = ((([], tt), (full_share, tt), tt, (block_ptr b o, (0, (c, tt))), (vptr b o ∷ [], (vint w64 0 ∷ [], (vint w64 c ∷ [], tt)))), [])
+    at_lodge = (
+      (
+        ([], tt),
+        (full_share, tt),
+        tt,
+        (block_ptr b o, (0, (c, tt))),
+        (vptr b o ∷ [], (vint w64 0 ∷ [], (vint w64 c ∷ [], tt))),
+      ),
+      [],
+    )
 
     abbrev pub IsLodged : Vec Y.Denot Lodged → Type 0
     IsLodged r = (r.items ≡ []) × (r.len ≡ 0) × (r.cap ≡ c) × (r.ptr ≡ block_ptr b o)
@@ -103,19 +121,25 @@ module _ (Y : RattleType) {M : Type 1} {𝓤 : Ura M} (𝓛 : Logic 𝓤) (at_me
     pub lodge_goes : c < 2 ^ 63 → ent 𝓤 (sem 𝓛 (lodged (param 0 Y) (block_ptr b o) 0 c [])) (Lodges.pre at_lodge)
     lodge_goes small =
         let Asked : Type 0 = (0 ≡ 0) × (0 ≤ c) × (c < 2 ^ 63) in
-        qed 𝓛 (‵ (lodged (param 0 Y) (block_ptr b o) 0 c []) ∷ []) ∵ use0 𝓛 (raw (fact 𝓤 Asked)) (fact_i 𝓤 Asked (emp 𝓤) (refl, omega arith, small)) $ join ! $
+        qed 𝓛 (‵ (lodged (param 0 Y) (block_ptr b o) 0 c []) ∷ []) ∵ use0 𝓛 (raw (fact 𝓤 Asked))
+        (fact_i 𝓤 Asked (emp 𝓤) (refl, omega arith, small)) $ join ! $
         use0 𝓛 (raw (fact 𝓤 ([] ⊑ []))) (fact_i 𝓤 ([] ⊑ []) (emp 𝓤) (⊑_refl [])) $ join ! $
-        nothing ! $ flt_i ! c (2 ^ 64) (omega (arith, small)) $ feq_i ! (List Val) (vint w64 c ∷ []) (vint w64 c ∷ []) refl $ fjoin ! $ fjoin ! $
+        nothing ! $ flt_i ! c (2 ^ 64) (omega (arith, small)) $ feq_i ! (List Val) (vint w64 c ∷ []) (vint w64 c ∷ []) refl $ fjoin ! $
+        fjoin ! $
         flt_i ! 0 (2 ^ 64) (omega arith) $ feq_i ! (List Val) (vint w64 0 ∷ []) (vint w64 0 ∷ []) refl $ fjoin ! $ fjoin ! $
-        feq_i ! (List Val) (vptr b o ∷ []) (vptr b o ∷ []) refl $ fjoin ! $ nothing ! $ use0 𝓛 (‵ (flft [] full_share)) (𝓛.lfts.lft-nil full_share) $ join ! $ join ! $ done !
+        feq_i ! (List Val) (vptr b o ∷ []) (vptr b o ∷ []) refl $ fjoin ! $ nothing ! $ use0 𝓛 (‵ (flft [] full_share))
+        (𝓛.lfts.lft-nil full_share) $ join ! $ join ! $ done !
 
-    pub lodge_gives : (v : Val) → ent 𝓤 (Lodges.post at_lodge v) (H.⇛ (ex 𝓤 (λ (r : Vec Y.Denot Lodged). guard 𝓤 (IsLodged r) (sem 𝓛 ((Lodging (param 0 Y)).own_val r (v ∷ []))))))
+    pub lodge_gives : (v : Val) → ent 𝓤 (Lodges.post at_lodge v) (H.⇛ (ex 𝓤 (λ (r : Vec Y.Denot Lodged). guard 𝓤 (IsLodged r)
+        (sem 𝓛 ((Lodging (param 0 Y)).own_val r (v ∷ []))))))
     lodge_gives v =
         qed 𝓛 (raw (Lodges.post at_lodge v) ∷ []) ∵ updating ! $
         use1 𝓛 (later (some (λ (r : Vec Y.Denot Lodged). ((‵ (flft [] full_share) ⊛ ‵ ftrue) ⊛ ‵ ((Lodging (param 0 Y)).own_val r (v ∷ [])))
-        ⊛ some (λ (ws : Unit {0} × (Unit {0} × (Unit {0} × Unit {0}))). ‵ (fsep ftrue (fsep ftrue (fsep ftrue ftrue))) ⊛ raw (fact 𝓤 (IsLodged r)))))) (id⊢ 𝓤 _) $ await ! tt $ pick ! (λ r.
+        ⊛ some (λ (ws : Unit {0} × (Unit {0} × (Unit {0} × Unit {0}))). ‵ (fsep ftrue (fsep ftrue (fsep ftrue ftrue))) ⊛ raw
+        (fact 𝓤 (IsLodged r)))))) (id⊢ 𝓤 _) $ await ! tt $ pick ! (λ r.
         split ! $ move ! (1 ∷ []) $ pick ! (λ ws. split ! $ drop ! $ heard ! (IsLodged r) (λ is. split ! $ drop ! $ now ! $
-        show ! (λ (z : Vec Y.Denot Lodged). guard 𝓤 (IsLodged z) (sem 𝓛 ((Lodging (param 0 Y)).own_val z (v ∷ [])))) r $ check ! is $ done !)))
+        show ! (λ (z : Vec Y.Denot Lodged). guard 𝓤 (IsLodged z) (sem 𝓛 ((Lodging (param 0 Y)).own_val z (v ∷ [])))) r $ check ! is $
+        done !)))
 
   module _ (d : Vec Y.Denot Lodged) (u : Val) where
     abbrev pub at_dislodge : Dislodges.Ghost
@@ -123,16 +147,20 @@ module _ (Y : RattleType) {M : Type 1} {𝓤 : Ura M} (𝓛 : Logic 𝓤) (at_me
 
     pub dislodge_goes : ent 𝓤 (sem 𝓛 ((Lodging (param 0 Y)).own_val d (u ∷ []))) (Dislodges.pre at_dislodge)
     dislodge_goes =
-        qed 𝓛 (‵ ((Lodging (param 0 Y)).own_val d (u ∷ [])) ∷ []) ∵ nothing ! $ use0 𝓛 (raw (fact 𝓤 ([] ⊑ []))) (fact_i 𝓤 ([] ⊑ []) (emp 𝓤) (⊑_refl [])) $ join ! $
-        nothing ! $ move ! (2 ∷ 0 ∷ []) $ fjoin ! $ nothing ! $ use0 𝓛 (‵ (flft [] full_share)) (𝓛.lfts.lft-nil full_share) $ join ! $ join ! $ done !
+        qed 𝓛 (‵ ((Lodging (param 0 Y)).own_val d (u ∷ [])) ∷ []) ∵ nothing ! $ use0 𝓛 (raw (fact 𝓤 ([] ⊑ [])))
+        (fact_i 𝓤 ([] ⊑ []) (emp 𝓤) (⊑_refl [])) $ join ! $
+        nothing ! $ move ! (2 ∷ 0 ∷ []) $ fjoin ! $ nothing ! $ use0 𝓛 (‵ (flft [] full_share)) (𝓛.lfts.lft-nil full_share) $ join ! $
+        join ! $ done !
 
     pub dislodge_gives : (v : Val) → ent 𝓤 (Dislodges.post at_dislodge v)
         (H.⇛ (guard 𝓤 ((v ≡ vint w64 d.len) × (d.len < 2 ^ 64)) (sem 𝓛 (lodged (param 0 Y) d.ptr d.len d.cap d.items))))
     dislodge_gives v =
         qed 𝓛 (raw (Dislodges.post at_dislodge v) ∷ []) ∵ updating ! $
         use1 𝓛 (later (some (λ (r : ℕ). ((‵ (flft [] full_share) ⊛ ‵ ftrue) ⊛ ‵ (usize.own_val r (v ∷ [])))
-        ⊛ some (λ (ws : Unit {0} × Unit {0}). ‵ (fsep (left ((Lodging (param 0 (timeless Y))).exit no) d ws.0) ftrue) ⊛ raw (fact 𝓤 (r ≡ d.len)) ⊛ ‵ (lodged (param 0 Y) d.ptr d.len d.cap d.items))))) (id⊢ 𝓤 _) $ await ! tt $ pick ! (λ r.
-        split ! $ move ! (1 ∷ []) $ pick ! (λ ws. split3 ! $ drop ! $ heard ! (r ≡ d.len) (λ is. move ! (1 ∷ []) $ split ! $ drop ! $ fsplit ! $ feq_l ! (λ e. flt_l ! (λ f. now ! $
+        ⊛ some (λ (ws : Unit {0} × Unit {0}). ‵ (fsep (left ((Lodging (param 0 (timeless Y))).exit no) d ws.0) ftrue) ⊛ raw
+        (fact 𝓤 (r ≡ d.len)) ⊛ ‵ (lodged (param 0 Y) d.ptr d.len d.cap d.items))))) (id⊢ 𝓤 _) $ await ! tt $ pick ! (λ r.
+        split ! $ move ! (1 ∷ []) $ pick ! (λ ws. split3 ! $ drop ! $ heard ! (r ≡ d.len)
+        (λ is. move ! (1 ∷ []) $ split ! $ drop ! $ fsplit ! $ feq_l ! (λ e. flt_l ! (λ f. now ! $
         check ! (ap only e ∙ ap (vint w64) is, omega arith) $ done !)))))
 
 module _ (Y : RattleType) (L : Laws Y) where
@@ -142,18 +170,23 @@ module _ (Y : RattleType) (L : Laws Y) where
   module _ {M : Type 1} {𝓤 : Ura M} (𝓛 : Logic 𝓤) (b o c : ℕ) (some_room : 0 < c) where
     open 𝓛 use {H}
 
-    pub row_of_room : c * sz element < 2 ^ 63 → ent 𝓤 (H.room (bare (ty_array (layout Y) c)) b o) (sem 𝓛 (lodged (R element) (block_ptr b o) 0 c []))
+    pub row_of_room : c * sz element < 2 ^ 63 → ent 𝓤 (H.room (bare (ty_array (layout Y) c)) b o)
+        (sem 𝓛 (lodged (R element) (block_ptr b o) 0 c []))
     row_of_room fit =
         let s : ℕ = sz element in
         let same : c ≡ c - 0 = omega arith in
         let start : o ≡ o + 0 * s = omega arith in
         qed 𝓛 (‵ (froom (bare (ty_array (layout Y) c)) b o) ∷ []) ∵ as_written ! (ty_array (layout Y) c) b o $
-        rewrite ! 0 (λ (z : ℕ × ℕ). ‵ (froom (ty_array (layout Y) z.0) b z.1)) {x = (c - 0, o + 0 * s)} (λ i. (same i, start i)) refl $ nothing ! $ move ! (1 ∷ 0 ∷ []) $
-        use0 𝓛 (‵ (part_at (Array (R element) 0) full_share [] b o)) (empty element 𝓛 [] b o refl) $ blk_in element ! tt b o 0 c [] some_room $ flt_i ! (c * s) (2 ^ 63) fit $ fjoin ! $ done !
+        rewrite ! 0 (λ (z : ℕ × ℕ). ‵ (froom (ty_array (layout Y) z.0) b z.1)) {x = (c - 0, o + 0 * s)} (λ i. (same i, start i)) refl $
+        nothing ! $ move ! (1 ∷ 0 ∷ []) $
+        use0 𝓛 (‵ (part_at (Array (R element) 0) full_share [] b o)) (empty element 𝓛 [] b o refl) $ blk_in element ! tt b o 0 c []
+        some_room $ flt_i ! (c * s) (2 ^ 63) fit $ fjoin ! $ done !
 
-    pub room_of_row : (n : ℕ) (xs : List Y.Denot) → n ≤ c → ent 𝓤 (sem 𝓛 (lodged (R element) (block_ptr b o) n c xs)) (H.room (bare (ty_array (layout Y) c)) b o)
+    pub room_of_row : (n : ℕ) (xs : List Y.Denot) → n ≤ c → ent 𝓤 (sem 𝓛 (lodged (R element) (block_ptr b o) n c xs))
+        (H.room (bare (ty_array (layout Y) c)) b o)
     room_of_row n xs le =
-        qed 𝓛 (‵ (lodged (R element) (block_ptr b o) n c xs) ∷ []) ∵ fsplit ! $ drop ! $ blk_out element ! tt b o n c xs some_room $ keep ! (0 ∷ 1 ∷ []) $
+        qed 𝓛 (‵ (lodged (R element) (block_ptr b o) n c xs) ∷ []) ∵ fsplit ! $ drop ! $ blk_out element ! tt b o n c xs some_room $ keep
+        ! (0 ∷ 1 ∷ []) $
         use2 𝓛 (‵ (froom (ty_array (layout Y) c) b o)) (all_room element 𝓛 b o n c xs le) $ as_raw ! (ty_array (layout Y) c) b o $ done !
 
   module _ {M : Type 1} {𝓤 : Ura M} (𝓛 : Logic 𝓤) (c : ℕ) (some_room : 0 < c) (n : ℕ) (xs : List Y.Denot) (le : n ≤ c) where

@@ -44,7 +44,8 @@ use Rattle.lhm_ring.proofs.bucket_block.Head.TheLaws as head-laws
 use Rattle.lhm_ring.proofs.bucket_block.Word.TheLaws as word-laws
 use Rattle.lhm_ring.proofs.memory.BlockValues.{block_val, block_Good, BlockType, block_known}
 use Rattle.lhm_ring.proofs.memory.BucketParts.{block_parts, head₀, word₀, head₀-laws, word₀-laws}
-use Rattle.lhm_ring.proofs.memory.Lodging.{Lodging, lodging_laws, lodge_key, tells, none_made, three_made, Lodges, at_lodge, IsLodged, lodge_goes, lodge_gives, row_of_room}
+use Rattle.lhm_ring.proofs.memory.Lodging.{Lodging, lodging_laws, tells, none_made, three_made, row_of_room}
+use Rattle.lhm_ring.proofs.memory.Lodging.{lodge_key, Lodges, at_lodge, IsLodged, lodge_goes, lodge_gives}
 use Rattle.lhm_ring.specs.BucketBlock.{words_address, parts_own}
 use Rattle.lhm_ring.specs.Nodes.{chunk_token}
 use Rattle.lhm_ring.specs.contracts.bucket_block.split_block.{ended, clauses}
@@ -69,8 +70,10 @@ module _ {M : Type 1} {𝓤 : Ura M} (𝓛 : Logic 𝓤) (at_mem : Memory → SP
 
   module _ (C : Calls 𝓤 H) (Λ : Loops 𝓤 H) (fr : FmC 𝓤 H 𝓛.laws C) (lh : Triple 𝓤 (C (lodge_key head₀)) (Lodges head₀ 𝓛 at_mem run))
       (lw : Triple 𝓤 (C (lodge_key word₀)) (Lodges word₀ 𝓛 at_mem run)) where
-    walks : (y : (walk_of 𝓛 ended stayed c).Ghost) → Are (types_at ended.signature.params y.0.0) (Ises (types_at ended.signature.params y.0.0)) y.0.3 y.0.4
-        → ent 𝓤 ((walk_of 𝓛 ended stayed c).pre y) (WpFn 𝓤 H C Λ code.function ((walk_of 𝓛 ended stayed c).args y) ((walk_of 𝓛 ended stayed c).post y))
+    walks : (y : (walk_of 𝓛 ended stayed c).Ghost) → Are (types_at ended.signature.params y.0.0)
+        (Ises (types_at ended.signature.params y.0.0)) y.0.3 y.0.4
+        → ent 𝓤 ((walk_of 𝓛 ended stayed c).pre y) (WpFn 𝓤 H C Λ code.function ((walk_of 𝓛 ended stayed c).args y)
+        ((walk_of 𝓛 ended stayed c).post y))
     walks y are =
         let κs = y.0.0 in let a = y.0.3 in let vss = y.0.4 in let Post : Val → SProp 𝓤 = (walk_of 𝓛 ended stayed c).post y in
         let r = a.0 in let m : ℕ = a.1.0 in
@@ -95,7 +98,7 @@ module _ {M : Type 1} {𝓤 : Ura M} (𝓛 : Logic 𝓤) (at_mem : Memory → SP
         move ! (3 ∷ 2 ∷ []) $ fjoin ! $ flt_i ! (5 * q * 8) (2 ^ 63) fit $ fjoin ! $
         let Owned : Fml = fsep (flt (5 * q * 8) (2 ^ 63)) (fsep (chunk_token (array_of head (5 * q)) p) Back) in
         rewrite ! 0 (λ z. ‵ (owns_if z Owned)) (sym (is_live q some_room)) refl $
-        -- [the dealloc; the heads' memory; the words' memory; what is alive]
+        -- [the right to free; the heads' memory; the words' memory; what is alive]
         let at : ℕ = o + 4 * q * 8 in let at' : ℕ = m * 8 + o in
         let moved : at ≡ at' = omega (arith, room_is) in
         let roomy : 0 < 4 * q = omega (arith, some_room) in
@@ -109,7 +112,7 @@ module _ {M : Type 1} {𝓤 : Ura M} (𝓛 : Logic 𝓤) (at_mem : Memory → SP
         rewrite ! 0 (λ (k : ℕ). ‵ (lodged (param 0 word) (block_ptr b at) 0 k [])) (sym room_is) refl $
         rewrite ! 0 (λ (k : ℕ). ‵ (lodged (param 0 word) (block_ptr b k) 0 m [])) moved refl $
         move ! (1 ∷ []) $
-        -- [the heads; the words; the dealloc; what is alive]
+        -- [the heads; the words; the right to free; what is alive]
         let of_heads = Lodges head₀ 𝓛 at_mem run in let of_words = Lodges word₀ 𝓛 at_mem run in
         let yh = at_lodge head₀ 𝓛 at_mem run b o m in let yw = at_lodge word₀ 𝓛 at_mem run b at' m in
         runs_with ! C Λ code.function Post (block_val r.ptr ∷ vint w64 m ∷ []) (λ i. told i ++ (are.1.0.0 i ++ [])) $
@@ -119,7 +122,8 @@ module _ {M : Type 1} {𝓤 : Ura M} (𝓛 : Logic 𝓤) (at_mem : Memory → SP
         use1 𝓛 (raw (of_heads.pre yh)) (lodge_goes head₀ 𝓛 at_mem run b o m small) $
         calls_at ! fr of_heads lh yh
         (and_then ! (get ! refl) (and_then ! (lit ! tt) (and_then ! (get ! refl) (no_more !)))) (λ u.
-        use1 𝓛 (later (some (λ (hs : Vec head₀.Denot Lodged). given (IsLodged head₀ 𝓛 at_mem run b o m hs) (‵ ((Lodging (param 0 head₀)).own_val hs (u ∷ []))))))
+        use1 𝓛 (later (some (λ (hs : Vec head₀.Denot Lodged). given (IsLodged head₀ 𝓛 at_mem run b o m hs)
+        (‵ ((Lodging (param 0 head₀)).own_val hs (u ∷ []))))))
         (lodge_gives head₀ 𝓛 at_mem run b o m u) $ await ! tt $ pick ! (λ hs. learn ! (λ ih.
         tells ! (Lodging (param 0 head₀)) (laws_of head₀ head₀-laws) hs (u ∷ []) (λ vh eh gh. lands_as ! (ap only eh) refl gh $
         move ! (1 ∷ []) $
@@ -128,17 +132,19 @@ module _ {M : Type 1} {𝓤 : Ura M} (𝓛 : Logic 𝓤) (at_mem : Memory → SP
         use1 𝓛 (raw (of_words.pre yw)) (lodge_goes word₀ 𝓛 at_mem run b at' m small) $
         calls_at ! fr of_words lw yw
         (and_then ! (get ! refl) (and_then ! (lit ! tt) (and_then ! (get ! refl) (no_more !)))) (λ v.
-        use1 𝓛 (later (some (λ (ws : Vec word₀.Denot Lodged). given (IsLodged word₀ 𝓛 at_mem run b at' m ws) (‵ ((Lodging (param 0 word₀)).own_val ws (v ∷ []))))))
+        use1 𝓛 (later (some (λ (ws : Vec word₀.Denot Lodged). given (IsLodged word₀ 𝓛 at_mem run b at' m ws)
+        (‵ ((Lodging (param 0 word₀)).own_val ws (v ∷ []))))))
         (lodge_gives word₀ 𝓛 at_mem run b at' m v) $ await ! tt $ pick ! (λ ws. learn ! (λ iw.
         tells ! (Lodging (param 0 word₀)) (laws_of word₀ word₀-laws) ws (v ∷ []) (λ vw ew gw. lands_as ! (ap only ew) refl gw $
         let none : Val = vstruct vnil in
         let all : Val = vstruct (vcons vh (vcons vw (vcons none vnil))) in
-        let good = as_fields (layout (Lodging head) ∷ layout (Lodging word) ∷ layout dealloc ∷ []) (vh ∷ vw ∷ none ∷ []) (gh, (gw, ((tt, tt), tt))) in
+        let good = as_fields (layout (Lodging head) ∷ layout (Lodging word) ∷ layout dealloc ∷ []) (vh ∷ vw ∷ none ∷ [])
+        (gh, (gw, ((tt, tt), tt))) in
         let out : dealloc.Denot = record { at = p; quarter = q } in
         sets ! (of_opd ! (get ! refl)) refl gh $ sets ! (of_opd ! (get ! refl)) refl gw $ sets ! (agg ! (no_more !)) refl (tt, tt) $
         sets_last ! (agg ! (and_then ! (get ! refl) (and_then ! (get ! refl) (and_then ! (get ! refl) (no_more !))))) refl good $
         exec ! C Λ Ev (after 2 (code.function).body) (at_ret Ev Post) $ sets ! (of_opd ! (get ! refl)) refl good $
-        -- [the words; the heads; the dealloc; what is alive]
+        -- [the words; the heads; the right to free; what is alive]
         move ! (2 ∷ []) $ none_made ! $ fjoin ! $ move ! (2 ∷ 1 ∷ 0 ∷ []) $
         three_made ! (Lodging head) (Lodging word) dealloc hs ws out vh vw none $
         states ! ((hs.ptr ≡ p) × (ws.ptr ≡ words_address p q)) (ih.3, iw.3 ∙ ap (λ (k : ℕ). block_ptr b k) (sym moved)) $
@@ -148,8 +154,8 @@ module _ {M : Type 1} {𝓤 : Ura M} (𝓛 : Logic 𝓤) (at_mem : Memory → SP
         returns ! (look_at ! 0 refl) $ free_all ! refl $ keep ! (3 ∷ 0 ∷ 2 ∷ 1 ∷ []) $ by !
         (leaves 𝓛 ended stayed c y all (hs, ws, out) (tt, (tt, tt)) (tt, (tt, tt))))))))))))))))
 
-pub cut_spec : {M : Type 1} → statement M
-cut_spec 𝓤 𝓛 𝓜 𝓡 wired =
+pub split_block_spec : {M : Type 1} → statement M
+split_block_spec 𝓤 𝓛 𝓜 𝓡 wired =
     let H = 𝓛.H in let 𝓣 = tables 𝓤 H 𝓜 𝓡 𝓡.env in
     proved_at 𝓛 ended stayed (c 𝓛 𝓜.mem 𝓡.returns) 𝓜 𝓡 (
       Goes-blank 𝓛 0 (plain (λ _. Block)) yes (λ κs x f. tt),
