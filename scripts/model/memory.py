@@ -14,9 +14,9 @@ A growth asks, in this order, for
   growth by one makes it at least two nodes, or from 16 nodes on half as many as there are, at most
   64, and at most as many as there are then buckets beyond the nodes, or with one bucket two.
 
-If one is refused, the growth gives back the buckets, and the capacity stays. A list
-that was made longer stays so, since it belongs to the map and not to the growth. What is made anew
-(a map with a capacity, a clone, the nodes of a shrinking) is given back as a whole.
+If one is refused, the growth gives back the buckets, and the capacity stays. A list that was made
+longer stays so, since it belongs to the map and not to the growth. What is made anew (a map with a
+capacity, a clone, the nodes of a shrinking) is given back as a whole.
 
 A shrinking to fewer buckets asks for a new block of these and then, as a new ring does, for one
 chunk of exactly the pairs, and for a list before it if they are not two. With as many buckets it
