@@ -19,7 +19,7 @@ pub fn double_even<K: Eq + Hash + Drop, S: BuildHasher>(numbers: &mut LinkedHash
         let number = *entry.get();
         if number % 2 == 0 {
             *entry.get_mut() = number * 2;
-            // A last look, by which the proof knows what the write left.
+            // The proof needs this read to know the value written.
             let _ = entry.get();
         } else {
             entry.remove();

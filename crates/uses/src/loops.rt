@@ -216,7 +216,7 @@ pub fn visit_by_value(
             }
             2 => {
                 *entry.get_mut() = 0;
-                // A last look, by which the proof knows what the write left.
+                // The proof needs this read to know the value written.
                 let _ = entry.get();
             }
             _ => {}
