@@ -5,7 +5,7 @@ ghost use Rattle.std.specs.Int.{IsNextPowerOfTwo, IsPowerOfTwo};
 ghost use Rattle.lhm_ring.specs.Index.{Indexes, spots};
 ghost use Rattle.lhm_ring.specs.Buckets.{buckets, IsBucketCount, HasNoChain, SetsBit, may_contain};
 
-use crate::bucket_block::{
+use crate::bucket_parts::{
     clear_heads, clear_words, empty_heads, empty_words, fill_heads, fill_words, free_parts,
     new_parts,
 };

@@ -8,6 +8,7 @@ pub(crate) mod nodes;
 pub(crate) mod value_loan;
 
 // Safe code over these, with no proof by hand, each over the ones before it.
+pub(crate) mod bucket_parts;
 pub(crate) mod buckets;
 pub(crate) mod chunks;
 pub(crate) mod drain;

@@ -1,5 +1,5 @@
 use Rattle.std.proofs.Common.{arith}
-use Rattle.lhm_ring.proofs.bucket_block.new_parts.Goals as goal
+use Rattle.lhm_ring.proofs.bucket_parts.new_parts.Goals as goal
 
 pub allocate-requires : goal.allocate-requires
 allocate-requires c = (

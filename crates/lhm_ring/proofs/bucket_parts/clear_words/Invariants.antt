@@ -1,13 +1,13 @@
-use Rattle.std.proofs.Common.{◌≡◌, ◌≤◌, ◌-◌, vec_len}
+use Rattle.std.proofs.Common.{◌≡◌, ◌-◌, vec_len}
 use Rattle.std.specs.Vec.{vec_capacity, vec_ptr}
-use Rattle.lhm_ring.proofs.bucket_block.fill_words.Given as goal
+use Rattle.lhm_ring.proofs.bucket_parts.clear_words.Given as goal
 
 abbrev pub invariant-words : goal.invariant-words
 invariant-words l = record {
-  few : vec_len l.words ≤ l.count;
+  buckets : vec_len l.words ≡ vec_len l.fn.words;
   capacity : vec_capacity l.words ≡ vec_capacity l.fn.words;
   in_place : vec_ptr l.words ≡ vec_ptr l.fn.words;
 }
 
 abbrev pub decreases-words : goal.decreases-words
-decreases-words l = l.count - vec_len l.words
+decreases-words l = vec_len l.words - l.next

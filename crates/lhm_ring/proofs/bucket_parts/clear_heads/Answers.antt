@@ -1,6 +1,6 @@
 use Rattle.std.proofs.Common.{arith}
 use Rattle.lhm_ring.proofs.indexes.BucketHeads.{get_or-cleared}
-use Rattle.lhm_ring.proofs.bucket_block.clear_heads.Goals as goal
+use Rattle.lhm_ring.proofs.bucket_parts.clear_heads.Goals as goal
 
 pub heads-preserved : goal.heads-preserved
 heads-preserved c = record {

@@ -1,6 +1,6 @@
 use Rattle.std.proofs.Common.{◌≡◌, vec_len}
 use Rattle.std.specs.Vec.{vec_capacity, vec_ptr}
-use Rattle.lhm_ring.proofs.bucket_block.empty_heads.Given as goal
+use Rattle.lhm_ring.proofs.bucket_parts.empty_heads.Given as goal
 
 abbrev pub invariant-heads : goal.invariant-heads
 invariant-heads l = record {
