@@ -13,7 +13,7 @@ pub use Rattle.std.specs.Map.{keys_of, values_of}
 pub use Rattle.std.specs.Map.Iter.{deref, deref_pair}
 pub use Rattle.std.proofs.lemmas.List.Elements.{All-same}
 pub use Rattle.std.proofs.lemmas.Fn.{filter_same}
-pub use Rattle.linked_hash_map.specs.Pairs.{find, value_at, without, without_first, set_value, set_or_push, put}
+pub use Rattle.linked_hash_map.specs.Pairs.{find, value_at, without, without_first, to_back_as_is, set_value, set_or_push, put}
 pub use Rattle.linked_hash_map.specs.Inserts.{insert_each}
 pub use Rattle.linked_hash_map.specs.Cursor.{to_visit}
 pub use Rattle.linked_hash_map.specs.Visits.{VisitKeeps, VisitMaps}
