@@ -141,6 +141,7 @@ impl Playlist {
     }
 
     /// Moves the songs with these numbers behind the others, in the order given.
+    #[tactic(auto, using(linked_hash_map::proofs::Callers::Arranged::arranged))]
     pub fn arrange(&mut self, order: &[u64])
         ensures { IsDistinct nat_eq order.now
             → self.new.songs.pairs

@@ -89,3 +89,14 @@ module _ {V : Type 0} {start now : List (ℕ × V)} {keys : List ℕ} {n : ℕ} 
       → now ≡ filter (has_none nat_eq_equiv keys) start ++ filter_map (find nat_eq start) keys
   IsArranged-all arranged all distinct =
       arranged.now_is ∙ ap (fold (to_back_as_is nat_eq) start) (take_all n keys all) ∙ fold-to_back_as_is nat_eq_equiv keys start distinct
+
+-- numbers that were all moved to the back, one after another
+module _ {V : Type 0} (start : List (ℕ × V)) (keys : List ℕ) (n : ℕ) where
+  pub fold_arranged : length keys ≤ n → IsDistinct nat_eq keys
+      → (fold (to_back_as_is nat_eq) start (take n keys) ≡ fold (to_back_as_is nat_eq) start (take n keys))
+      × (fold (to_back_as_is nat_eq) start (take n keys) ≡ filter (has_none nat_eq_equiv keys) start ++ filter_map (find nat_eq start) keys)
+  fold_arranged all distinct =
+      (refl, ap (fold (to_back_as_is nat_eq) start) (take_all n keys all) ∙ fold-to_back_as_is nat_eq_equiv keys start distinct)
+
+-- moves to the back, one after another: one more, and all
+pub ruleset arranged = (fold_arranged, fold_more)

@@ -1,7 +1,8 @@
 -- For callers: the names that their proofs cite most, of std and of this library. It declares none.
 pub use Rattle.std.proofs.Common.{rules, arith, refl, sym, ap, ap₂, ◌∙◌, subst, inl, inr, ◌≡◌, ◌⊎◌, ◌≤◌, ◌<◌, ◌+◌, ◌-◌, ◌*◌, ◌/◌, ◌%◌, ◌^◌}
 pub use Rattle.std.proofs.Common.{ℕ, List, [], ◌∷◌, ◌++◌, length, map, filter, take, drop, fold, sum, min, max, nat_eq, Bool, true, false}
-pub use Rattle.std.proofs.Common.{cond, not, ◌==◌, ◌&&◌, Option, Some, None, is_some, option_map, unwrap_or, slice_get, get_or, IfSome, IfOk}
+pub use Rattle.std.proofs.Common.{cond, not, ◌==◌, ◌&&◌, Option, Some, None, is_some, option_map, unwrap_or, slice_get, get_or}
+pub use Rattle.std.proofs.Common.{IfSome, IfOk}
 pub use Rattle.std.specs.Prelude.{String, string_eq}
 pub use Rattle.std.specs.declared.alloc.Global.{Global}
 pub use Rattle.std.specs.Cmp.{nat_eq_equiv, unsigned_Decides}
@@ -12,12 +13,10 @@ pub use Rattle.std.specs.Map.{keys_of, values_of}
 pub use Rattle.std.specs.Map.Iter.{deref, deref_pair}
 pub use Rattle.std.proofs.lemmas.List.Elements.{All-same}
 pub use Rattle.std.proofs.lemmas.Fn.{filter_same}
-pub use Rattle.linked_hash_map.specs.declared.map.Mode.TheVariants.{Touch, Keep}
-pub use Rattle.linked_hash_map.specs.Pairs.{find, value_at, without, without_first, set_value, set_or_push, put}
+pub use Rattle.linked_hash_map.specs.Pairs.{find, value_at, without, without_first, to_back_as_is, set_value, set_or_push, put}
 pub use Rattle.linked_hash_map.specs.Inserts.{insert_each}
 pub use Rattle.linked_hash_map.specs.Cursor.{to_visit}
 pub use Rattle.linked_hash_map.specs.Visits.{VisitKeeps, VisitMaps}
-pub use Rattle.linked_hash_map.specs.declared.replay.Command.TheVariants.{Insert, Write, Refresh, Remove}
 pub use Rattle.linked_hash_map.proofs.Callers.Arranged.{IsArranged, IsArranged-next, IsArranged-all}
 pub use Rattle.linked_hash_map.proofs.Callers.Collected.{value_at-insert_each}
 pub use Rattle.linked_hash_map.proofs.Callers.Counted.{CountsItems, CountsItems-counted, CountsKnown}

@@ -1,7 +1,7 @@
 -- For callers: `String` keys that are looked up as texts, and the laws of the equality of `&str`
 -- keys.
 use Rattle.std.proofs.Common.{◌≡◌, ℕ, ◌+◌, ◌<◌, length, take, get_or, unwrap_or, Bool, true, false, cond, List, [], ◌∷◌}
-use Rattle.std.proofs.Common.{◌++◌, map, drop, Option, Some, None}
+use Rattle.std.proofs.Common.{◌++◌, map, drop, option_map, Option, Some, None}
 use Rattle.std.proofs.Common.{refl, sym, ap, ap₂, ◌∙◌, arith}
 use Rattle.std.specs.Borrow.{Bor}
 use Rattle.std.specs.Cmp.{IsEquivalence}
@@ -16,7 +16,7 @@ use Rattle.std.proofs.lemmas.List.{map-append}
 use Rattle.std.proofs.lemmas.List.Sums.{count_by_more_yes, count_by_more_no}
 use Rattle.linked_hash_map.specs.declared.map.Mode.{Mode}
 use Rattle.linked_hash_map.specs.declared.map.Mode.TheVariants.{Touch}
-use Rattle.linked_hash_map.specs.Pairs.{key_or, find, value_at, without, to_back, put}
+use Rattle.linked_hash_map.specs.Pairs.{key_or, find, value_at, without, without_first, to_back, put}
 use Rattle.linked_hash_map.specs.Updates.{UpdatesBy}
 use Rattle.linked_hash_map.proofs.Callers.Keys.{find-drop}
 use Rattle.linked_hash_map.proofs.Callers.Lookups.{eq-stored}
@@ -113,6 +113,22 @@ module _ {Y V : Type 0} where
   pub find-drop_text : (pairs : List (String Y × V)) (text : List ℕ) (key : String Y) (n : ℕ) → string_bytes key ≡ text
       → find is_text pairs text ≡ None → find string_eq (drop n pairs) key ≡ None
   find-drop_text pairs text key n bytes none = find-is_text (drop n pairs) text key bytes ∙ find-drop is_text pairs text n none
+
+  -- a key that is new goes behind the others, of which the first may have gone before
+  pub by_bytes_pushed : (drops : Bool) (old : List (String Y × V)) (text : List ℕ) (key : String Y) (v : V)
+      {before after : List (String Y × V)} → string_bytes key ≡ text → find is_text old text ≡ None
+      → before ≡ cond drops (without_first old) old
+      → (value_at string_eq before key ≡ None → after ≡ before ++ (key, v) ∷ [])
+      → by_bytes after ≡ by_bytes (cond drops (without_first old) old) ++ (text, v) ∷ []
+  by_bytes_pushed drops old text key v {before} bytes absent left pushed =
+      ap by_bytes (pushed (ap (λ (ps : List (String Y × V)). value_at string_eq ps key) left
+      ∙ ap (option_map (λ (pair : String Y × V). pair.1)) (by_test drops)))
+      ∙ by_bytes-append before key v
+      ∙ ap₂ (λ (ps : List (String Y × V)) (t : List ℕ). by_bytes ps ++ (t, v) ∷ []) left bytes
+    where
+      by_test : (b : Bool) → find string_eq (cond b (without_first old) old) key ≡ None
+      by_test true = find-drop_text old text key 1 bytes absent
+      by_test false = find-is_text old text key bytes ∙ absent
 
 -- one text more is counted
 pub count_by-updated : {Y : Type 0} (before after : List (String Y × ℕ)) (texts : List (Bor (List ℕ))) (i : ℕ)

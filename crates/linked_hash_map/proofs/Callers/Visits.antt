@@ -196,3 +196,6 @@ module _ {K V : Type 0} {eq : K → K → Bool} (laws : IsEquivalence eq) {chang
         ∙ map-append change (take n start) ((k, v) ∷ [])));
     left_is = stays ∙ drop-visited laws start copies n w.now_is w.left_is visits distinct has;
   }
+
+-- the end of a visit that puts pairs behind the others
+pub ruleset appending_visits = (VisitAppends-end)

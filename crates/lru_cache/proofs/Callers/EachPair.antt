@@ -36,4 +36,5 @@ module _ {Y V : Type 0} (P : List ℕ → V → Type 0) where
       → OnOk result (new.pairs ≡ inserted string_eq old.limit old.pairs key v) → OnErr result (new ≡ old)
       → P (string_bytes key) v → AllTexts P old.pairs → AllTexts P new.pairs
   AllTexts-insert old new key v result is unchanged right all =
-      All-insert (λ pair. P (string_bytes pair.0) pair.1) (string_eq_equiv {Z = Y}) old new key v result is unchanged (right-string_eq P key v right) all
+      All-insert (λ pair. P (string_bytes pair.0) pair.1) (string_eq_equiv {Z = Y}) old new key v result is unchanged
+      (right-string_eq P key v right) all

@@ -1,5 +1,4 @@
-use Rattle.linked_hash_map.proofs.Callers.Prelude.{rules, nat_eq_equiv, VisitAppends-appended}
-use Rattle.linked_hash_map.proofs.Callers.Prelude.{VisitAppends-at, VisitAppends-end}
+use Rattle.linked_hash_map.proofs.Callers.Prelude.{rules, nat_eq_equiv, VisitAppends-appended, VisitAppends-at}
 use Rattle.uses.proofs.loops.copy_behind.Goals as goal
 
 pub loop-entry-preserved : goal.loop-entry-preserved
@@ -12,6 +11,3 @@ pub returns-then-not-copy_pair_behind-clause-stops :
 returns-then-not-copy_pair_behind-clause-stops c = let told = c.in-Some.ensures in
     rw (VisitAppends-at nat_eq_equiv c.loop-entry.invariant told.visits told.valid.distinct
     told.value) (search rules)
-
-pub returns-clause-stops : goal.returns-clause-stops
-returns-clause-stops c = rw (VisitAppends-end c.loop-entry.invariant (search rules)) tt
