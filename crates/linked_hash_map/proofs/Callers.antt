@@ -36,6 +36,7 @@ pub mod Retained
 pub mod Rounds
 pub mod Rules
 pub mod Sessions
+pub mod TextCounts
 pub mod Texts
 pub mod Turns
 pub mod TwoRuns

@@ -1,10 +1,5 @@
-use Rattle.std.proofs.Common.{◌≡◌, ℕ, List, take, unwrap_or}
-use Rattle.std.specs.List.{count_by}
-use Rattle.std.specs.Str.{bytes_eq}
-use Rattle.linked_hash_map.specs.Pairs.{value_at}
-use Rattle.upgrade.specs.Texts.{names}
+use Rattle.linked_hash_map.proofs.Callers.Prelude.{take, CountsTexts}
 use Rattle.upgrade.proofs.words.count_words.Given as goal
 
 abbrev pub invariant-loop-word : goal.invariant-loop-word
-invariant-loop-word l = (q : List ℕ) → unwrap_or (value_at names l.counts.pairs q) 0
-    ≡ count_by (λ w. bytes_eq w.now q) (take l.word-index l.words)
+invariant-loop-word l = CountsTexts l.counts.pairs (take l.word-index l.words)
