@@ -10,7 +10,7 @@ use linked_hash_map::LinkedHashMap;
 use std::alloc::{AllocError, Global};
 
 /// Counts the words of a text. A word is copied when it first comes.
-#[tactic(auto, using(linked_hash_map::proofs::Callers::TextCounts::text_counts))]
+#[tactic(auto, using(linked_hash_map::proofs::Callers::Rules::text_counts))]
 pub fn tally(alloc: Global, words: &[&str]) -> Result<LinkedHashMap<String, u64>, AllocError>
     ensures { IfOk result (λ counts. (word : List ℕ)
         → count_of counts.pairs word ≡ times word words.now) }

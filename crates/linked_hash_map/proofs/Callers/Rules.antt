@@ -33,6 +33,7 @@ use Rattle.linked_hash_map.proofs.Callers.EachPair.{All-find, All-without, All-t
 use Rattle.linked_hash_map.proofs.Callers.Ends.{keys_of-take, take-keys_of, to_front-put, value_at-take}
 use Rattle.linked_hash_map.proofs.Callers.Lookups.{eq-find, eq-stored, value_at-append, value_at-without_append}
 use Rattle.linked_hash_map.proofs.Callers.Rounds.{IsTurned-start, IsTurned-turn, IsTurned-round}
+use Rattle.linked_hash_map.proofs.Callers.TextCounts.{CountsTexts-start, CountsTexts-counted, CountsTexts-below, CountsTexts-all}
 use Rattle.linked_hash_map.proofs.Callers.Texts.{value_at-by_bytes, values_of-by_bytes}
 use Rattle.linked_hash_map.proofs.Callers.Turns.{cons-keys_of_first, put-without_first}
 use Rattle.linked_hash_map.proofs.Callers.Visits.{VisitKeeps-passed, VisitKeeps-removed, append-visited}
@@ -250,6 +251,9 @@ pub ruleset dense = (values_of_dense_push, value_at_dense_each, eq-dense)
 
 -- maps that count items, in the order in which these first come
 pub ruleset counts = (CountsItems-start, CountsItems-counted, CountsItems-below)
+
+-- maps that count texts
+pub ruleset text_counts = (CountsTexts-start, CountsTexts-counted, CountsTexts-below, CountsTexts-all)
 
 -- counts of items that the map has
 pub ruleset known_counts = (CountsKnown-start, CountsKnown-counted, CountsKnown-fits)

@@ -54,6 +54,3 @@ module _ (counts : List (String Global × ℕ)) (q : List ℕ) (texts : List (Bo
       ≡ count_by (λ t. bytes_eq t.now q) texts)
   CountsTexts-all past =
       (refl, w.count q ∙ ap (λ ts. count_by (λ (t : Bor (List ℕ)). bytes_eq t.now q) ts) (take_all i texts past))
-
--- maps that count texts
-pub ruleset text_counts = (CountsTexts-start, CountsTexts-counted, CountsTexts-below, CountsTexts-all)
