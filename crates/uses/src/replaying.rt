@@ -46,6 +46,7 @@ pub type Outcome<K, V> = Result<Vec<Reply<K, V>>, Vec<Command<K, V>>>;
 /// If the mode is `Keep` neither at first nor by a command, the pairs stand in the order in which
 /// their keys were last inserted or refreshed. If room for the replies was refused, the map is as
 /// it was.
+#[tactic(auto, using(linked_hash_map::proofs::Callers::WholeRuns::in_touch))]
 pub fn replay_in_touch<K: Eq + Hash + Drop, V: Drop, S: BuildHasher>(
     map: &mut LinkedHashMap<K, V, S>,
     commands: Vec<Command<K, V>>,

@@ -24,7 +24,7 @@ use Rattle.linked_hash_map.proofs.Callers.Replay.{Replied-given, Defines-first, 
 use Rattle.linked_hash_map.proofs.Callers.Replay.{is_refusal-entry_remove, is_refusal-pop_front, is_refusal-pop_back, is_refusal-clear}
 use Rattle.linked_hash_map.proofs.Callers.Replay.{is_refusal-set_mode}
 use Rattle.linked_hash_map.proofs.lists.Elements.{none_first, none_later}
-use Rattle.linked_hash_map.proofs.log.WithoutKeep.{pairs-in_touch}
+pub use Rattle.linked_hash_map.proofs.log.WithoutKeep.{pairs-in_touch}
 use Rattle.linked_hash_map.proofs.runs.Outcomes.{outcome}
 -- what `replay` says if it returns replies
 pub use Rattle.linked_hash_map.specs.Run.{Replayed}
@@ -341,3 +341,6 @@ pub pairs-replayed_in_touch : {K V S E : Type 0} (eq : K → K → Bool) (old ne
 pairs-replayed_in_touch eq old new commands (Err refused) replayed = tt
 pairs-replayed_in_touch eq old new commands (Ok replies) replayed = λ touch. replayed.pairs
     ∙ pairs-in_touch eq (last_log eq (first_log old.mode old.pairs) commands replies.items) touch
+
+-- the pairs after a run whose log never sets the mode to Keep
+pub ruleset in_touch = (pairs-in_touch)
