@@ -26,3 +26,6 @@ pub record IsClone {K V S : Type 0} (eq : K → K → Bool) (IsKeyClone : K → 
   -- if a clone of a key is the same key, its list is the clones in order
   pub in_order : ((k clone : K) → IsKeyClone k clone → IsTrue (eq k clone))
       → AreClones IsKeyClone IsValueClone m.pairs n.pairs
+  -- if clones are the same keys and values, its list is the same
+  pub same_pairs : ((k clone : K) → IsKeyClone k clone → clone ≡ k)
+      → ((v clone : V) → IsValueClone v clone → clone ≡ v) → n.pairs ≡ m.pairs

@@ -17,3 +17,5 @@ pub record IsClone {T S : Type 0} (eq : T → T → Bool) (IsItemClone : T → T
   -- if a clone of an item is the same item, its list is the clones in order
   pub in_order : ((x clone : T) → IsItemClone x clone → IsTrue (eq x clone))
       → AllZip IsItemClone s.items t.items
+  -- if clones are the same items, its list is the same
+  pub same_items : ((x clone : T) → IsItemClone x clone → clone ≡ x) → t.items ≡ s.items

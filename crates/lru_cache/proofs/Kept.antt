@@ -33,4 +33,5 @@ module _ {K V S : Type 0} (eq : K → K → Bool) where
           room_limit = clone.valid.limit;
         };
         in_order = clone.in_order;
+        same_pairs = clone.same_pairs;
       }

@@ -1,11 +1,10 @@
 -- For callers: what `==` of two maps says of their lists, and clones.
-use Rattle.std.proofs.Common.{◌≡◌, Bool, true, false, Result, Ok, Err, IfOk, ◌&&◌, refl, sym, ap, ap₂, subst, true≢false}
+use Rattle.std.proofs.Common.{◌≡◌, Bool, true, false, Result, Ok, Err, IfOk, ◌&&◌, refl, sym, ap, ap₂, true≢false}
 use Rattle.std.specs.Prelude.{MatchResult}
 use Rattle.std.specs.Bool.{Decides}
 use Rattle.std.specs.Cmp.{IsEquivalence}
 use Rattle.std.specs.Cmp.Lexicographic.{pointwise}
 use Rattle.std.proofs.lemmas.Slice.Eq.{slice_eq-Decides}
-use Rattle.std.proofs.lemmas.Map.Entries.{entries_from_clone}
 use Rattle.linked_hash_map.specs.LinkedMap.{LinkedMap}
 use Rattle.linked_hash_map.specs.Comparison.{same_pair}
 use Rattle.linked_hash_map.specs.Clones.{IsClone}
@@ -36,9 +35,7 @@ pub pairs-clone : {K V S : Type 0} {eq : K → K → Bool} → IsEquivalence eq
     → ((k clone : K) → IsKeyClone k clone → clone ≡ k)
     → ((v clone : V) → IsValueClone v clone → clone ≡ v) → {m n : LinkedMap K V S}
     → IsClone eq IsKeyClone IsValueClone IsHasherClone m n → n.pairs ≡ m.pairs
-pairs-clone {eq = eq} laws {IsKeyClone} {IsValueClone} keys values {m} {n} cloned =
-    entries_from_clone IsKeyClone IsValueClone keys values m.pairs n.pairs
-    (cloned.in_order (λ k clone is. subst (λ j. eq k j ≡ true) (sym (keys k clone is)) (laws.refl k)))
+pairs-clone laws keys values cloned = cloned.same_pairs keys values
 
 -- the same of what `clone` returns
 pub pairs-cloned : {K V S E : Type 0} {eq : K → K → Bool} → IsEquivalence eq

@@ -4,6 +4,7 @@ use Rattle.std.proofs.Common.{refl, sym, ap, ◌∙◌, subst, arith, length-app
 use Rattle.std.specs.List.{AllZip, AllByRecursion, IsDistinct}
 use Rattle.std.specs.Map.{keys_of}
 use Rattle.std.specs.Cmp.{IsEquivalence}
+use Rattle.std.proofs.lemmas.Map.Entries.{entries_from_clone}
 use Rattle.lhm_ring.proofs.rings.Ends.{AllZip-last}
 use Rattle.linked_hash_map.specs.Changes.{KeepsSettings}
 use Rattle.linked_hash_map.specs.declared.map.Mode.TheVariants.{Touch}
@@ -156,6 +157,10 @@ module _ {K V S : Type 0} {eq : K → K → Bool} (laws : IsEquivalence eq)
   IsClone-all {m} {n} distinct {left} valid all none set =
       let whole : all.first ≡ m.pairs = sym (append-nil all.first) ∙ ap (λ es. all.first ++ es) (sym none) ∙ all.split in
       let each = subst (λ es. AreClones IsKeyClone IsValueClone es all.clones) whole all.each in
+      let in_order = λ (same : (k clone : K) → IsKeyClone k clone → IsTrue (eq k clone)).
+      subst (AreClones IsKeyClone IsValueClone m.pairs)
+      (sym (ap (λ l. l.pairs) set ∙ all.inserted ∙ insert_each-distinct laws Touch all.clones
+      (clones_differ laws IsValueClone same m.pairs all.clones each distinct))) each in
       record {
         pairs = (all.clones, each, ap (λ l. l.pairs) set ∙ all.inserted);
         capacity = ap (λ l. l.capacity) set ∙ all.capacity;
@@ -163,7 +168,7 @@ module _ {K V S : Type 0} {eq : K → K → Bool} (laws : IsEquivalence eq)
         hasher = subst (IsHasherClone m.hasher) (sym (ap (λ l. l.hasher) set)) all.hasher;
         mode = ap (λ l. l.mode) set;
         valid = valid;
-        in_order = λ same. subst (AreClones IsKeyClone IsValueClone m.pairs)
-            (sym (ap (λ l. l.pairs) set ∙ all.inserted ∙ insert_each-distinct laws Touch all.clones
-            (clones_differ laws IsValueClone same m.pairs all.clones each distinct))) each;
+        in_order = in_order;
+        same_pairs = λ keys values. entries_from_clone IsKeyClone IsValueClone keys values m.pairs left.pairs
+            (in_order (λ k clone is. subst (λ j. eq k j ≡ true) (sym (keys k clone is)) (laws.refl k)));
       }

@@ -23,5 +23,6 @@ returns g c =
         hasher = is.hasher;
         valid = grind (arith, length-keys_of, is.valid);
         in_order = λ same. AllZip-keys_of _ _ _ _ (is.in_order same);
+        same_items = λ same. ap keys_of (is.same_pairs same (λ v clone told. refl));
       });
     }
