@@ -106,6 +106,21 @@ module _ {K : Type 0} {eq : K → K → Bool} (laws : IsEquivalence eq) {before 
       subst (λ j. unwrap_or (value_at eq before j) 0 < length items) (sym item_is)
       (count-lt-length laws before items k i within w.count)
 
+-- a step of the loop in the form that `grind` applies by itself, with no clause named
+pub CountsItems-set_or_push : {K : Type 0} {eq : K → K → Bool} → IsEquivalence eq
+    → (before : List (K × ℕ)) (items : List K) (i : ℕ) (d : K) (n : ℕ)
+    → CountsItems eq before (take i items) → i < length items
+    → n ≡ unwrap_or (value_at eq before (get_or items i d)) 0 + 1
+    → (set_or_push eq before (get_or items i d) n ≡ set_or_push eq before (get_or items i d) n)
+    × CountsItems eq (set_or_push eq before (get_or items i d) n) (take (i + 1) items)
+CountsItems-set_or_push laws before items i d n w within n_is = (
+  refl,
+  record {
+    count = λ q. count_by-set_or_push laws before items d q i within w.count n_is;
+    order = keys_of-set_or_push_first_seen laws before items d n i within w.order;
+  },
+)
+
 -- each key has the count that it had at the start, and one more for each of the items that is the
 -- same; a key that had none has none
 pub record CountsKnown {K : Type 0} (eq : K → K → Bool) (start now : List (K × ℕ)) (items : List K) :

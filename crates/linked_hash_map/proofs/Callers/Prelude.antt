@@ -19,7 +19,7 @@ pub use Rattle.linked_hash_map.specs.Cursor.{to_visit}
 pub use Rattle.linked_hash_map.specs.Visits.{VisitKeeps, VisitMaps}
 pub use Rattle.linked_hash_map.proofs.Callers.Arranged.{IsArranged, IsArranged-next, IsArranged-all}
 pub use Rattle.linked_hash_map.proofs.Callers.Collected.{value_at-insert_each}
-pub use Rattle.linked_hash_map.proofs.Callers.Counted.{CountsItems, CountsItems-counted, CountsKnown}
+pub use Rattle.linked_hash_map.proofs.Callers.Counted.{CountsItems, CountsItems-counted, CountsItems-set_or_push, CountsKnown}
 pub use Rattle.linked_hash_map.proofs.Callers.Dense.{values_of_dense_push, eq-dense}
 pub use Rattle.linked_hash_map.proofs.Callers.EachPair.{All-to_back_as_is}
 pub use Rattle.linked_hash_map.proofs.Callers.Ends.{take-keys_of}
