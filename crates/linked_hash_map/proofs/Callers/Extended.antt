@@ -10,6 +10,7 @@ use Rattle.std.specs.Map.Iter.{TakesFirst}
 use Rattle.std.specs.Cmp.{IsEquivalence}
 use Rattle.std.specs.Iterator.{Count, at_most}
 use Rattle.std.specs.Vec.Iter.{into_iter_items, into_iter_len, into_iter_steps}
+use Rattle.std.specs.declared.vec.IntoIter.{IntoIter}
 use Rattle.std.proofs.lemmas.Iterator.{YieldsList}
 use Rattle.std.proofs.lemmas.Iterator.Consumers.{YieldsList-end, YieldsList-so_far, YieldsList-from_rest, YieldsList-from_shown}
 use Rattle.std.proofs.lemmas.Iterator.Consumers.{nth_from_yields_List}
@@ -213,6 +214,34 @@ pub pairs-InsertsUntil_vec : {T Z K V : Type 0} {becomes : T → _ → Type 0} {
 pairs-InsertsUntil_vec {becomes = becomes} {source} vec inserts is =
     let until = pairs-InsertsUntil inserts (yields becomes vec source is) in
     (length inserts.given, until.0, until.1)
+
+-- all that is known of an `extend` of a vector: the pairs, and that the capacity stays if there is
+-- room for each item; and if it was refused, what went in, what came back, and what is true if there
+-- had been room
+module _ {Z K V : Type 0} {eq : K → K → Bool} {becomes : Vec (K × V) Z → IntoIter (K × V) Z → Type 0}
+    {vec : Vec (K × V) Z} {mode : Mode} {old new : List (K × V)} {capacity : ℕ} where
+  pub InsertsAll_vec : {grown : ℕ} → IsEquivalence eq
+      → InsertsAll becomes (into_iter_steps {X = K × V} {Z = Z}) vec eq (λ pair. pair) mode old new
+      → ((it : IntoIter (K × V) Z) → becomes vec it
+      → (into_iter_items {X = K × V} {Z = Z} it ≡ vec_items vec) × (into_iter_len it ≡ vec_len vec))
+      → IsDistinct eq (keys_of old) → grown ≡ max capacity (length new)
+      → (new ≡ insert_each eq mode old (vec_items vec)) × (length old + length (vec_items vec) ≤ capacity → grown ≡ capacity)
+  InsertsAll_vec laws inserts is distinct grows =
+      let all = pairs-InsertsAll_vec vec inserts is in (
+        all,
+        λ enough. grows ∙ ap (λ (ps : List (K × V)). max capacity (length ps)) all
+            ∙ max-length_insert_each laws mode old (vec_items vec) capacity distinct enough,
+      )
+
+  pub InsertsUntil_vec : {key : K} {value : V} {P : Type 0}
+      → InsertsUntil becomes (into_iter_steps {X = K × V} {Z = Z}) vec eq (λ pair. pair) mode old new key value
+      → ((n : ℕ) → GivesAtMost becomes (λ it. at_most (into_iter_len it)) vec n → length old + n ≤ capacity → P)
+      → ((it : IntoIter (K × V) Z) → becomes vec it
+      → (into_iter_items {X = K × V} {Z = Z} it ≡ vec_items vec) × (into_iter_len it ≡ vec_len vec))
+      → ((n : ℕ) × (new ≡ insert_each eq mode old (take n (vec_items vec))) × (slice_get (vec_items vec) n ≡ Some (key, value)))
+      × (length old + length (vec_items vec) ≤ capacity → P)
+  InsertsUntil_vec inserts succeeds is =
+      (pairs-InsertsUntil_vec vec inserts is, succeeds (length (vec_items vec)) (GivesAtMost-vec becomes vec vec is))
 
 pub pairs-Collects_vec : {T Z K V : Type 0} {becomes : T → _ → Type 0} {source : T} {eq : K → K → Bool}
     {pairs : List (K × V)} {capacity rechained : ℕ} (vec : Vec (K × V) Z)
