@@ -251,7 +251,7 @@ fn copy_pair_behind(map: &mut LinkedHashMap<u64, u64>, key: u64, value: u64, off
 /// Puts a copy of each pair behind the others, with `offset` added to its key, and returns how many
 /// copies there are: a visit that inserts, and comes to the old pairs only. It stops at a copy
 /// whose key is too large or present, or whose insertion a full map refuses.
-#[tactic(auto, using(linked_hash_map::proofs::Callers::Visits::appending_visits))]
+#[tactic(auto, using(linked_hash_map::proofs::Callers::Visits::appending_numbers))]
 pub fn copy_behind(counts: &mut LinkedHashMap<u64, u64>, offset: u64) -> usize
     ensures pairs { counts.new.pairs ≡ counts.old.pairs
         ++ map (λ pair. (pair.0 + offset, pair.1)) (take result counts.old.pairs) }
