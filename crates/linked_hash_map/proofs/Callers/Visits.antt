@@ -15,6 +15,7 @@ use Rattle.linked_hash_map.specs.Pairs.{value_at, without}
 use Rattle.linked_hash_map.specs.Validity.{IsValid}
 use Rattle.linked_hash_map.specs.Visits.{VisitKeeps}
 use Rattle.linked_hash_map.proofs.pairs.Indexes.{find-own, without-own}
+use Rattle.linked_hash_map.proofs.Callers.Keys.{IsSome-find, length-without_present}
 use Rattle.lhm_ring.proofs.tables.Positions.{slice_get-append, remove-append}
 use Rattle.lhm_ring.proofs.lists.Splits.{SplitFirst}
 
@@ -218,3 +219,53 @@ pub ruleset appending_visits = (VisitAppends-end)
 
 -- where such a visit stops, at numbers
 pub ruleset appending_numbers = (VisitAppends-at_number, VisitAppends-end)
+
+-- how far a visit of a map has come that keeps some of the pairs, as `VisitKeeps`, and how many it
+-- has taken out
+pub record VisitTakes {K V S : Type 0} (keeps : K × V → Bool) (start : List (K × V))
+    (now : LinkedMap K V S) (taken : ℕ) : Type 0 where
+  pub passed : List (K × V)
+  pub rest : List (K × V)
+  pub start_is : start ≡ passed ++ rest
+  pub now_is : now.pairs ≡ filter keeps passed ++ rest
+  pub left_is : to_visit now ≡ keys_of rest
+  pub counted : taken + length now.pairs ≡ length start
+
+module _ {K V S : Type 0} {eq : K → K → Bool} (laws : IsEquivalence eq) {keeps : K × V → Bool}
+    {start : List (K × V)} {now : LinkedMap K V S} {taken : ℕ} {left : List K} {k : K} {v : V}
+    (w : VisitTakes keeps start now taken) (visits : to_visit now ≡ k ∷ left) (valid : IsValid eq now)
+    (has : value_at eq now.pairs k ≡ Some v) where
+  taking : VisitKeeps keeps start now.pairs (to_visit now)
+  taking = record { passed = w.passed; rest = w.rest; start_is = w.start_is; now_is = w.now_is; left_is = w.left_is }
+
+  pub VisitTakes-passed : {after : LinkedMap K V S} → keeps (k, v) ≡ true → after.pairs ≡ now.pairs
+      → to_visit after ≡ left → VisitTakes keeps start after taken
+  VisitTakes-passed kept stands stays =
+      let next = VisitKeeps-passed laws taking visits valid.distinct has refl kept stands stays in
+      record {
+        passed = next.passed;
+        rest = next.rest;
+        start_is = next.start_is;
+        now_is = next.now_is;
+        left_is = next.left_is;
+        counted = omega (arith, w.counted, ap length stands);
+      }
+
+  pub VisitTakes-removed : {after : LinkedMap K V S} → keeps (k, v) ≡ false
+      → after.pairs ≡ without eq now.pairs k → to_visit after ≡ left
+      → VisitTakes keeps start after (taken + 1)
+  VisitTakes-removed {after} gone removed stays =
+      let fewer : length after.pairs + 1 ≡ length now.pairs = ap (λ (ps : List (K × V)). length ps + 1) removed
+      ∙ length-without_present laws now.pairs k valid.distinct (IsSome-find eq now.pairs k v has) in
+      let next = VisitKeeps-removed laws taking visits valid.distinct has refl gone removed stays in
+      record {
+        passed = next.passed;
+        rest = next.rest;
+        start_is = next.start_is;
+        now_is = next.now_is;
+        left_is = next.left_is;
+        counted = omega (arith, w.counted, fewer);
+      }
+
+-- a visit that keeps some pairs, takes the others out and counts them
+pub ruleset taking_visits = (VisitTakes-passed, VisitTakes-removed)

@@ -1,5 +1,0 @@
-use Rattle.linked_hash_map.proofs.Callers.Prelude.{rules, VisitKeeps-removed}
-use Rattle.uses.proofs.loops.take_out_zeros.Goals as goal
-
-pub loop-entry-preserved-then-get-eq0 : goal.loop-entry-preserved-then-get-eq0
-loop-entry-preserved-then-get-eq0 g c = search (rules, g.met.K.Eq.laws, VisitKeeps-removed)
