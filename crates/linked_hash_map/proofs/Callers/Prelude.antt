@@ -32,6 +32,7 @@ pub use Rattle.linked_hash_map.proofs.Callers.Rules.{keys_of-put_to_front}
 pub use Rattle.linked_hash_map.proofs.Callers.TextCounts.{CountsTexts}
 pub use Rattle.linked_hash_map.proofs.Callers.Texts.{same_text-laws, by_bytes, by_bytes-append, find-is_text, find-drop_text}
 pub use Rattle.linked_hash_map.proofs.Callers.Turns.{IsRenaming, IsRenaming-turn}
+pub use Rattle.linked_hash_map.proofs.Callers.TwoRuns.{replayed_never_refused}
 pub use Rattle.linked_hash_map.proofs.Callers.Valid.{IsValid-set_or_pushed}
 pub use Rattle.linked_hash_map.proofs.Callers.Visits.{VisitAppends, VisitAppends-appended, VisitAppends-appended_number, VisitAppends-at, VisitAppends-end}
 pub use Rattle.linked_hash_map.proofs.Callers.Visits.{VisitKeeps-removed, VisitTakes}
