@@ -1,6 +1,7 @@
 -- For callers: values that are written, and calls one after another by the same key.
 use Rattle.std.proofs.Common.{◌≡◌, Bool, true, false, cond, not, List, [], ◌∷◌, ◌++◌, append-nil, Option, Some, None}
-use Rattle.std.proofs.Common.{is_some, option_map, refl, sym, ap, ap₂, ◌∙◌}
+use Rattle.std.proofs.Common.{is_some, option_map, unwrap_or, true≢false, refl, sym, ap, ap₂, ◌∙◌}
+use Rattle.std.specs.Option.{IsSome}
 use Rattle.std.specs.Borrow.{MutBor}
 use Rattle.std.specs.Fn.{Once}
 use Rattle.std.specs.List.{IsDistinct}
@@ -9,7 +10,7 @@ use Rattle.std.specs.Map.Calls.{MayWrite, ModifiesValue}
 use Rattle.std.specs.Cmp.{IsEquivalence}
 use Rattle.std.proofs.lemmas.List.Elements.{filter-append}
 use Rattle.linked_hash_map.specs.declared.map.Mode.{Mode}
-use Rattle.linked_hash_map.specs.Pairs.{find, value_at, without, set_value, set_or_push, set_if_some, put}
+use Rattle.linked_hash_map.specs.Pairs.{ActsAs, find, value_at, without, set_value, set_or_push, set_if_some, put}
 use Rattle.linked_hash_map.proofs.pairs.Calls.{set_value-none, is_some-value_at}
 use Rattle.linked_hash_map.proofs.Callers.Keys.{find-absent, IsSome-find, set_or_push-present, without-absent, put-absent}
 -- a value that is set as it was changes nothing
@@ -29,6 +30,23 @@ module _ {K V : Type 0} {eq : K → K → Bool} (laws : IsEquivalence eq) (pairs
     (v : V) (distinct : IsDistinct eq (keys_of pairs)) where
   pub set_or_push-own : value_at eq pairs k ≡ Some v → set_or_push eq pairs k v ≡ pairs
   set_or_push-own own = set_or_push-present eq pairs k v (IsSome-find eq pairs k v own) ∙ set_value-own laws pairs k v distinct own
+
+-- nor does `or_insert` of a key that is there, by an entry that acts as the key does
+module _ {K V : Type 0} {eq : K → K → Bool} (laws : IsEquivalence eq) where
+  own_or : (found : Option (K × V)) (v w : V) → is_some found ≡ true
+      → w ≡ unwrap_or (option_map (λ pair. pair.1) found) v
+      → option_map (λ pair. pair.1) found ≡ Some w
+  own_or None v w there is = absurd (true≢false (sym there))
+  own_or (Some pair) v w there is = ap Some (sym is)
+
+  pub set_or_push-present_own : (contents pairs : List (K × V)) (stored k : K) (v w : V) (o : Option V)
+      → ActsAs eq pairs stored k → IsDistinct eq (keys_of pairs) → contents ≡ pairs
+      → o ≡ value_at eq pairs k → w ≡ unwrap_or o v → IsSome (find eq pairs k)
+      → set_or_push eq contents stored w ≡ pairs
+  set_or_push-present_own contents pairs stored k v w o acts distinct same held is there =
+      ap (λ ps. set_or_push eq ps stored w) same ∙ acts.sets_or_pushes w
+      ∙ set_or_push-own laws pairs k w distinct
+      (own_or (find eq pairs k) v w there (is ∙ ap (λ p. unwrap_or p v) held))
 
 module _ {K V : Type 0} (eq : K → K → Bool) where
   -- the later of two writes counts
@@ -89,3 +107,6 @@ module _ {K V : Type 0} {eq : K → K → Bool} (laws : IsEquivalence eq) where
   set_value-set_or_push pairs k w v distinct own =
       ap (λ ps. set_value eq ps k v) (set_or_push-present eq pairs k w (IsSome-find eq pairs k v own))
       ∙ set_value-set_value eq pairs k w v ∙ set_value-own laws pairs k v distinct own
+
+-- what `or_insert` leaves if the key is there
+pub ruleset present_own = (set_or_push-present_own)
