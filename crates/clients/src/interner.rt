@@ -26,7 +26,7 @@ impl<K: Eq + Hash> Interner<K> {
     }
 
     /// Returns the id of a name, which no other name has. A new name gets the next id.
-    #[tactic(auto, using(linked_hash_map::proofs::Callers::Rules::dense))]
+    #[tactic(auto, using(linked_hash_map::proofs::Callers::Rules::dense_apart))]
     pub fn intern(&mut self, name: K) -> Result<usize, Refused<K, usize>>
     where
         K: Drop,

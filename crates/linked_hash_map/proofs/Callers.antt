@@ -15,6 +15,7 @@ pub mod EachText
 pub mod Ends
 pub mod Equality
 pub mod Extended
+pub mod FrontKeys
 pub mod Fronts
 pub mod FromKeys
 pub mod Groups

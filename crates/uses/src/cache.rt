@@ -90,7 +90,7 @@ impl<K: Eq + Hash, V> Cache<K, V> {
 
     /// Gives the pair used least recently another value and makes it the one used last. Returns the
     /// pair as it was, or `None` if the cache is empty.
-    #[tactic(auto, using(linked_hash_map::proofs::Callers::Rules::turns))]
+    #[tactic(auto, using(linked_hash_map::proofs::Callers::Rules::absent_keys))]
     pub fn renew_oldest(&mut self, value: V) -> Option<(K, V)>
     where
         K: Copy,

@@ -28,7 +28,7 @@ impl<K: Eq + Hash> Interner<K> {
 
     /// Returns the number of a name. A name that has none gets the next one, which is how many
     /// names there are, or is handed back if an allocation fails.
-    #[tactic(auto, using(linked_hash_map::proofs::Callers::Rules::dense))]
+    #[tactic(auto, using(linked_hash_map::proofs::Callers::Rules::dense_below))]
     pub fn intern(&mut self, name: K) -> Result<usize, Refused<K, usize>>
     where
         K: Drop,

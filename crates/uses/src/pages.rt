@@ -42,7 +42,7 @@ impl Pages {
     /// used least recently leave for it, as few as it takes, and those that stay keep their texts.
     /// A page above the limit is handed back, and so is one that found no memory, which only a new
     /// page needs for which none leaves and no room was made.
-    #[tactic(auto, using(crate::proofs::Rules::longest_ends))]
+    #[tactic(auto, using(linked_hash_map::proofs::Callers::Sessions::longest_ends))]
     pub fn put(&mut self, number: u64, text: String) -> Result<(), PutRefused<String>>
         ensures stays { OnOk result (payload_of self.new.table.sessions number ≡ Some text) }
         ensures others { (other : ℕ)

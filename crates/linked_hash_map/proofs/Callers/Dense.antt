@@ -1,6 +1,6 @@
 -- For callers: maps whose values are numbers from 0 on, in the order of the places.
 use Rattle.std.proofs.Common.{◌≡◌, ℕ, zero, suc, ◌+◌, ◌<◌, ◌≤◌, Bool, true, false, cond, List, [], ◌∷◌, ◌++◌, length}
-use Rattle.std.proofs.Common.{Option, Some, None, IfSome}
+use Rattle.std.proofs.Common.{Option, Some, None, IfSome, IsSome}
 use Rattle.std.proofs.Common.{option_map, refl, subst, ap, ◌∙◌, arith, length-append}
 use Rattle.std.specs.Cmp.{IsEquivalence}
 use Rattle.std.specs.List.{range_with_len}
@@ -130,3 +130,11 @@ module _ {K : Type 0} {eq : K → K → Bool} (laws : IsEquivalence eq) where
       × ((k : K) (n : ℕ) → value_at eq pairs j ≡ Some n → value_at eq pairs k ≡ Some n
       → eq j k ≡ true)
   eq-dense pairs j dense = (refl, λ k n. one_key 0 pairs j k n dense)
+
+  -- the same, which `grind` takes up only at a key that has a number
+  pub eq-dense_found : (pairs : List (K × ℕ)) (j : K) → values_of pairs ≡ range_with_len 0 (length pairs)
+      → IsSome (value_at eq pairs j)
+      → (value_at eq pairs j ≡ value_at eq pairs j)
+      × ((k : K) (n : ℕ) → value_at eq pairs j ≡ Some n → value_at eq pairs k ≡ Some n
+      → eq j k ≡ true)
+  eq-dense_found pairs j dense found = eq-dense pairs j dense

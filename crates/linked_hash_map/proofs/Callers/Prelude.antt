@@ -24,6 +24,7 @@ pub use Rattle.linked_hash_map.proofs.Callers.Dense.{values_of_dense_push, eq-de
 pub use Rattle.linked_hash_map.proofs.Callers.EachPair.{All-to_back_as_is}
 pub use Rattle.linked_hash_map.proofs.Callers.Ends.{take-keys_of}
 pub use Rattle.linked_hash_map.proofs.Callers.Equality.{pairs-clone, pairs-cloned, eq-Decides}
+pub use Rattle.linked_hash_map.proofs.Callers.FrontKeys.{keys_of-front_few, value_at-front_kept}
 pub use Rattle.linked_hash_map.proofs.Callers.Insertions.{NoneRefused-inserted}
 pub use Rattle.linked_hash_map.proofs.Callers.Keys.{keys_of-without}
 pub use Rattle.linked_hash_map.proofs.Callers.Retained.{filter_same_pairs, map_from_retain_pairs, map-filter_from_retain_pairs}

@@ -23,12 +23,12 @@ use Rattle.linked_hash_map.specs.Pairs.{key_or, find, value_at, without, from, t
 use Rattle.linked_hash_map.specs.Pairs.{set_or_push, put, to_before, to_after}
 use Rattle.linked_hash_map.proofs.Callers.Keys.{length-put_most, key_or-find, keys_of-to_back, keys_of-to_back_own}
 use Rattle.linked_hash_map.proofs.Callers.Keys.{keys_of-without, keys_of-set_or_push, keys_of-append, keys_of-without_first}
-use Rattle.linked_hash_map.proofs.Callers.Keys.{keys_of-without_last, first-keys_of}
+use Rattle.linked_hash_map.proofs.Callers.Keys.{keys_of-without_last, first-keys_of, put-absent}
 use Rattle.linked_hash_map.proofs.Callers.Collected.{insert_each-append, insert_each-snoc}
 use Rattle.linked_hash_map.proofs.Callers.Counted.{CountsItems-start, CountsItems-counted, CountsItems-below}
 use Rattle.linked_hash_map.proofs.Callers.Counted.{CountsKnown-start, CountsKnown-counted, CountsKnown-fits}
 use Rattle.linked_hash_map.proofs.Callers.Cuts.{find-cut, find-second, from-cut, from-second_reverse, to_before-cut, to_after-cut}
-use Rattle.linked_hash_map.proofs.Callers.Dense.{values_of_dense_push, value_at_dense_each, eq-dense}
+use Rattle.linked_hash_map.proofs.Callers.Dense.{values_of_dense_push, value_at_dense_each, eq-dense, eq-dense_found}
 use Rattle.linked_hash_map.proofs.Callers.EachPair.{All-find, All-without, All-to_back_as_is, All-put}
 use Rattle.linked_hash_map.proofs.Callers.Ends.{keys_of-take, take-keys_of, to_front-put, value_at-take}
 use Rattle.linked_hash_map.proofs.Callers.Lookups.{eq-find, eq-stored, value_at-append, value_at-without_append}
@@ -249,6 +249,10 @@ pub ruleset changes = (VisitMaps-written, VisitMaps-removed, VisitMaps-start)
 -- maps that number their keys from 0 on
 pub ruleset dense = (values_of_dense_push, value_at_dense_each, eq-dense)
 
+-- less of this: that the numbers are below the count, and that no two keys have one
+pub ruleset dense_below = (values_of_dense_push, value_at_dense_each)
+pub ruleset dense_apart = (values_of_dense_push, eq-dense_found)
+
 -- maps that count items, in the order in which these first come
 pub ruleset counts = (CountsItems-start, CountsItems-counted, CountsItems-below)
 
@@ -263,6 +267,9 @@ pub ruleset insertions = (insert_each-append, insert_each-snoc)
 
 -- the first pair put back, behind the others
 pub ruleset turns = (put-without_first)
+
+-- a key that is absent, put in behind the others, in either mode
+pub ruleset absent_keys = (put-absent)
 
 -- turns, one after another, until each pair had its turn
 pub ruleset rounds = (IsTurned-start, IsTurned-turn, IsTurned-round)

@@ -1,2 +1,6 @@
 -- For callers: the sessions that fit a limit.
+use Rattle.linked_hash_map.proofs.session_table.Lists.{fit-all, fit-only}
 pub use Rattle.linked_hash_map.proofs.session_table.Lists.{fit-all, fit-only}
+
+-- as the longest end that does
+pub ruleset longest_ends = (fit-all, fit-only)
