@@ -251,6 +251,7 @@ pub ruleset dense = (values_of_dense_push, value_at_dense_each, eq-dense)
 
 -- less of this: that the numbers are below the count, and that no two keys have one
 pub ruleset dense_below = (values_of_dense_push, value_at_dense_each)
+
 pub ruleset dense_apart = (values_of_dense_push, eq-dense_found)
 
 -- maps that count items, in the order in which these first come
