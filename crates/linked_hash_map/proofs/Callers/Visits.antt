@@ -160,16 +160,16 @@ module _ {K V : Type 0} {eq : K → K → Bool} (laws : IsEquivalence eq) (start
       let rest : left ≡ keys_of (drop (n + 1) start) = let same = keys in cc in
       rest ∙ sym (drop-map (λ (pair : K × V). pair.0) (n + 1) start)
 
--- how far a visit of a map has come that puts what it makes of each pair behind the others: n of the
--- pairs at the start are passed, and the others are left to visit
-pub record VisitAppends {K V S : Type 0} (change : K × V → K × V) (start : List (K × V))
-    (now : LinkedMap K V S) (n : ℕ) : Type 0 where
-  pub now_is : now.pairs ≡ start ++ map change (take n start)
-  pub left_is : to_visit now ≡ drop n (keys_of start)
+-- how far a visit has come that puts what it makes of each pair behind the others: n of the pairs
+-- at the start are passed, and the others are left to visit
+pub record VisitAppends {K V : Type 0} (change : K × V → K × V) (start now : List (K × V))
+    (left : List K) (n : ℕ) : Type 0 where
+  pub now_is : now ≡ start ++ map change (take n start)
+  pub left_is : left ≡ drop n (keys_of start)
 
 -- with no pair left to visit, all are passed
-pub VisitAppends-end : {K V S : Type 0} {change : K × V → K × V} {start : List (K × V)} {now : LinkedMap K V S} {n : ℕ}
-    → VisitAppends change start now n → to_visit now ≡ [] → slice_get start n ≡ None
+pub VisitAppends-end : {K V : Type 0} {change : K × V → K × V} {start now : List (K × V)} {left : List K} {n : ℕ}
+    → VisitAppends change start now left n → left ≡ [] → slice_get start n ≡ None
 VisitAppends-end {start = start} {n = n} w none = slice_get_past start n (omega (
   arith,
   ap length (sym none ∙ w.left_is),
@@ -178,41 +178,41 @@ VisitAppends-end {start = start} {n = n} w none = slice_get_past start n (omega 
 ))
 
 -- a step of the loop, as the clauses of `next_entry` and of an insertion say it
-module _ {K V S : Type 0} {eq : K → K → Bool} (laws : IsEquivalence eq) {change : K × V → K × V}
-    {start : List (K × V)} {now : LinkedMap K V S} {n : ℕ} {left : List K} {k : K} {v : V}
-    (w : VisitAppends change start now n) (visits : to_visit now ≡ k ∷ left)
-    (valid : IsValid eq now) (has : value_at eq now.pairs k ≡ Some v) where
+module _ {K V : Type 0} {eq : K → K → Bool} (laws : IsEquivalence eq) {change : K × V → K × V}
+    {start now : List (K × V)} {n : ℕ} {to_come left : List K} {k : K} {v : V}
+    (w : VisitAppends change start now to_come n) (visits : to_come ≡ k ∷ left)
+    (distinct : IsDistinct eq (keys_of now)) (has : value_at eq now k ≡ Some v) where
   abbrev copies : List (K × V)
   copies = map change (take n start)
 
   -- the pair at hand was there at the start, with this value
   pub VisitAppends-at : slice_get start n ≡ Some (k, v)
-  VisitAppends-at = slice_get-visited laws start copies n w.now_is w.left_is visits valid.distinct has
+  VisitAppends-at = slice_get-visited laws start copies n w.now_is w.left_is visits distinct has
 
-  pub VisitAppends-appended : {pairs : List (K × V)} {after : LinkedMap K V S} → pairs ≡ now.pairs
-      → after.pairs ≡ pairs ++ change (k, v) ∷ [] → to_visit after ≡ left
-      → VisitAppends change start after (n + 1)
+  pub VisitAppends-appended : {pairs after : List (K × V)} {to_come_after : List K} → pairs ≡ now
+      → after ≡ pairs ++ change (k, v) ∷ [] → to_come_after ≡ left
+      → VisitAppends change start after to_come_after (n + 1)
   VisitAppends-appended same appended stays = record {
     now_is = appended ∙ ap (λ (ps : List (K × V)). ps ++ change (k, v) ∷ []) (same ∙ w.now_is)
         ∙ append_assoc start copies (change (k, v) ∷ [])
         ∙ ap (λ (ps : List (K × V)). start ++ ps) (sym (ap (map change)
-        (take-visited laws start copies n w.now_is w.left_is visits valid.distinct has)
+        (take-visited laws start copies n w.now_is w.left_is visits distinct has)
         ∙ map-append change (take n start) ((k, v) ∷ [])));
-    left_is = stays ∙ drop-visited laws start copies n w.now_is w.left_is visits valid.distinct has;
+    left_is = stays ∙ drop-visited laws start copies n w.now_is w.left_is visits distinct has;
   }
 
--- the same at numbers
+-- the same at numbers, of a map
 module _ {V S : Type 0} {change : ℕ × V → ℕ × V} {start : List (ℕ × V)} {now : LinkedMap ℕ V S} {n : ℕ}
     {left : List ℕ} {k : ℕ} {v : V}
-    (w : VisitAppends change start now n) (visits : to_visit now ≡ k ∷ left)
+    (w : VisitAppends change start now.pairs (to_visit now) n) (visits : to_visit now ≡ k ∷ left)
     (valid : IsValid nat_eq now) (has : value_at nat_eq now.pairs k ≡ Some v) where
   pub VisitAppends-at_number : slice_get start n ≡ Some (k, v)
-  VisitAppends-at_number = VisitAppends-at nat_eq_equiv w visits valid has
+  VisitAppends-at_number = VisitAppends-at nat_eq_equiv w visits valid.distinct has
 
-  pub VisitAppends-appended_number : {pairs : List (ℕ × V)} {after : LinkedMap ℕ V S} → pairs ≡ now.pairs
-      → after.pairs ≡ pairs ++ change (k, v) ∷ [] → to_visit after ≡ left
-      → VisitAppends change start after (n + 1)
-  VisitAppends-appended_number = VisitAppends-appended nat_eq_equiv w visits valid has
+  pub VisitAppends-appended_number : {pairs after : List (ℕ × V)} {to_come_after : List ℕ}
+      → pairs ≡ now.pairs → after ≡ pairs ++ change (k, v) ∷ [] → to_come_after ≡ left
+      → VisitAppends change start after to_come_after (n + 1)
+  VisitAppends-appended_number = VisitAppends-appended nat_eq_equiv w visits valid.distinct has
 
 -- the end of a visit that puts pairs behind the others
 pub ruleset appending_visits = (VisitAppends-end)
