@@ -158,15 +158,14 @@ module _ {K V : Type 0} {eq : K → K → Bool} (laws : IsEquivalence eq)
           }
 
 -- one turn: the first pair goes behind the others, under the new name if it has the old one
-module _ {K V : Type 0} {eq : K → K → Bool} (laws : IsEquivalence eq) {old now rest : List (K × V)}
-    {from to : K} {pair : K × V} {turns : ℕ} where
-  pub IsRenaming-turn : IsRenaming eq old now from to turns → IsDistinct eq (keys_of now)
-      → Some pair ≡ first now → rest ≡ without_first now
-      → (mode : Mode) (name : K) (after : List (K × V)) → turns < length old
-      → name ≡ cond (eq from pair.0) to pair.0 → after ≡ put eq mode rest name pair.1
-      → IsRenaming eq old after from to (turns + 1)
-  IsRenaming-turn w distinct there popped mode name after within named inserted =
-      IsRenaming-pushed laws w distinct (sym there) after within
+module _ {K V : Type 0} {eq : K → K → Bool} (laws : IsEquivalence eq) (mode : Mode) where
+  pub IsRenaming-turn : (old now : List (K × V)) {rest after : List (K × V)} (from to : K)
+      {name : K} (pair : K × V) (turns : ℕ)
+      → IsRenaming eq old now from to turns → IsDistinct eq (keys_of now) → first now ≡ Some pair
+      → turns < length old → rest ≡ without_first now → name ≡ cond (eq from pair.0) to pair.0
+      → after ≡ put eq mode rest name pair.1 → IsRenaming eq old after from to (turns + 1)
+  IsRenaming-turn old now {rest} {after} from to {name} pair turns w distinct there within popped named inserted =
+      IsRenaming-pushed laws w distinct there after within
       (inserted ∙ (λ i. put eq mode (popped i) (named i) pair.1)
       ∙ put-absent eq mode (without_first now) (cond (eq from pair.0) to pair.0) pair.1
-      (find-renamed laws w distinct (sym there)))
+      (find-renamed laws w distinct there))
