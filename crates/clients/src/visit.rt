@@ -7,7 +7,6 @@ use std::hash::{BuildHasher, Hash};
 
 /// Removes each pair whose value is odd, and doubles the values of the others. These keep their
 /// order.
-#[tactic(auto, using(linked_hash_map::proofs::Callers::Rules::changes))]
 pub fn double_even<K: Eq + Hash + Drop, S: BuildHasher>(numbers: &mut LinkedHashMap<K, u64, S>)
     requires fits { (index : ℕ) → IfSome (slice_get numbers.old.pairs index)
         (λ pair. pair.1 < 2 ^ 63) }

@@ -13,4 +13,5 @@ pub mod tabs;
 pub mod text_map;
 pub mod text_pairs;
 pub mod undo;
+#[tactic(auto, using(linked_hash_map::proofs::Callers::Rules::text_counts))]
 pub mod words;

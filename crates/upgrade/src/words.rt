@@ -30,7 +30,6 @@ pub fn count_word(
 }
 
 /// Returns how often each word comes.
-#[tactic(auto, using(linked_hash_map::proofs::Callers::Rules::text_counts))]
 pub fn count_words(alloc: Global, words: &[&str]) -> Result<LinkedHashMap<String, u64>, AllocError>
     ensures { IfOk result (λ counts. (word : List ℕ)
         → unwrap_or (value_at names counts.pairs word) 0

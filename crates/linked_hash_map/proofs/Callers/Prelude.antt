@@ -29,7 +29,7 @@ pub use Rattle.linked_hash_map.proofs.Callers.Insertions.{NoneRefused-inserted}
 pub use Rattle.linked_hash_map.proofs.Callers.Keys.{keys_of-without}
 pub use Rattle.linked_hash_map.proofs.Callers.Retained.{filter_same_pairs, map_from_retain_pairs, map-filter_from_retain_pairs}
 pub use Rattle.linked_hash_map.proofs.Callers.Rounds.{IsTurned, IsTurned-turn}
-pub use Rattle.linked_hash_map.proofs.Callers.Rules.{keys_of-put_to_front}
+pub use Rattle.linked_hash_map.proofs.Callers.Rules.{changes, keys_of-put_to_front}
 pub use Rattle.linked_hash_map.proofs.Callers.TextCounts.{CountsTexts}
 pub use Rattle.linked_hash_map.proofs.Callers.Texts.{same_text-laws, by_bytes, by_bytes-append, find-is_text, find-drop_text}
 pub use Rattle.linked_hash_map.proofs.Callers.Turns.{IsRenaming, IsRenaming-turn}
