@@ -98,7 +98,6 @@ pub fn take_all<K: Eq + Hash + Drop, V: Drop, S: BuildHasher>(
 
 /// Takes out each pair whose count is zero, and returns how many there were: a loop over a visit.
 /// The others keep their order.
-#[tactic(auto, using(linked_hash_map::proofs::Callers::Visits::taking_visits))]
 pub fn take_out_zeros<K: Eq + Hash + Drop, S: BuildHasher>(
     counts: &mut LinkedHashMap<K, u64, S>,
 ) -> usize

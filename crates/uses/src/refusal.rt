@@ -33,7 +33,6 @@ pub fn insert_anyway<K: Eq + Hash + Drop, V: Drop, S: BuildHasher>(
 
 /// Inserts a pair at the back if its key is new, and otherwise changes nothing. A new pair that is
 /// refused comes back: if an allocation fails, and always from a map of `LIMIT` pairs.
-#[tactic(auto, using(linked_hash_map::proofs::Callers::Writes::present_own))]
 pub fn insert_if_new<K: Eq + Hash + Drop, V: Drop, S: BuildHasher>(
     map: &mut LinkedHashMap<K, V, S>,
     key: K,

@@ -1,5 +1,5 @@
--- For callers: a visit that keeps some of the pairs and takes the others out, and one that puts pairs
--- behind the others, step by step.
+-- For callers: a visit that keeps some of the pairs and takes the others out, also one that counts
+-- these, and one that puts pairs behind the others, step by step.
 use Rattle.std.proofs.Common.{◌≡◌, ℕ, ◌+◌, ◌<◌, Bool, true, false, cond, List, [], ◌∷◌, ◌++◌, length, map, take, drop, slice_get, get_or, nat_eq}
 use Rattle.std.proofs.Common.{option_map, Some, None, filter, refl, sym, ap, subst, ◌∙◌, append_assoc, append-nil, length-append, arith}
 use Rattle.std.specs.Cmp.{IsEquivalence, nat_eq_equiv}
@@ -266,6 +266,3 @@ module _ {K V S : Type 0} {eq : K → K → Bool} (laws : IsEquivalence eq) {kee
         left_is = next.left_is;
         counted = omega (arith, w.counted, fewer);
       }
-
--- a visit that keeps some pairs, takes the others out and counts them
-pub ruleset taking_visits = (VisitTakes-passed, VisitTakes-removed)

@@ -40,10 +40,10 @@ module _ {K V : Type 0} {eq : K → K → Bool} (laws : IsEquivalence eq) where
   own_or (Some pair) v w there is = ap Some (sym is)
 
   pub set_or_push-present_own : (contents pairs : List (K × V)) (stored k : K) (v w : V) (o : Option V)
-      → ActsAs eq pairs stored k → IsDistinct eq (keys_of pairs) → contents ≡ pairs
-      → o ≡ value_at eq pairs k → w ≡ unwrap_or o v → IsSome (find eq pairs k)
+      → ActsAs eq pairs stored k → contents ≡ pairs → w ≡ unwrap_or o v
+      → o ≡ value_at eq pairs k → IsSome (find eq pairs k) → IsDistinct eq (keys_of pairs)
       → set_or_push eq contents stored w ≡ pairs
-  set_or_push-present_own contents pairs stored k v w o acts distinct same held is there =
+  set_or_push-present_own contents pairs stored k v w o acts same is held there distinct =
       ap (λ ps. set_or_push eq ps stored w) same ∙ acts.sets_or_pushes w
       ∙ set_or_push-own laws pairs k w distinct
       (own_or (find eq pairs k) v w there (is ∙ ap (λ p. unwrap_or p v) held))
