@@ -39,6 +39,7 @@ impl Settings {
     }
 
     /// Overrides a setting. The others keep their values.
+    #[tactic(auto, using(linked_hash_map::proofs::Callers::Rules::text_lookups))]
     pub fn set(&mut self, name: String, value: u64) -> Result<(), Refused<String, u64>>
         ensures here { OnOk result (setting self.new.overrides.pairs self.new.defaults.pairs
             (string_bytes name) ≡ Some value) }
@@ -52,6 +53,7 @@ impl Settings {
     }
 
     /// Gives a setting its default again, and returns whether it was overridden.
+    #[tactic(auto, using(linked_hash_map::proofs::Callers::Rules::text_lookups))]
     pub fn reset(&mut self, name: &str) -> bool
         ensures was { result ≡ is_some (find names self.old.overrides.pairs name.now) }
         ensures here { setting self.new.overrides.pairs self.new.defaults.pairs name.now

@@ -38,6 +38,7 @@ pub mod Rounds
 pub mod Rules
 pub mod Sessions
 pub mod TextCounts
+pub mod TextLookups
 pub mod Texts
 pub mod Turns
 pub mod TwoRuns

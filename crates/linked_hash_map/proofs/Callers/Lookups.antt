@@ -212,7 +212,7 @@ module _ {K V : Type 0} {eq : K → K → Bool} (laws : IsEquivalence eq) where
   find-put Keep = find-set_or_push
 
   -- the value that a key has after each of these
-  value_at-without : (pairs : List (K × V)) (k q : K)
+  pub value_at-without : (pairs : List (K × V)) (k q : K)
       → value_at eq (without eq pairs k) q ≡ cond (eq k q) None (value_at eq pairs q)
   value_at-without pairs k q = ap (option_map (λ pair. pair.1)) (find-without pairs k q)
       ∙ option_map-cond (λ pair. pair.1) (eq k q) None (find eq pairs q)

@@ -34,6 +34,7 @@ use Rattle.linked_hash_map.proofs.Callers.Ends.{keys_of-take, take-keys_of, to_f
 use Rattle.linked_hash_map.proofs.Callers.Lookups.{eq-find, eq-stored, value_at-append, value_at-without_append}
 use Rattle.linked_hash_map.proofs.Callers.Rounds.{IsTurned-start, IsTurned-turn, IsTurned-round}
 use Rattle.linked_hash_map.proofs.Callers.TextCounts.{CountsTexts-start, CountsTexts-counted, CountsTexts-below, CountsTexts-all}
+use Rattle.linked_hash_map.proofs.Callers.TextLookups.{value_at-put_text, value_at-removed_text}
 use Rattle.linked_hash_map.proofs.Callers.Texts.{value_at-by_bytes, values_of-by_bytes}
 use Rattle.linked_hash_map.proofs.Callers.Turns.{cons-keys_of_first, put-without_first}
 use Rattle.linked_hash_map.proofs.Callers.Visits.{VisitKeeps-passed, VisitKeeps-removed, append-visited}
@@ -232,6 +233,9 @@ pub ruleset text_keys = (keys_of-without_text, keys_of-set_or_push_text)
 
 -- what bytes find after an insertion, in a view by the bytes of the keys
 pub ruleset byte_keys = (value_at-put_bytes, value_at-text_bytes, values_of-text_bytes)
+
+-- what each text finds after an insertion, or after a removal by another text
+pub ruleset text_lookups = (value_at-put_text, value_at-removed_text)
 
 -- the keys after an insertion in Touch, in words of the keys alone
 pub ruleset stored_keys = (keys_of-to_back, key_or-find)
