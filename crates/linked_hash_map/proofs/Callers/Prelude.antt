@@ -35,7 +35,8 @@ pub use Rattle.linked_hash_map.proofs.Callers.Texts.{same_text-laws, by_bytes, b
 pub use Rattle.linked_hash_map.proofs.Callers.Turns.{IsRenaming, IsRenaming-turn}
 pub use Rattle.linked_hash_map.proofs.Callers.TwoRuns.{replayed_never_refused}
 pub use Rattle.linked_hash_map.proofs.Callers.Valid.{IsValid-set_or_pushed}
-pub use Rattle.linked_hash_map.proofs.Callers.Visits.{VisitAppends, VisitAppends-appended, VisitAppends-appended_number, VisitAppends-at, VisitAppends-end}
+pub use Rattle.linked_hash_map.proofs.Callers.Visits.{VisitAppends, VisitAppends-appended, VisitAppends-at, VisitAppends-end}
+pub use Rattle.linked_hash_map.proofs.Callers.Visits.{VisitAppends-appended_number}
 pub use Rattle.linked_hash_map.proofs.Callers.Visits.{VisitKeeps-removed, VisitTakes, VisitTakes-passed, VisitTakes-removed}
 pub use Rattle.linked_hash_map.proofs.Callers.Writes.{set_or_push-own, present_own}
 pub use Rattle.linked_hash_map.proofs.Callers.WritingVisits.{VisitMaps-holds}
