@@ -69,7 +69,7 @@ show_part calls ' public calls, each with the lines that make it$'
 run_part documents-self-test scripts/documents --self-test
 show_part documents-self-test '^documents finds each planted fault$'
 run_part clauses-self-test scripts/clauses --self-test
-show_part clauses-self-test '^clauses finds each of [1-9][0-9]* clauses, deleted and emptied$'
+show_part clauses-self-test '^clauses finds each of [1-9][0-9]* changes$'
 run_part model-tests-self-test scripts/model-tests --self-test
 show_part model-tests-self-test '^model-tests: [1-9][0-9]* tries end as they must$'
 run_part refused-growths-self-test scripts/refused-growths --self-test
