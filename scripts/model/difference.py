@@ -51,8 +51,18 @@ def difference_at_end(lines, ran):
         return Difference(last, f"{len(lines)} lines", f"{len(ran.lines)} lines")
     if ran.records is not None and len(ran.records) != len(lines):
         return Difference(last, f"marks of {len(lines)} lines", f"of {len(ran.records)}")
-    if ran.blocks and not any(map(forgets, lines)):
-        return Difference(last, "all memory given back", f"{ran.blocks} blocks kept")
+    return difference_of_blocks(lines, ran) if ran.records is not None else None
+
+
+def difference_of_blocks(lines, ran):
+    """Returns behind which lines blocks of memory are kept, or None. At each heading everything is
+    made anew, so there are as many as at the one before, unless a line between forgets some."""
+    before, first = None, 0
+    ends = [(at, record.live) for at, (line, record) in enumerate(zip(lines, ran.records)) if line.startswith("#")]
+    for at, live in [*ends, (len(lines), ran.live)]:
+        if before is not None and live != before and not any(map(forgets, lines[first:at])):
+            return Difference(at - 1, "all memory given back", f"{live - before} blocks kept")
+        before, first = live, at + 1
     return None
 
 

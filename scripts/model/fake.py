@@ -48,7 +48,7 @@ def printed_of(wanted):
 
 class Fake:
     """The driver. A fault takes each line with what is printed of it and its record, and returns
-    what is there in their place, or None. `blocks` are left at the end, and `status` tells how it
+    what is there in their place, or None. The line AT keeps `blocks`, and `status` tells how it
     ended."""
 
     def __init__(self, fault=None, blocks=0, status=""):
@@ -56,14 +56,15 @@ class Fake:
 
     def run(self, lines, refusals=NO_REFUSALS):
         """Runs some lines, and returns what the driver did. Only named requests are refused."""
-        machine, at, rows = model.Model(), dict(refusals.at), []
+        machine, at, rows, live = model.Model(), dict(refusals.at), [], 1
         for number, line in enumerate(lines, 1):
             wanted = machine.run(line, None, at.get(number))
-            record = Record(wanted.requests, (at[number],) if number in at else (), 1)
+            live += self.blocks * (line == AT)
+            record = Record(wanted.requests, (at[number],) if number in at else (), 1, live)
             row = printed_of(wanted), record
             rows.append(self.fault(line, *row) if self.fault else row)
         printed = [it for it, _ in rows if it is not None]
-        return Ran(printed, [it for _, it in rows if it], self.blocks, self.status)
+        return Ran(printed, [it for _, it in rows if it], live, self.status)
 
 
 def prints(old, new, at=AT):
@@ -121,7 +122,7 @@ FAULTS = (
     ("an effect that no line has", 1, {"fault": prints("$", " copy-keys 1")}),
     ("an effect of nothing", 1, {"fault": prints("$", " cmp-keys 0")}),
     ("a request more", 1, {"fault": records(requests=1)}),
-    ("a request less", 1, {"fault": records("insert a x 1", requests=3)}),
+    ("a request less", 1, {"fault": records("insert a x 1", requests=1)}),
     ("a refusal where no memory is asked for", 1, {"fault": records(refused=(1,))}),
     ("a refused call that asks again", 1, {"fault": asks_again}),
     ("a line with no window", 1, {"fault": records(windows=0)}),

@@ -16,12 +16,16 @@ import unproved
 SECONDS = 300
 
 # What a program did: the lines that it printed, a record for each line that it began, or None if it
-# has not ended, how many blocks it never gave back, and what else is wrong, or "".
-Ran = collections.namedtuple("Ran", "lines records blocks fault")
+# has not ended, how many blocks there are behind a last heading, and what else is wrong, or "".
+Ran = collections.namedtuple("Ran", "lines records live fault")
 
 
-# What a line did: how many requests it made, the numbers of those refused, and its windows.
-Record = collections.namedtuple("Record", "requests refused windows")
+# What a line did: how many requests it made, the numbers of those refused, its windows, and how many
+# blocks of memory there are at its end.
+Record = collections.namedtuple("Record", "requests refused windows live")
+# The headings behind the lines. At the first everything is made anew, and the program ends at the
+# other.
+END = ["# end", "# end"]
 
 
 class Refusals(collections.namedtuple("Refusals", "chance seed next_too at")):
@@ -62,17 +66,15 @@ def build_library(folder):
 
 
 def read_log(text):
-    """Takes apart what the C library wrote: a record for each line, and how many blocks are left,
-    or None where the end is missing."""
-    records, blocks = [], None
+    """Takes apart what the C library wrote: a record for each line, and whether its end is there."""
+    records, is_ended = [], False
     for line in text.splitlines():
-        words = line.split()
-        if words[0] == "blocks":
-            blocks = int(words[1])
+        if line == "end":
+            is_ended = True
         else:
-            windows, requests, *refused = map(int, words)
-            records.append(Record(requests, tuple(refused), windows))
-    return records, blocks
+            windows, live, requests, *refused = map(int, line.split())
+            records.append(Record(requests, tuple(refused), windows, live))
+    return records, is_ended
 
 
 class Driver:
@@ -88,16 +90,18 @@ class Driver:
             env = {"LD_PRELOAD": self.library, "REQUESTS_LOG": str(log), **refusals.environment()}
             try:
                 ran = subprocess.run(
-                    [self.program], input="".join(line + "\n" for line in lines).encode(), env=env,
+                    [self.program], input="".join(f"{line}\n" for line in (*lines, *END)).encode(), env=env,
                     capture_output=True, timeout=SECONDS, check=False)
             except subprocess.TimeoutExpired:
-                return Ran([], None, 0, f"it has not ended after {SECONDS} s")
-            records, blocks = read_log(log.read_text() if log.exists() else "")
-        fault = "" if blocks is not None else "the C library wrote nothing at its end"
+                return Ran([], None, None, f"it has not ended after {SECONDS} s")
+            records, is_ended = read_log(log.read_text() if log.exists() else "")
+        fault = "" if is_ended else "the C library wrote nothing at its end"
         if ran.returncode != 0:
             fault = f"it ended with status {ran.returncode}: {ran.stderr[:200]!r}"
         printed = ran.stdout.decode(errors="replace").split("\n")[:-1]
-        return Ran(printed, records, blocks or 0, fault)
+        if fault or printed[-2:] != END or len(records) != len(printed):
+            return Ran(printed, records, None, fault)
+        return Ran(printed[:-2], records[:-2], records[-2].live, fault)
 
 
 def find_program(crate):

@@ -3,9 +3,9 @@
  * line begins, 4242 where a window opens and 4243 where it closes. Only requests within a window
  * count.
  *
- * REQUESTS_LOG=FILE      what is written: for each line how many windows it had, how many requests
- *                        it made, and the numbers of those refused; at the end how many blocks were
- *                        asked for in a window and never given back
+ * REQUESTS_LOG=FILE      what is written: for each line how many windows it had, how many blocks
+ *                        there were at its end, asked for in a window or not, how many requests it
+ *                        made, and the numbers of those refused; and `end` at the end
  * REFUSE_AT=LINE:N,..    refuses the Nth request of a line
  * REFUSE_CHANCE=0.05     refuses each with this chance, drawn from REFUSE_SEED=N
  * REFUSE_NEXT_TOO=1      refuses each behind a refused one in a line with a chance of 1/2
@@ -33,10 +33,10 @@ void _exit(int status);
 enum { LINE_BEGINS = 4240, WINDOW_OPENS = 4242, WINDOW_CLOSES = 4243 };
 enum { MOST_NAMED = 4096, MOST_OF_LINE = 4096, CREATE_AND_WRITE = 01 | 0100 | 01000 };
 
-/* What stands before each block: whether it was asked for in a window, and its bytes, or 0 for more
- * than COUNT_UP_TO. A block for which more than 16 bytes of alignment are asked would have none: the
- * program asks for no such block. */
-typedef struct { u64 is_counted, bytes; } Head;
+/* What stands before each block: its bytes, or 0 for more than COUNT_UP_TO, and 8 bytes more, since a
+ * block is aligned to 16. One for which more alignment is asked would have none: the program asks for
+ * no such block. */
+typedef struct { u64 bytes, unused; } Head;
 
 /* The requests that REFUSE_AT names. */
 static struct { u64 line, request; } named[MOST_NAMED];
@@ -45,7 +45,7 @@ static double chance;
 static int refuses_next_too;
 
 static int log_file = -1, is_open;
-static u64 line, blocks;
+static u64 line, live;
 /* Of the line. */
 static u64 requests, windows, refused[MOST_OF_LINE], refused_count;
 /* Of the requests for few bytes. */
@@ -55,7 +55,7 @@ static u64 most_bytes, small_requests, held, most_held;
 static void end_line(void)
 {
     if (line) {
-        dprintf(log_file, "%lu %lu", windows, requests);
+        dprintf(log_file, "%lu %lu %lu", windows, live, requests);
         for (u64 place = 0; place < refused_count; place++)
             dprintf(log_file, " %lu", refused[place]);
         dprintf(log_file, "\n");
@@ -103,12 +103,11 @@ static int is_refused(void)
 }
 
 /* Returns the block behind a head, if there is one. */
-static void *block_of(Head *head, u64 is_counted, size_t bytes)
+static void *block_of(Head *head, size_t bytes)
 {
     if (!head)
         return 0;
-    head->is_counted = is_counted;
-    blocks += is_counted;
+    live++;
     head->bytes = bytes <= most_bytes ? bytes : 0;
     small_requests += bytes <= most_bytes;
     held += head->bytes;
@@ -119,38 +118,36 @@ static void *block_of(Head *head, u64 is_counted, size_t bytes)
 
 void *malloc(size_t bytes)
 {
-    int is_counted = !is_mark(bytes) && is_open;
-    if (is_counted && is_refused())
+    if (!is_mark(bytes) && is_open && is_refused())
         return 0;
-    return block_of(__libc_malloc(sizeof(Head) + bytes), is_counted, bytes);
+    return block_of(__libc_malloc(sizeof(Head) + bytes), bytes);
 }
 
 void *calloc(size_t count, size_t bytes)
 {
     if (is_open && is_refused())
         return 0;
-    return block_of(__libc_calloc(1, sizeof(Head) + count * bytes), is_open, count * bytes);
+    return block_of(__libc_calloc(1, sizeof(Head) + count * bytes), count * bytes);
 }
 
 void *realloc(void *block, size_t bytes)
 {
     if (!block)
         return malloc(bytes);
-    int is_counted = !is_mark(bytes) && is_open;
-    if (is_counted && is_refused())
+    if (!is_mark(bytes) && is_open && is_refused())
         return 0;
     Head was = *((Head *)block - 1);
     Head *head = __libc_realloc((Head *)block - 1, sizeof(Head) + bytes);
-    blocks -= head ? was.is_counted : 0;
+    live -= head != 0;
     held -= head ? was.bytes : 0;
-    return block_of(head, was.is_counted || is_counted, bytes);
+    return block_of(head, bytes);
 }
 
 void free(void *block)
 {
     if (block) {
         Head *head = (Head *)block - 1;
-        blocks -= head->is_counted;
+        live--;
         held -= head->bytes;
         __libc_free(head);
     }
@@ -185,5 +182,5 @@ __attribute__((destructor)) static void end(void)
     end_line();
     if (most_bytes)
         dprintf(log_file, "small %lu %lu\n", small_requests, most_held);
-    dprintf(log_file, "blocks %lu\n", blocks);
+    dprintf(log_file, "end\n");
 }
