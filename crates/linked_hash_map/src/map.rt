@@ -76,11 +76,12 @@ pub enum Mode {
 /// - Only calls that return a `Result` allocate. An error changes nothing, except that an extension
 ///   keeps what it inserted before. Nothing panics.
 /// - A lookup compares its key only with those of its bucket that have its hash. A call that is
-///   handed no key hashes and compares none, except `clone`, comparisons, `hash` and `sort_keys`.
+///   handed no key hashes and compares none, except `append`, `clone`, comparisons, `hash` and
+///   `sort_keys`.
 /// - Costs are averages: if all keys hash alike, each lookup and each removal of a pair is O(n).
-/// - Only insertions, `reserve` and `shrink_to_fit` change the capacity, and no removal frees
-///   memory. There are as many buckets as the capacity, rounded up to a power of two. A change of
-///   their number rehashes all pairs, in O(n).
+/// - Only insertions, `append`, `reserve` and `shrink_to_fit` change the capacity, and no removal
+///   frees memory. There are as many buckets as the capacity, rounded up to a power of two. A change
+///   of their number rehashes all pairs, in O(n).
 ///
 /// # Examples
 ///
