@@ -43,8 +43,8 @@ pub const LIMIT: usize = 576460752303423488;
 /// keys that strangers choose use `RandomState`.
 pub type DefaultHashBuilder = BuildHasherDefault<FoldHasher>;
 
-/// Whether inserting a present key moves its pair to the back. A new map is in `Touch`, as the
-/// original always is.
+/// Whether inserting a present key moves its pair, to the back or by `insert_front` to the front. A
+/// new map is in `Touch`, as the original always is.
 ///
 /// # Examples
 ///
@@ -60,7 +60,7 @@ pub type DefaultHashBuilder = BuildHasherDefault<FoldHasher>;
 /// ```
 #[derive(Clone, Copy, Debug, PartialEq)]
 pub enum Mode {
-    /// Moves the pair to the back.
+    /// Moves the pair.
     Touch,
     /// Leaves the pair in its place.
     Keep,
@@ -69,7 +69,7 @@ pub enum Mode {
 /// A hash map that keeps its pairs in insertion order.
 ///
 /// A new key goes to the back, and so does a present key that is inserted again, except in
-/// [`Mode::Keep`].
+/// [`Mode::Keep`] and by [`insert_front`](LinkedHashMap::insert_front).
 ///
 /// For all calls, with n the number of pairs:
 ///
@@ -101,7 +101,7 @@ pub struct LinkedHashMap<K: Eq + Hash, V, S: BuildHasher = DefaultHashBuilder> {
     hasher: S,
     // Where a cursor or an entry stands.
     visit: Visit<K, V>,
-    // Whether inserting a present key moves its pair to the back.
+    // Whether inserting a present key moves its pair.
     mode: Mode,
 }
 
