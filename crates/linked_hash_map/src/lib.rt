@@ -44,8 +44,8 @@
 //! - Reorder: `move_to_back`, `move_to_front`, `move_before`, `move_after`, `rotate_left`,
 //!   `reverse`, `sort_by`, `sort_by_key`, `sort_keys`.
 //! - Iterate: `iter`, `iter_mut`, `keys`, `values`, `values_mut`, `into_iter`, `into_keys`,
-//!   `into_values`; `iter_from` or `iter_back_from` from the pair of a key on; `entries` or `visit`
-//!   to remove or move pairs on the way.
+//!   `into_values`; `iter_from` or `iter_back_from`, in an `Option`, from the pair of a key on;
+//!   `entries` or `visit` to remove or move pairs on the way.
 //! - Memory: `capacity`, `reserve`, `shrink_to_fit`.
 //! - Besides: [`replay`] runs commands, and [`sessions`] has a table with a limit on weights.
 //!
