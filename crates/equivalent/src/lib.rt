@@ -30,6 +30,84 @@ use std::rc::RcStr;
 /// ages.insert(String::from_str(rt.alloc(), "Zoe")?, 31)?;
 /// assert_eq!(rt; ages.get("Zoe"), Some(&31));
 /// ```
+///
+/// An implementation defines ghost members, which even `rt try` asks for: which keys it looks up,
+/// and proofs that it is hashed as they are and looks up what equals them. So does a `PartialEq`,
+/// `Eq` or `Hash` that is not derived. Here pages are equal if their numbers are, and a number
+/// looks up a page.
+///
+/// ```rust
+/// use linked_hash_map::{Equivalent, LinkedHashMap};
+/// use std::hash::{Hash, Hasher};
+///
+/// #[derive(Clone, Copy, Debug)]
+/// struct Page {
+///     number: u64,
+///     visits: u64,
+/// }
+///
+/// impl PartialEq for Page {
+///     ghost use Rattle.std.specs.Prelude.{◌==◌};
+///     ghost use Rattle.std.specs.Cmp.Rules.{comparing};
+///     ghost use Rattle.std.proofs.Common.{rules};
+///
+///     ghost eq = { λ page other. page.number == other.number };
+///
+///     ghost laws = { Prim.search (comparing, rules) };
+///
+///     fn eq(&self, other: &Page) -> bool {
+///         self.number == other.number
+///     }
+/// }
+///
+/// impl Eq for Page {
+///     ghost use Rattle.std.specs.Cmp.Rules.{comparing};
+///     ghost use Rattle.std.proofs.Common.{rules};
+///
+///     ghost laws = { Prim.search (comparing, rules) };
+/// }
+///
+/// impl Hash for Page {
+///     ghost use Rattle.std.specs.Hash as fed;
+///     ghost use Rattle.std.specs.Cmp.Rules.{hashing};
+///     ghost use Rattle.std.proofs.Common.{rules};
+///
+///     ghost hash_input = { λ page. fed.u64 page.number };
+///
+///     ghost respects_eq = { Prim.search (hashing, rules) };
+///
+///     fn hash<H: Hasher>(&self, state: &mut H) {
+///         self.number.hash(state);
+///     }
+/// }
+///
+/// #[derive(Clone, Copy, PartialEq, Eq, Hash)]
+/// struct Number {
+///     number: u64,
+/// }
+///
+/// impl Equivalent<Page> for Number {
+///     ghost use Rattle.std.specs.Hash as fed;
+///     ghost use Rattle.std.specs.Prelude.{◌==◌};
+///     ghost use Rattle.std.proofs.Common.{ap};
+///     ghost use Rattle.std.proofs.lemmas.Bool.{eqb-true};
+///
+///     ghost equivalent = { λ it page. it.number == page.number };
+///
+///     ghost respects_hash = { λ it page same. ap fed.u64 (eqb-true it.number page.number same) };
+///
+///     ghost respects_eq = { λ it page other same.
+///         ap (λ n. n == other.number) (eqb-true it.number page.number same) };
+///
+///     fn equivalent(&self, page: &Page) -> bool {
+///         self.number == page.number
+///     }
+/// }
+///
+/// let mut pages = LinkedHashMap::new(rt.alloc());
+/// pages.insert(Page { number: 7, visits: 0 }, "news")?;
+/// assert_eq!(rt; pages.get(Number { number: 7 }), Some(&"news"));
+/// ```
 pub trait Equivalent<K: Eq + Hash>: Copy + Hash {
     // Whether a value looks up a key.
     ghost equivalent: { Self → K → Bool };

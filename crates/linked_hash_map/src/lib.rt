@@ -33,9 +33,9 @@
 //!
 //! - Create: `new`, `with_capacity`, `with_hasher`, `from_iter`, `.collect(alloc)`, `clone`.
 //! - Insert: `insert`, `insert_front`, `extend`, `extend_refs`, or by an [`Entry`];
-//!   `insert_within_capacity` if there is room; `append` moves all pairs of another map. After
-//!   `set_mode(Mode::Keep)` a present key keeps its place. `replace_key` stores a key in place of
-//!   one that is the same.
+//!   `insert_within_capacity` if there is room; `append` moves all pairs of another map, or none.
+//!   After `set_mode(Mode::Keep)` a present key keeps its place. `replace_key` stores a key in place
+//!   of one that is the same.
 //! - Look up: `get`, `get_key_value`, `get_mut`, `contains_key`, `map[&key]`, `front`, `back`,
 //!   `front_mut`, `back_mut`, or `get_refresh`, which moves the pair to the back. [`Equivalent`]
 //!   has what a lookup takes: a reference to a key, or `&str` for a `String`.
@@ -44,19 +44,19 @@
 //! - Reorder: `move_to_back`, `move_to_front`, `move_before`, `move_after`, `rotate_left`,
 //!   `reverse`, `sort_by`, `sort_by_key`, `sort_keys`.
 //! - Iterate: `iter`, `iter_mut`, `keys`, `values`, `values_mut`, `into_iter`, `into_keys`,
-//!   `into_values`; `iter_from` or `iter_back_from` from the pair of a key on; `entries` or `visit`
-//!   to remove or move pairs on the way.
+//!   `into_values`; `iter_from` or `iter_back_from`, in an `Option`, from the pair of a key on;
+//!   `entries` or `visit` to remove or move pairs on the way.
 //! - Memory: `capacity`, `reserve`, `shrink_to_fit`.
 //! - Besides: [`replay`] runs commands, and [`sessions`] has a table with a limit on weights.
 //!
 //! # Costs and refusals
 //!
 //! Lookups, insertions and removals are O(1) on average, and O(n) if all keys hash alike. Below the
-//! capacity no insertion allocates or fails; a refused one hands back its pair. A call that
-//! allocates returns a `Result`, and an error changes nothing, except that an extension keeps what
-//! it inserted before. By `?` an error becomes an `io::Error` or an `AllocError` too, except
-//! [`PutRefused`](sessions::PutRefused), which may not be for want of memory. Nothing panics.
-//! [`LinkedHashMap`] says more.
+//! capacity no insertion allocates or fails, except `append`; a refused one hands back its pair,
+//! and a refused `append` moves none. A call that allocates returns a `Result`, and an error
+//! changes nothing, except that an extension keeps what it inserted before. By `?` an error becomes
+//! an `io::Error` or an `AllocError` too, except [`PutRefused`](sessions::PutRefused), which may
+//! not be for want of memory. Nothing panics. [`LinkedHashMap`] says more.
 //!
 //! `docs/PROMISES.md` says what is proved, and `docs/PROVING.md` how callers use contracts.
 #![tactic(auto)]

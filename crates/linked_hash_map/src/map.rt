@@ -43,8 +43,8 @@ pub const LIMIT: usize = 576460752303423488;
 /// keys that strangers choose use `RandomState`.
 pub type DefaultHashBuilder = BuildHasherDefault<FoldHasher>;
 
-/// Whether inserting a present key moves its pair to the back. A new map is in `Touch`, as the
-/// original always is.
+/// Whether inserting a present key moves its pair, to the back or by `insert_front` to the front. A
+/// new map is in `Touch`, as the original always is.
 ///
 /// # Examples
 ///
@@ -60,7 +60,7 @@ pub type DefaultHashBuilder = BuildHasherDefault<FoldHasher>;
 /// ```
 #[derive(Clone, Copy, Debug, PartialEq)]
 pub enum Mode {
-    /// Moves the pair to the back.
+    /// Moves the pair.
     Touch,
     /// Leaves the pair in its place.
     Keep,
@@ -69,18 +69,19 @@ pub enum Mode {
 /// A hash map that keeps its pairs in insertion order.
 ///
 /// A new key goes to the back, and so does a present key that is inserted again, except in
-/// [`Mode::Keep`].
+/// [`Mode::Keep`] and by [`insert_front`](LinkedHashMap::insert_front).
 ///
 /// For all calls, with n the number of pairs:
 ///
 /// - Only calls that return a `Result` allocate. An error changes nothing, except that an extension
 ///   keeps what it inserted before. Nothing panics.
 /// - A lookup compares its key only with those of its bucket that have its hash. A call that is
-///   handed no key hashes and compares none, except `clone`, comparisons, `hash` and `sort_keys`.
+///   handed no key hashes and compares none, except `append`, `clone`, comparisons, `hash` and
+///   `sort_keys`.
 /// - Costs are averages: if all keys hash alike, each lookup and each removal of a pair is O(n).
-/// - Only insertions, `reserve` and `shrink_to_fit` change the capacity, and no removal frees
-///   memory. There are as many buckets as the capacity, rounded up to a power of two. A change of
-///   their number rehashes all pairs, in O(n).
+/// - Only insertions, `append`, `reserve` and `shrink_to_fit` change the capacity, and no removal
+///   frees memory. There are as many buckets as the capacity, rounded up to a power of two. A change
+///   of their number rehashes all pairs, in O(n).
 ///
 /// # Examples
 ///
@@ -100,7 +101,7 @@ pub struct LinkedHashMap<K: Eq + Hash, V, S: BuildHasher = DefaultHashBuilder> {
     hasher: S,
     // Where a cursor or an entry stands.
     visit: Visit<K, V>,
-    // Whether inserting a present key moves its pair to the back.
+    // Whether inserting a present key moves its pair.
     mode: Mode,
 }
 

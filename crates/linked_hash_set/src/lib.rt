@@ -31,7 +31,7 @@
 //!
 //! # Calls by task
 //!
-//! - Create: `new`, `with_capacity`, `with_hasher`, `from_iter`, `clone`.
+//! - Create: `new`, `with_capacity`, `with_hasher`, `from_iter`, `.collect(alloc)`, `clone`.
 //! - Insert: `insert`, `extend`, `get_or_insert` and `get_or_insert_with`, which move a present
 //!   item to the back; `insert_front`, which moves it to the front; `insert_if_absent` and
 //!   `replace`, which leave it in its place. `append` moves all items of another set.
@@ -42,7 +42,8 @@
 //!   `sort_by`.
 //! - Operate on two sets: `difference`, `symmetric_difference`, `intersection`, `union`,
 //!   `is_subset`, `is_superset`, `is_disjoint`, `==`.
-//! - Iterate: `iter`, `into_iter`; `iter_from` or `iter_back_from` from an item on.
+//! - Iterate: `iter`, `into_iter`; `iter_from` or `iter_back_from`, in an `Option`, from an item
+//!   on.
 //! - Memory: `capacity`, `reserve`, `shrink_to_fit`.
 //!
 //! # The two originals

@@ -27,7 +27,8 @@ use std::marker::Model;
 /// A hash set that keeps its items in insertion order.
 ///
 /// A new item goes to the back, and so does a present one that is inserted again; the stored item
-/// stays. Items are the same if they are equal.
+/// stays. `insert_front`, `insert_if_absent` and `replace` differ. Items are the same if they are
+/// equal.
 ///
 /// For all calls, with n the number of items:
 ///

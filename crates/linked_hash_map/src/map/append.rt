@@ -1,4 +1,4 @@
-//! Moves of all pairs of another map behind those of a map.
+//! Insertion of all pairs of another map.
 ghost use Rattle.std.specs.Prelude.{◌≡◌, ◌<◌, ◌≤◌, [], not, is_some, length, count_by, max, IsErrOf, ◌↔◌, OnOk, OnErr};
 ghost use Rattle.std.specs.Map.{keys_of};
 ghost use Rattle.linked_hash_map.specs.Pairs.{find};
@@ -14,9 +14,9 @@ use std::hash::{BuildHasher, Hash};
 
 impl<K: Eq + Hash, V, S: BuildHasher> LinkedHashMap<K, V, S> {
     /// Moves all pairs of another map to the back, in their order, each as
-    /// [`insert`](LinkedHashMap::insert) does: for a present key the stored key stays, and the new
-    /// key and the old value are dropped. The other map is then empty and keeps its capacity. A
-    /// visit of either map ends.
+    /// [`insert`](LinkedHashMap::insert) does: for a present key the stored key stays, the new key
+    /// and the old value are dropped, and in [`Mode::Keep`](crate::Mode::Keep) the pair keeps its
+    /// place. The other map is then empty and keeps its capacity. A visit of either map ends.
     ///
     /// It first raises the capacity to exactly the new number of pairs, if it is below that, and
     /// returns `TooLarge` exactly if that number is above [`LIMIT`], or `NoRoom` if an allocation

@@ -72,8 +72,8 @@ impl<K: Eq + Hash, V, S: BuildHasher> LinkedHashMap<K, V, S> {
 
     /// Moves the pair of a key right before that of another, in both modes, and returns whether
     /// both are present, in O(1). If one is absent, nothing changes. A pair that is already there
-    /// stays, and so does one beside itself. The others keep their order. Hashes each key once at
-    /// most, and allocates nothing.
+    /// stays, and so does one beside itself, but a visit ends. The others keep their order. Hashes
+    /// each key once at most, and allocates nothing.
     ///
     /// # Examples
     ///
@@ -104,8 +104,8 @@ impl<K: Eq + Hash, V, S: BuildHasher> LinkedHashMap<K, V, S> {
 
     /// Moves the pair of a key right after that of another, in both modes, and returns whether both
     /// are present, in O(1). If one is absent, nothing changes. A pair that is already there stays,
-    /// and so does one beside itself. The others keep their order. Hashes each key once at most,
-    /// and allocates nothing.
+    /// and so does one beside itself, but a visit ends. The others keep their order. Hashes each
+    /// key once at most, and allocates nothing.
     ///
     /// # Examples
     ///

@@ -12,7 +12,8 @@ use std::hash::{BuildHasher, Hash};
 
 impl<K: Eq + Hash, V, S: BuildHasher> LinkedHashMap<K, V, S> {
     /// Moves the pair of a key to the back, in both modes, and returns whether it is present, in
-    /// O(1). The others keep their order. Hashes the key once.
+    /// O(1). If it is, a visit ends, even if the pair is there already. The others keep their
+    /// order. Hashes the key once.
     ///
     /// # Examples
     ///
@@ -48,7 +49,8 @@ impl<K: Eq + Hash, V, S: BuildHasher> LinkedHashMap<K, V, S> {
     }
 
     /// Moves the pair of a key to the front, in both modes, and returns whether it is present, in
-    /// O(1). The others keep their order. Hashes the key once.
+    /// O(1). If it is, a visit ends, even if the pair is there already. The others keep their
+    /// order. Hashes the key once.
     ///
     /// # Examples
     ///
@@ -86,7 +88,8 @@ impl<K: Eq + Hash, V, S: BuildHasher> LinkedHashMap<K, V, S> {
     }
 
     /// Moves the first `count` pairs behind the others, in order, in O(min(count, len - count)).
-    /// `count` has to be proved at most the length: std's sequences panic on others. Hashes no key.
+    /// `count` has to be proved at most the length: std's sequences panic on others. Hashes no key,
+    /// and ends a visit.
     ///
     /// # Examples
     ///
