@@ -37,6 +37,7 @@ pub mod Retained
 pub mod Rounds
 pub mod Rules
 pub mod Sessions
+pub mod Sorts
 pub mod TextCounts
 pub mod TextLookups
 pub mod Texts

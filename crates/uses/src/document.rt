@@ -1,7 +1,7 @@
 //! A document: fields with names, in order.
 ghost use Rattle.std.specs.Prelude.{◌≡◌, ◌∷◌, ◌++◌, [], Some, None, IsSome, IsTrue, IsFalse, map, if◌then◌else◌, option_copied, false, reverse, IfOk, OnOk, OnErr, IfErr};
 ghost use Rattle.std.specs.Bool.{Decides};
-ghost use Rattle.std.specs.List.Sorted.{IsPermutation, IsSorted};
+ghost use Rattle.std.specs.List.Sorted.{IsPermutation, IsSorted, IsSortedByKey};
 ghost use Rattle.std.specs.Map.{keys_of};
 ghost use Rattle.linked_hash_map.specs.Pairs.{find, value_at, set_value, without};
 
@@ -99,6 +99,17 @@ impl<K: Eq + Hash, V> Document<K, V> {
             ≡ value_at K.eq self.old.fields.pairs name }
     {
         self.fields.sort_keys();
+    }
+
+    /// Sorts the fields by their values.
+    pub fn sort_by_value(&mut self)
+    where
+        V: Ord,
+        ensures sorted { IsSortedByKey (λ field. field.1) V.cmp self.new.fields.pairs }
+        ensures same { IsPermutation self.old.fields.pairs self.new.fields.pairs }
+    {
+        self.fields
+            .sort_by(|_name, value, _other, other_value| value.cmp(other_value));
     }
 
     /// Puts the fields in the opposite order. Each keeps its value.

@@ -1,6 +1,7 @@
 //! A playlist: songs by number, in the order in which they are played.
 ghost use Rattle.std.specs.Prelude.{◌≡◌, ◌++◌, ◌∷◌, ℕ, List, [], Some, None, true, false, filter, filter_map, nat_eq, not, reverse, is_some, ◌&&◌, slice_get, IfErr, IfOk, IsFalse, IsTrue, OnErr, OnOk};
 ghost use Rattle.std.specs.List.{IsDistinct, list_any};
+ghost use Rattle.std.specs.List.Sorted.{IsNonDecreasingBy, IsPermutation};
 ghost use Rattle.std.specs.Map.{keys_of};
 ghost use Rattle.linked_hash_map.specs.Pairs.{find, from, put, to_after, to_before, value_at};
 ghost use Rattle.uses.specs.declared.playlist.Song.{Song};
@@ -152,6 +153,14 @@ impl Playlist {
         for number in order {
             self.songs.move_to_back(number);
         }
+    }
+
+    /// Sorts the songs by how long they are, the shortest first.
+    pub fn sort_by_length(&mut self)
+        ensures sorted { IsNonDecreasingBy (λ song. song.1.seconds) self.new.songs.pairs }
+        ensures same { IsPermutation self.old.songs.pairs self.new.songs.pairs }
+    {
+        self.songs.sort_by_key(|_number, song| song.seconds);
     }
 }
 

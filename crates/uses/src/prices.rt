@@ -1,6 +1,7 @@
 //! A price list.
 ghost use Rattle.std.specs.Prelude.{◌≡◌, nat_eq, option_copied};
 ghost use Rattle.std.specs.Borrow.{sem};
+ghost use Rattle.std.specs.List.Sorted.{IsNonDecreasingBy, IsPermutation};
 ghost use Rattle.std.specs.Map.{keys_of};
 ghost use Rattle.linked_hash_map.specs.Pairs.{value_at, KeysStand};
 ghost use Rattle.linked_hash_map.specs.ValueIterators.{pairs_left, loan_name};
@@ -48,6 +49,16 @@ impl Prices {
         ensures rest { pairs_left result ≡ self.old.items.pairs }
     {
         self.items.iter_mut()
+    }
+
+    /// Sorts the items by their prices, the cheapest first.
+    pub fn sort(&mut self)
+        ensures sorted { IsNonDecreasingBy (λ item. item.1) self.new.items.pairs }
+        ensures same { IsPermutation self.old.items.pairs self.new.items.pairs }
+        ensures year { self.new.year ≡ self.old.year }
+    {
+        self.items
+            .sort_by(|_item, price, _other, other_price| price.cmp(other_price));
     }
 }
 

@@ -1,6 +1,7 @@
 //! Tasks in the order in which they came, from which those that are done leave.
 ghost use Rattle.std.specs.Prelude.{◌≡◌, [], false, filter, nat_eq, nat_lt, not, true, IfOk, IfErr, IfSome, OnOk, OnErr};
 ghost use Rattle.std.specs.List.{IsDistinct};
+ghost use Rattle.std.specs.List.Sorted.{IsPermutation, IsSorted, IsSortedBy};
 ghost use Rattle.linked_hash_map.specs.Pairs.{first, without_first};
 ghost use Rattle.linked_hash_set.specs.Items.{contains, push_if_absent, without};
 
@@ -79,6 +80,17 @@ impl<T: Eq + Hash> Tasks<T> {
     {
         self.open.contains(task)
     }
+
+    /// Sorts the tasks.
+    pub fn sort(&mut self)
+    where
+        T: Ord,
+        ensures sorted { IsSorted T.cmp self.new.open.items }
+        ensures same { IsPermutation self.old.open.items self.new.open.items }
+        ensures distinct { IsDistinct T.eq self.new.open.items }
+    {
+        self.open.sort();
+    }
 }
 
 /// Removes the tasks whose number is `first` or above. The others keep their order.
@@ -88,4 +100,13 @@ pub fn cancel_from(tasks: &mut Tasks<u64>, first: u64)
     ensures distinct { IsDistinct nat_eq tasks.new.open.items }
 {
     tasks.open.retain(|task| *task < first);
+}
+
+/// Sorts the tasks by their numbers, the greatest first.
+pub fn sort_latest_first(tasks: &mut Tasks<u64>)
+    ensures sorted { IsSortedBy (λ task other. nat_lt other task) tasks.new.open.items }
+    ensures same { IsPermutation tasks.old.open.items tasks.new.open.items }
+    ensures distinct { IsDistinct nat_eq tasks.new.open.items }
+{
+    tasks.open.sort_by(|task, other| other.cmp(task));
 }
