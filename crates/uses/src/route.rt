@@ -1,5 +1,5 @@
 //! A route: stops in the order in which they are reached.
-ghost use Rattle.std.specs.Prelude.{◌≡◌, ◌&&◌, ◌||◌, [], ◌∷◌, List, Some, None, length, not, reverse, slice_get, unwrap_or, IfErr, IfOk, IsFalse, IsTrue, OnErr, OnOk};
+ghost use Rattle.std.specs.Prelude.{◌≡◌, ◌&&◌, ◌||◌, [], ◌∷◌, List, Some, None, length, not, option_copied, reverse, slice_get, unwrap_or, IfErr, IfOk, IsFalse, IsTrue, OnErr, OnOk};
 ghost use Rattle.std.specs.List.{AllZip, IsDistinct};
 ghost use Rattle.linked_hash_map.specs.Pairs.{first};
 ghost use Rattle.linked_hash_set.specs.Inserts.{insert_each};
@@ -122,30 +122,29 @@ impl<T: Eq + Hash, S: BuildHasher> Route<T, S> {
     {
         self.stops.reverse();
     }
-}
-
-impl<S: BuildHasher> Route<u64, S> {
-    ghost use Rattle.std.specs.Prelude.{nat_eq};
 
     /// Returns the stop right after one, if there is one.
-    pub fn stop_after(&self, stop: u64) -> Option<u64>
-        ensures after { IsTrue (contains nat_eq self.now.stops.items stop)
-            → result ≡ slice_get (from nat_eq self.now.stops.items stop) 1 }
-        ensures absent { IsFalse (contains nat_eq self.now.stops.items stop) → result ≡ None }
+    pub fn stop_after(&self, stop: &T) -> Option<&T>
+        ensures after { IsTrue (contains T.eq self.now.stops.items stop.now)
+            → option_copied result ≡ slice_get (from T.eq self.now.stops.items stop.now) 1 }
+        ensures absent { IsFalse (contains T.eq self.now.stops.items stop.now)
+            → option_copied result ≡ None }
     {
-        match self.stops.iter_from(&stop) {
+        match self.stops.iter_from(stop) {
             Some(stops) => second(stops),
             None => None,
         }
     }
 
     /// Returns the stop right before one, if there is one.
-    pub fn stop_before(&self, stop: u64) -> Option<u64>
-        ensures before { IsTrue (contains nat_eq self.now.stops.items stop)
-            → result ≡ slice_get (from nat_eq (reverse self.now.stops.items) stop) 1 }
-        ensures absent { IsFalse (contains nat_eq self.now.stops.items stop) → result ≡ None }
+    pub fn stop_before(&self, stop: &T) -> Option<&T>
+        ensures before { IsTrue (contains T.eq self.now.stops.items stop.now)
+            → option_copied result
+            ≡ slice_get (from T.eq (reverse self.now.stops.items) stop.now) 1 }
+        ensures absent { IsFalse (contains T.eq self.now.stops.items stop.now)
+            → option_copied result ≡ None }
     {
-        match self.stops.iter_back_from(&stop) {
+        match self.stops.iter_back_from(stop) {
             Some(stops) => second_back(stops),
             None => None,
         }
@@ -153,23 +152,17 @@ impl<S: BuildHasher> Route<u64, S> {
 }
 
 /// Returns the second stop.
-fn second(mut stops: IterFrom<'_, u64>) -> Option<u64>
-    ensures { result ≡ slice_get stops.entry 1 }
+fn second<'a, T>(mut stops: IterFrom<'a, T>) -> Option<&'a T>
+    ensures { option_copied result ≡ slice_get stops.entry 1 }
 {
     stops.next();
-    match stops.next() {
-        Some(stop) => Some(*stop),
-        None => None,
-    }
+    stops.next()
 }
 
 /// Returns the second stop.
-fn second_back(mut stops: IterBackFrom<'_, u64>) -> Option<u64>
-    ensures { result ≡ slice_get stops.entry 1 }
+fn second_back<'a, T>(mut stops: IterBackFrom<'a, T>) -> Option<&'a T>
+    ensures { option_copied result ≡ slice_get stops.entry 1 }
 {
     stops.next();
-    match stops.next() {
-        Some(stop) => Some(*stop),
-        None => None,
-    }
+    stops.next()
 }
