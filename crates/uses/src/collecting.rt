@@ -94,9 +94,6 @@ pub fn move_all<K: Eq + Hash + Drop, V: Drop, S: BuildHasher, T: BuildHasher>(
 ) -> Result<(), ReserveError>
     ensures all { OnOk result
         (target.new.pairs ≡ insert_each K.eq target.old.mode target.old.pairs others.old.pairs) }
-    ensures values { OnOk result
-        ((key : K) → value_at K.eq target.new.pairs key
-        ≡ option_or (value_at K.eq others.old.pairs key) (value_at K.eq target.old.pairs key)) }
     ensures emptied { OnOk result (others.new.pairs ≡ []) }
     ensures room { OnOk result
         (target.new.capacity ≡ max target.old.capacity (length target.new.pairs)) }
