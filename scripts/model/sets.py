@@ -186,6 +186,15 @@ def from_iter(call, _set):
     return fresh
 
 
+def collect(call, _set):
+    """The error of the trait hands nothing back, so what is refused is dropped."""
+    fresh = collected(call.keys(), call.effects)
+    if isinstance(fresh, Refused):
+        call.effects.drop_key(fresh.key)
+        return call.show("refused")
+    return fresh
+
+
 def extend(call, set_):
     refused = set_.extend(units(call.keys()), call.effects)
     if refused:
@@ -225,7 +234,7 @@ def new_with_capacity(call, _set):
 
 MAKING = {
     "with_hasher": with_hasher, "with_capacity": with_capacity, "from_iter": from_iter,
-    "collect": from_iter, "extend": extend, "extend_refs": extend_refs, "clone": making.clone,
+    "collect": collect, "extend": extend, "extend_refs": extend_refs, "clone": making.clone,
     "emptied": making.emptied, "made_with": making.default, "new": new,
     "new_with_capacity": new_with_capacity,
 }

@@ -6,7 +6,7 @@ use super::output::Output;
 use super::set_fills;
 use super::sets::Set;
 use linked_hash_set::{LinkedHashSet, ReserveError};
-use std::alloc::Global;
+use std::alloc::{AllocError, Global};
 use std::default::{Emptied, MadeWith};
 use std::mem;
 
@@ -33,6 +33,12 @@ fn from_iter<'a>(alloc: Global, line: &mut Line<'a>, set: &mut Set<'a>, output: 
     let mut keys = line.keys();
     let items = (0..count).map(move |_| keys.next_key());
     output.store(set, Set::from_iter(alloc, items));
+}
+
+/// Makes a set of the words by `collect`.
+fn collect<'a>(alloc: Global, line: &mut Line<'a>, set: &mut Set<'a>, output: &mut Output<'a>) {
+    let made: Result<Set<'a>, AllocError> = line.keys().collect(alloc);
+    output.store(set, made);
 }
 
 /// Inserts copies of the items of another set. Each insertion is within a window.
@@ -108,7 +114,7 @@ fn take_in<'a>(
 ) -> bool {
     match name {
         "from_iter" => from_iter(alloc, line, set, output),
-        "collect" => output.store(set, Set::from_iter(alloc, line.keys())),
+        "collect" => collect(alloc, line, set, output),
         "extend" => output.show_refusal(set.extend(line.keys())),
         "extend_refs" => extend_by_copies(set, other, output),
         "clone" => output.store(set, other.clone()),

@@ -40,7 +40,25 @@ pub record IsNewDefault {T S : Type 0} (eq : T → T → Bool) (IsDefault : S �
   pub is_new : IsNew eq s
   pub hasher : IsDefault s.hasher
 
+-- the items went one by one into a new set with the default hasher of its type, which has room for
+-- no more
+pub record CollectsInto {T S : Type 0} (eq : T → T → Bool) (IsDefault : S → Type 0)
+    (given : List T) (new : LinkedSet T S) : Type 0 where
+  pub items : new.items ≡ insert_each eq [] given
+  pub capacity : new.capacity ≡ length new.items
+  pub hasher : IsDefault new.hasher
+  pub valid : IsValid eq new
+
 -- given what becomes an iterator, and the steps of that iterator
+module _ {U I T : Type 0} (becomes : U → I → Type 0) (steps : I → Option T → I → Type 0)
+    (source : U) (eq : T → T → Bool) where
+  -- it gives items, and then this one, which is the same as none of them
+  pub record GivesThenNew (item : T) : Type 0 where
+    pub given : List T
+    pub gives : GivesThen becomes steps source given item
+    pub absent : contains eq given item ≡ false
+
+-- and what the items were and are
 module _ {U I T : Type 0} (becomes : U → I → Type 0) (steps : I → Option T → I → Type 0)
     (source : U) (eq : T → T → Bool) (old new : List T) where
   -- all items that it gives went in one by one

@@ -74,6 +74,7 @@ impl<K: Eq + Hash, V> LruCache<K, V> {
         ensures limit { result.limit ≡ capacity }
         ensures room { result.room ≡ 0 }
         ensures hasher { IsDefaultHashBuilder result.hasher }
+        ensures valid { IsValidCache K.eq result }
     {
         LruCache {
             map: LinkedHashMap::new(alloc),
@@ -99,6 +100,7 @@ impl<K: Eq + Hash, V, S: BuildHasher> LruCache<K, V, S> {
         ensures limit { result.limit ≡ capacity }
         ensures room { result.room ≡ 0 }
         ensures hasher { result.hasher ≡ hasher }
+        ensures valid { IsValidCache K.eq result }
     {
         LruCache {
             map: LinkedHashMap::with_hasher(alloc, hasher),

@@ -1,5 +1,5 @@
 //! Maps that take in what others have.
-ghost use Rattle.std.specs.Prelude.{◌≡◌, ◌≤◌, ◌+◌, ◌-◌, ◌∷◌, ◌++◌, ℕ, [], length, map, filter, not, is_some, take, slice_get, Some, None, IsOk, IfOk, IfErr, OnOk, OnErr};
+ghost use Rattle.std.specs.Prelude.{◌≡◌, ◌≤◌, ◌+◌, ◌-◌, ◌∷◌, ◌++◌, ℕ, [], length, max, map, filter, not, is_some, take, slice_get, Some, None, IsOk, IfOk, IfErr, OnOk, OnErr};
 ghost use Rattle.std.specs.List.{IsDistinct};
 ghost use Rattle.std.specs.Map.{keys_of};
 ghost use Rattle.std.specs.Option.{option_or};
@@ -84,6 +84,23 @@ pub fn merge<K: Eq + Hash + Drop, V: Drop, S: BuildHasher, T: BuildHasher + Drop
 {
     target.extend(others)?;
     Ok(())
+}
+
+/// Moves in the pairs of another map, whose values win, and leaves it empty. The keys then stand as
+/// after `merge`. If there is no memory for all, neither map changes.
+pub fn move_all<K: Eq + Hash + Drop, V: Drop, S: BuildHasher, T: BuildHasher>(
+    target: &mut LinkedHashMap<K, V, S>,
+    others: &mut LinkedHashMap<K, V, T>,
+) -> Result<(), ReserveError>
+    ensures all { OnOk result
+        (target.new.pairs ≡ insert_each K.eq target.old.mode target.old.pairs others.old.pairs) }
+    ensures emptied { OnOk result (others.new.pairs ≡ []) }
+    ensures room { OnOk result
+        (target.new.capacity ≡ max target.old.capacity (length target.new.pairs)) }
+    ensures unchanged { OnErr result (target.new ≡ target.old) }
+    ensures others_unchanged { OnErr result (others.new ≡ others.old) }
+{
+    target.append(others)
 }
 
 /// Makes a map of the pairs of a list, whose keys differ. There is room for them and for no more.

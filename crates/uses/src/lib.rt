@@ -24,6 +24,7 @@ pub mod recent;
 pub mod refusal;
 pub mod replaying;
 pub mod retains;
+pub mod route;
 pub mod tasks;
 pub mod text;
 pub mod window;

@@ -1,9 +1,14 @@
 //! Results of a function, each computed once while the cache has it.
-ghost use Rattle.std.specs.Prelude.{◌≡◌, ◌≤◌, ℕ, [], false, length, Some, IsSome, None, IfSome, nat_eq};
+ghost use Rattle.std.specs.Prelude.{◌≡◌, ◌≤◌, ℕ, List, [], false, length, Some, IsSome, IsTrue, None, IfOk, IfSome, nat_eq};
+ghost use Rattle.linked_hash_map.specs.Clones.{AreClones};
+ghost use Rattle.linked_hash_map.specs.Inserts.{insert_each};
 ghost use Rattle.linked_hash_map.specs.Pairs.{value_at, to_back_as_is};
+ghost use Rattle.lru_cache.specs.Cache.{IsValidCache};
 
+use linked_hash_map::Mode;
 use lru_cache::LruCache;
-use std::alloc::Global;
+use std::alloc::{AllocError, Global};
+use std::hash::{BuildHasher, Hash};
 
 /// A function of numbers, which returns the same for the same number.
 pub trait Function {
@@ -82,4 +87,25 @@ impl<F: Function> Memo<F> {
     {
         self.results.set_capacity(size);
     }
+}
+
+/// Copies a cache. Of pairs whose clones of keys are the same the later replaces the earlier. It is
+/// refused if an allocation or a clone fails.
+pub fn copy_of<K: Eq + Hash + Clone, V: Clone, S: BuildHasher + Clone>(
+    cache: &LruCache<K, V, S>,
+) -> Result<LruCache<K, V, S>, AllocError>
+    ensures pairs { IfOk result (λ copy. (clones : List (K × V))
+        × AreClones K.is_clone V.is_clone cache.now.pairs clones
+        × (copy.pairs ≡ insert_each K.eq Mode.Touch [] clones)) }
+    ensures in_order { ((key : K) (clone : K) → K.is_clone key clone → IsTrue (K.eq key clone))
+        → IfOk result (λ copy. AreClones K.is_clone V.is_clone cache.now.pairs copy.pairs) }
+    ensures same { ((key : K) (clone : K) → K.is_clone key clone → clone ≡ key)
+        → ((value : V) (clone : V) → V.is_clone value clone → clone ≡ value)
+        → IfOk result (λ copy. copy.pairs ≡ cache.now.pairs) }
+    ensures limit { IfOk result (λ copy. copy.limit ≡ cache.now.limit) }
+    ensures room { IfOk result (λ copy. copy.room ≡ length cache.now.pairs) }
+    ensures hasher { IfOk result (λ copy. S.is_clone cache.now.hasher copy.hasher) }
+    ensures valid { IfOk result (IsValidCache K.eq) }
+{
+    cache.clone()
 }

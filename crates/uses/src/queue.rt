@@ -1,10 +1,10 @@
 //! A queue of jobs, each of which waits once.
-ghost use Rattle.std.specs.Prelude.{◌≡◌, [], ◌∷◌, ◌++◌, not, is_some, IsSome, None, option_map, IfOk, IfErr, OnOk, OnErr};
+ghost use Rattle.std.specs.Prelude.{◌≡◌, ◌<◌, ◌≤◌, [], ◌∷◌, ◌++◌, not, is_some, IsSome, IsNone, IsTrue, Some, None, option_map, IfOk, IfErr, IfSome, OnOk, OnErr};
 ghost use Rattle.std.specs.Map.{keys_of};
 ghost use Rattle.std.specs.Map.Iter.{deref};
-ghost use Rattle.linked_hash_map.specs.Pairs.{find, first, last, without_first, without_last};
+ghost use Rattle.linked_hash_map.specs.Pairs.{find, first, key_or, last, set_value, without, without_first, without_last};
 
-use linked_hash_map::{Entry, LinkedHashMap, Refused};
+use linked_hash_map::{Entry, LinkedHashMap, Mode, Refused};
 use std::alloc::Global;
 use std::hash::Hash;
 
@@ -65,6 +65,58 @@ impl<J: Eq + Hash> Queue<J> {
         ensures others { self.new.jobs.pairs ≡ without_last self.old.jobs.pairs }
     {
         self.jobs.pop_back()
+    }
+
+    /// Lets a new job wait before all others, with its weight, and tells whether it is new. In
+    /// `Touch` one that waits already is the next, too. If there is no memory for a new one, it is
+    /// handed back and nothing changes.
+    pub fn add_first(&mut self, job: J, weight: u64) -> Result<bool, Refused<J, u64>>
+    where
+        J: Drop,
+        ensures new { IfOk result (λ new. new ≡ not (is_some (find J.eq self.old.jobs.pairs job))) }
+        ensures pushed { IfOk result (λ new. IsTrue new
+            → self.new.jobs.pairs ≡ (job, weight) ∷ self.old.jobs.pairs) }
+        ensures next { OnOk result (self.old.jobs.mode ≡ Mode.Touch → first self.new.jobs.pairs
+            ≡ Some (key_or job (find J.eq self.old.jobs.pairs job), weight)) }
+
+        ensures handed_back { IfErr result (λ refused.
+            (refused.key ≡ job) × (refused.value ≡ weight)) }
+        ensures unchanged { OnErr result (self.new.jobs ≡ self.old.jobs) }
+    {
+        let old = self.jobs.insert_front(job, weight)?;
+        Ok(old.is_none())
+    }
+
+    /// Takes out the job that has waited longest, if its weight is at most `most`.
+    pub fn next_within(&mut self, most: u64) -> Option<(J, u64)>
+    where
+        J: Drop,
+        ensures job { IfSome result (λ job. first self.old.jobs.pairs ≡ Some job) }
+        ensures within { IfSome result (λ job. job.1 ≤ most) }
+        ensures others { IfSome result (λ job.
+            self.new.jobs.pairs ≡ without J.eq self.old.jobs.pairs job.0) }
+        ensures heavy { IsNone result
+            → IfSome (first self.old.jobs.pairs) (λ job. most < job.1) }
+        ensures stays { IsNone result → self.new.jobs.pairs ≡ self.old.jobs.pairs }
+    {
+        let entry = self.jobs.front_entry()?;
+        if *entry.get() > most {
+            return None;
+        }
+        Some(entry.remove_entry())
+    }
+
+    /// Gives the job that was added last another weight, and returns the one that it had.
+    pub fn weigh_last(&mut self, weight: u64) -> Option<u64>
+        ensures old { result ≡ option_map (λ job. job.1) (last self.old.jobs.pairs) }
+        ensures weight { IfSome (last self.old.jobs.pairs) (λ job.
+            self.new.jobs.pairs ≡ set_value J.eq self.old.jobs.pairs job.0 weight) }
+        ensures none { IsNone result → self.new.jobs.pairs ≡ self.old.jobs.pairs }
+    {
+        let entry = self.jobs.back_entry()?;
+        let old = *entry.get();
+        *entry.into_mut() = weight;
+        Some(old)
     }
 
     /// Shows the job that comes next.

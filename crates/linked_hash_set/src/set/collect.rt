@@ -2,8 +2,7 @@
 
 ghost use Rattle.std.specs.Prelude.{◌≡◌, [], List, false, length, max, IfOk, IfErr, OnOk, OnErr};
 ghost use Rattle.std.specs.Iterator.{IsFiniteIterable};
-ghost use Rattle.linked_hash_map.specs.Inserts.{GivesThen};
-ghost use Rattle.linked_hash_set.specs.Inserts.{InsertsAll, InsertsUntil, IsNew, IsNewDefault};
+ghost use Rattle.linked_hash_set.specs.Inserts.{InsertsAll, InsertsUntil, GivesThenNew, CollectsInto, IsNew, IsNewDefault};
 ghost use Rattle.linked_hash_set.specs.Items.{contains};
 ghost use Rattle.linked_hash_set.specs.Validity.{IsValid};
 
@@ -83,13 +82,36 @@ impl<T: Eq + Hash, S: BuildHasher> LinkedHashSet<T, S> {
         ensures hasher { IfOk result (λ set. S.is_default set.hasher) }
         ensures valid { IfOk result (IsValid T.eq) }
 
-        ensures stopped { IfErr result (λ refused. (given : List T)
-            × GivesThen I.into_iter_gives I.IntoIter.next_gives items given refused.item) }
+        ensures stopped { IfErr result (λ refused.
+            GivesThenNew I.into_iter_gives I.IntoIter.next_gives items T.eq refused.item) }
     {
         let mut set = Self::with_hasher(alloc, S::default());
         match set.extend(items) {
             Ok(()) => Ok(set),
             Err(refused) => Err(refused),
+        }
+    }
+}
+
+/// Collects the items into a set with the default hasher of its type, as the call
+/// [`from_iter`](LinkedHashSet::from_iter) does. If an insertion is refused, all items taken are
+/// dropped.
+///
+/// # Examples
+///
+/// ```rust
+/// let set: LinkedHashSet<char> = ['x', 'y', 'x'].into_iter().collect(rt.alloc())?;
+/// assert_eq!(rt; (set.len(), set.back()), (2, Some(&'x')));
+/// ```
+impl<T: Eq + Hash + Drop, S: BuildHasher + Default + Drop> FromIterator<T> for LinkedHashSet<T, S> {
+    type Alloc = Global;
+
+    ghost from_iter_gives = { CollectsInto T.eq S.is_default };
+
+    fn from_iter<I: IntoIterator<Item = T>>(alloc: Global, items: I) -> Result<Self, AllocError> {
+        match Self::from_iter(alloc, items) {
+            Ok(set) => Ok(set),
+            Err(_refused) => Err(AllocError),
         }
     }
 }

@@ -2,6 +2,7 @@
 
 ghost use Rattle.std.specs.Prelude.{◌≡◌, ◌<◌, ◌≤◌, [], IsErrOf, ◌↔◌, IfOk};
 ghost use Rattle.linked_hash_map.specs.Hashers.{IsDefaultHashBuilder};
+ghost use Rattle.linked_hash_set.specs.Validity.{IsValid};
 
 use super::LinkedHashSet;
 use linked_hash_map::{LIMIT, LinkedHashMap, ReserveError};
@@ -21,6 +22,7 @@ impl<T: Eq + Hash> LinkedHashSet<T> {
         ensures items { result.items ≡ [] }
         ensures capacity { result.capacity ≡ 0 }
         ensures hasher { IsDefaultHashBuilder result.hasher }
+        ensures valid { IsValid T.eq result }
     {
         LinkedHashSet {
             map: LinkedHashMap::new(alloc),
@@ -42,6 +44,7 @@ impl<T: Eq + Hash> LinkedHashSet<T> {
         ensures items { IfOk result (λ set. set.items ≡ []) }
         ensures capacity { IfOk result (λ set. set.capacity ≡ capacity) }
         ensures hasher { IfOk result (λ set. IsDefaultHashBuilder set.hasher) }
+        ensures valid { IfOk result (IsValid T.eq) }
 
         ensures too_large { IsErrOf result ReserveError.TooLarge ↔ (LIMIT < capacity) }
         ensures no_room { IsErrOf result ReserveError.NoRoom → 0 < capacity }
@@ -69,6 +72,7 @@ impl<T: Eq + Hash, S: BuildHasher> LinkedHashSet<T, S> {
         ensures items { result.items ≡ [] }
         ensures capacity { result.capacity ≡ 0 }
         ensures hasher { result.hasher ≡ hasher }
+        ensures valid { IsValid T.eq result }
     {
         LinkedHashSet {
             map: LinkedHashMap::with_hasher(alloc, hasher),
@@ -98,6 +102,7 @@ impl<T: Eq + Hash, S: BuildHasher> LinkedHashSet<T, S> {
         ensures items { IfOk result (λ set. set.items ≡ []) }
         ensures capacity { IfOk result (λ set. set.capacity ≡ capacity) }
         ensures hasher { IfOk result (λ set. set.hasher ≡ hasher) }
+        ensures valid { IfOk result (IsValid T.eq) }
 
         ensures too_large { IsErrOf result ReserveError.TooLarge ↔ (LIMIT < capacity) }
         ensures no_room { IsErrOf result ReserveError.NoRoom → 0 < capacity }

@@ -196,6 +196,7 @@ impl<T: Eq + Hash, S: BuildHasher> LinkedHashSet<T, S> {
             (drain_name result)) }
         ensures rest { drain_rest result ≡ self.old.items }
         ensures valid { IsValid T.eq self.old }
+        ensures stays_valid { IsValid T.eq (record self.old { items = [] }) }
         // Laws of iterators, for the proofs of callers.
         ensures runs { YieldsInOrder (DrainSteps {T = T}) drain_rest }
         ensures runs_back { YieldsInReverse (DrainStepsBack {T = T}) drain_rest }
