@@ -7,6 +7,7 @@ mod caches;
 mod calling;
 mod chains;
 mod compare;
+mod defaults;
 mod drains;
 mod entries;
 mod equivalents;

@@ -105,16 +105,14 @@ impl<K: Eq + Hash, V, S: BuildHasher + Clone> Emptied for LinkedHashMap<K, V, S>
     }
 }
 
-/// Makes an empty map with the default hasher of its type, as `or_default` of the maps of std asks
-/// for. It is in [`Mode::Touch`](crate::Mode::Touch), of capacity 0 and takes no memory.
+/// Makes an empty map with the default hasher of its type, as `or_default` of maps asks for. It is
+/// in [`Mode::Touch`](crate::Mode::Touch), of capacity 0 and takes no memory.
 ///
 /// # Examples
 ///
 /// ```rust
-/// use std::collections::HashMap;
-///
-/// let mut maps: HashMap<char, LinkedHashMap<char, u64>> = HashMap::new(rt.alloc());
-/// maps.entry('a')?.or_default().insert('x', 1)?;
+/// let mut maps: LinkedHashMap<char, LinkedHashMap<char, u64>> = LinkedHashMap::new(rt.alloc());
+/// maps.entry('a').or_default()?.insert('x', 1)?;
 /// assert_eq!(rt; maps.len(), 1);
 /// ```
 impl<K: Eq + Hash, V, S: BuildHasher + Default> MadeWith<Global> for LinkedHashMap<K, V, S> {

@@ -14,6 +14,8 @@ ghost use Rattle.linked_hash_map.specs.Entry.{entry_map_ref, entry_map, is_occup
 use super::{Entry, OccupiedEntry, VacantEntry};
 use crate::error::Refused;
 use crate::map::{LIMIT, LinkedHashMap};
+use std::alloc::Global;
+use std::default::MadeWith;
 use std::hash::{BuildHasher, Hash};
 
 impl<K: Eq + Hash, V, S: BuildHasher> LinkedHashMap<K, V, S> {
@@ -247,29 +249,32 @@ impl<'a, K: Eq + Hash, V, S: BuildHasher> Entry<'a, K, V, S> {
         vacant.insert(value)
     }
 
-    /// Does what `or_insert` does, with the default, which is made only if vacant, before an
-    /// allocation.
+    /// Does what `or_insert` does, with a value that is made only if vacant, before a growth: the
+    /// default of a type that has one, such as a number, and otherwise what
+    /// [`made_with`](MadeWith::made_with) makes on the map's allocator, such as an empty vector,
+    /// text or map.
     ///
     /// # Examples
     ///
     /// ```rust
-    /// let mut map: LinkedHashMap<char, u64> = LinkedHashMap::new(rt.alloc());
-    /// let lent = map.entry('x').or_default()?;
-    /// assert_eq!(rt; *lent, 0);
+    /// let mut map: LinkedHashMap<char, Vec<u64>> = LinkedHashMap::new(rt.alloc());
+    /// map.entry('x').or_default()?.push(1)?;
+    /// map.entry('x').or_default()?.push(2)?;
+    /// assert_eq!(rt; map[&'x'].len(), 2);
     /// ```
     pub fn or_default(self) -> Result<&'a mut V, Refused<K, V>>
     where
-        V: Default,
+        V: MadeWith<Global>,
         ensures* writes_back { sem 𝓛
             (lends_entry K.row V.row S.row S.Hasher.row K.Hash S.BuildHasher S.Hasher.Hasher
             self.entry result) }
         ensures value { IfOk result (λ lent.
-            UnwrapsOrElse (entry_value self.entry) V.is_default lent.now) }
+            UnwrapsOrElse (entry_value self.entry) V.is_made_with lent.now) }
         ensures limit { OnOk result
             (entry_value self.entry ≡ None → length (entry_map self.entry).pairs < LIMIT) }
 
         ensures key_back { IfErr result (λ refused. refused.key ≡ entry_key self.entry) }
-        ensures value_back { IfErr result (λ refused. V.is_default refused.value) }
+        ensures value_back { IfErr result (λ refused. V.is_made_with refused.value) }
         ensures absent { OnErr result (entry_value self.entry ≡ None) }
         ensures full { OnErr result
             (length (entry_map self.entry).pairs ≡ (entry_map self.entry).capacity) }
@@ -280,7 +285,10 @@ impl<'a, K: Eq + Hash, V, S: BuildHasher> Entry<'a, K, V, S> {
     {
         match self {
             Entry::Occupied(occupied) => Ok(occupied.into_mut()),
-            Entry::Vacant(vacant) => vacant.insert(V::default()),
+            Entry::Vacant(vacant) => {
+                let value = V::made_with(vacant.map.allocator());
+                vacant.insert(value)
+            }
         }
     }
 }

@@ -38,13 +38,13 @@ returns-in-Vacant g c =
       (λ i. read_of (name_if_ok (λ lent. lent.ghost_name) r) (λ v. set_or_pushed-absent eq m e.key v e.absent i) m),
       record {
         writes_back = tt;
-        value = IfOk-weaker r _ (λ lent. g.V.Default.is_default lent.now)
-            (λ lent h. subst g.V.Default.is_default (sym h) c.default.ensures)
+        value = IfOk-weaker r _ (λ lent. g.V.MadeWith.is_made_with lent.now)
+            (λ lent h. subst g.V.MadeWith.is_made_with (sym h) c.made_with-value.ensures)
             c.insert.ensures.value;
         limit = OnOk-given _ _ r c.insert.ensures.limit;
         key_back = c.insert.ensures.key_back;
-        value_back = IfErr-weaker r _ (λ refused. g.V.Default.is_default refused.value)
-            (λ refused h. subst g.V.Default.is_default (sym h) c.default.ensures)
+        value_back = IfErr-weaker r _ (λ refused. g.V.MadeWith.is_made_with refused.value)
+            (λ refused h. subst g.V.MadeWith.is_made_with (sym h) c.made_with-value.ensures)
             c.insert.ensures.value_back;
         absent = OnErr-always r refl;
         full = c.insert.ensures.full;
