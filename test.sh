@@ -106,7 +106,7 @@ run_part model-tests scripts/model-tests
 show_part model-tests '^model-tests: [1-9].* requests refused: as the model has it$'
 run_part programs scripts/programs
 words=': 32 rows .* 5 inputs .* 40 res.* 20000 lines .* 200002 lines .* 16384 lines'
-show_part programs "$words .* 3 pipes .* 3 arguments .* 26 workloads .* 250 turns .* 6144 KiB, and not in 2144"
+show_part programs "$words .* 3 pipes .* 3 arguments .* 27 workloads .* 131072 pairs, .* 250 turns .* 6144 KiB, and not in 2144"
 end_if_failed
 cat "$work/table"
 awk '{ sum += $1 } END { printf "%7d  in all, or %.0f minutes\n", sum, sum / 60 }' "$work/table"

@@ -4,6 +4,7 @@ ghost use Rattle.std.specs.Prelude.{◌<◌};
 use super::order::{Order, mix};
 use super::workloads::{Map, get_refresh};
 use linked_hash_map::IterFrom;
+use std::alloc::AllocError;
 
 /// How many pairs an iteration from a key goes over at most.
 const PAIRS: usize = 10;
@@ -43,6 +44,24 @@ pub fn iter_from<O: Order>(map: &Map, order: &mut O, n: u64) -> u64
         }
     }
     sink
+}
+
+/// Inserts absent keys at the front, moves each to the back and to the front again by rotations, and
+/// removes it by the front entry. Returns the exclusive or of the values.
+pub fn ends(map: &mut Map, n: u64) -> Result<u64, AllocError> {
+    let mut sink = 0;
+    for i in 0..n {
+        map.insert_front(mix(n.wrapping_add(i)), i)?;
+        let len = map.len();
+        if 0 < len {
+            map.rotate_left(1);
+            map.rotate_left(len - 1);
+        }
+        if let Some(entry) = map.front_entry() {
+            sink ^= entry.remove();
+        }
+    }
+    Ok(sink)
 }
 
 /// Puts the pairs in the order in which they were inserted, and in random order many of them behind

@@ -1,7 +1,7 @@
 //! The workloads: what is done with a map, a cache or a set of `n` pairs or items, once.
 ghost use Rattle.std.specs.Prelude.{◌<◌};
 
-use super::moves::{iter_from, move_beside, sort, unsort};
+use super::moves::{ends, iter_from, move_beside, sort, unsort};
 use super::order::{Order, mix};
 use super::products::{
     Cache, CacheMap, Set, SetMap, cache_hit, cache_map_hit, fill_cache, fill_cache_map, fill_set,
@@ -67,6 +67,8 @@ pub enum Workload {
     IterFrom,
     /// Sorts the pairs by their keys.
     Sort,
+    /// Inserts each of as many absent keys at the front, rotates the pairs and removes it.
+    Ends,
 }
 
 /// What the workloads are done on. All except one are empty.
@@ -127,7 +129,7 @@ impl Held {
 
 impl Workload {
     /// All workloads, in the order in which they are timed.
-    pub const ALL: [Workload; 26] = [
+    pub const ALL: [Workload; 27] = [
         Workload::SmallFill,
         Workload::SmallLookup,
         Workload::SmallIterate,
@@ -154,6 +156,7 @@ impl Workload {
         Workload::MoveBeside,
         Workload::IterFrom,
         Workload::Sort,
+        Workload::Ends,
     ];
 
     /// Returns the word that names the workload in the output.
@@ -185,6 +188,7 @@ impl Workload {
             Workload::MoveBeside => "move_beside",
             Workload::IterFrom => "iter_from",
             Workload::Sort => "sort",
+            Workload::Ends => "ends",
         }
     }
 
@@ -272,6 +276,7 @@ impl Workload {
             Workload::MoveBeside => Ok(move_beside(&mut held.map, order, n)),
             Workload::IterFrom => Ok(iter_from(&held.map, order, n)),
             Workload::Sort => Ok(sort(&mut held.map)),
+            Workload::Ends => ends(&mut held.map, n),
         }
     }
 }

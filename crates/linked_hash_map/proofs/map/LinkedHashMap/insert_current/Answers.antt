@@ -64,4 +64,4 @@ returns-clause-moves g c =
     ∙ ap (λ v. Some (pair.0, v)) c.replace.ensures.after)
     (record { capacity = keeps.capacity; rechained = keeps.rechained; made = keeps.made })
     (to_visit-put laws c.self.invariant (now g c) (moved g c) w) (elsewhere-put laws c.self.invariant (now g c) (moved g c) w)
-    (invariant_of-self g c))
+    (IsKept-put_current laws c.self.invariant (now g c) (moved g c) keeps.capacity w))
