@@ -7,13 +7,7 @@ use super::output::Output;
 use std::cell::Cell;
 
 /// Inserts the pair of a number, by `put` or by `insert`, and returns whether there was memory.
-fn put<'a>(
-    cache: &mut Cache<'a>,
-    call: &str,
-    number: u64,
-    line: &Line<'a>,
-    output: &mut Output<'a>,
-) -> bool {
+fn put(cache: &mut Cache, call: &str, number: u64, line: &Line, output: &mut Output) -> bool {
     let (key, value) = pair(number, line.counts());
     output.begin();
     if call == "put" {
@@ -24,13 +18,7 @@ fn put<'a>(
 }
 
 /// Inserts the pairs of the numbers below a count. Each call is within a window.
-fn fill_one_by_one<'a>(
-    cache: &mut Cache<'a>,
-    count: u64,
-    call: &str,
-    line: &Line<'a>,
-    output: &mut Output<'a>,
-) {
+fn fill_one_by_one(cache: &mut Cache, count: u64, call: &str, line: &Line, output: &mut Output) {
     for number in 0..count {
         if !put(cache, call, number, line, output) {
             output.show_refused_number(number);
@@ -41,7 +29,7 @@ fn fill_one_by_one<'a>(
 }
 
 /// Inserts the pairs of the numbers below a count, by one call.
-fn fill_at_once<'a>(cache: &mut Cache<'a>, count: u64, line: &Line<'a>, output: &mut Output<'a>) {
+fn fill_at_once(cache: &mut Cache, count: u64, line: &Line, output: &mut Output) {
     let last = Cell::new(0);
     let items = Numbered::new(count, &last, line.counts());
     if output.is_given(cache.extend(items)) {
@@ -52,7 +40,7 @@ fn fill_at_once<'a>(cache: &mut Cache<'a>, count: u64, line: &Line<'a>, output: 
 }
 
 /// Fills a cache by a call, up to a refusal.
-pub fn fill<'a>(cache: &mut Cache<'a>, line: &mut Line<'a>, output: &mut Output<'a>) {
+pub fn fill(cache: &mut Cache, line: &mut Line, output: &mut Output) {
     let (count, call) = (line.number(), line.word());
     if call == "extend" {
         fill_at_once(cache, count, line, output);

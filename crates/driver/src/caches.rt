@@ -15,21 +15,16 @@ use std::alloc::Global;
 use std::mem;
 
 /// The caches that the lines speak of.
-pub type Cache<'a> = LruCache<Key<'a>, Value<'a>, BuildKeyHasher<'a>>;
+pub type Cache = LruCache<Key, Value, BuildKeyHasher>;
 
 /// Makes an empty cache, with the hasher that the next word names and the limit after it.
-fn with_hasher<'a>(
-    alloc: Global,
-    line: &mut Line<'a>,
-    cache: &mut Cache<'a>,
-    output: &mut Output<'a>,
-) {
+fn with_hasher(alloc: Global, line: &mut Line, cache: &mut Cache, output: &mut Output) {
     let hasher = line.hasher();
     output.replace(cache, Cache::with_hasher(alloc, line.size(), hasher));
 }
 
 /// Makes a cache of one pair with the default hasher, inserts two pairs, and appends its text.
-fn show_new<'a>(alloc: Global, number: u64, output: &mut Output<'a>) {
+fn show_new(alloc: Global, number: u64, output: &mut Output) {
     let mut cache = LruCache::new(alloc, 1);
     output.show_refusal(cache.insert(0, 0));
     output.show_refusal(cache.insert(number, 1));
@@ -37,7 +32,7 @@ fn show_new<'a>(alloc: Global, number: u64, output: &mut Output<'a>) {
 }
 
 /// Appends the pair that a put sent away, if one went, or what it handed back.
-fn put<'a>(cache: &mut Cache<'a>, line: &mut Line<'a>, output: &mut Output<'a>) {
+fn put(cache: &mut Cache, line: &mut Line, output: &mut Output) {
     match cache.put(line.key(), line.value()) {
         Ok(Some((key, value))) => output.show_gone_pair(&key, &value),
         Ok(None) => output.push_str("None "),
@@ -46,12 +41,7 @@ fn put<'a>(cache: &mut Cache<'a>, line: &mut Line<'a>, output: &mut Output<'a>) 
 }
 
 /// Runs the call of this name by a key, and returns whether there is one.
-fn run_by_key<'a>(
-    name: &str,
-    line: &mut Line<'a>,
-    cache: &mut Cache<'a>,
-    output: &mut Output<'a>,
-) -> bool {
+fn run_by_key(name: &str, line: &mut Line, cache: &mut Cache, output: &mut Output) -> bool {
     match name {
         "insert" => output.show_result(cache.insert(line.key(), line.value())),
         "put" => put(cache, line, output),
@@ -68,13 +58,13 @@ fn run_by_key<'a>(
 
 /// Runs the call of this name that makes a cache or changes what it has, and returns whether there
 /// is one.
-fn run_on_all<'a>(
+fn run_on_all(
     alloc: Global,
     name: &str,
-    line: &mut Line<'a>,
-    cache: &mut Cache<'a>,
-    other: &Cache<'a>,
-    output: &mut Output<'a>,
+    line: &mut Line,
+    cache: &mut Cache,
+    other: &Cache,
+    output: &mut Output,
 ) -> bool {
     match name {
         "with_hasher" => with_hasher(alloc, line, cache, output),
@@ -92,7 +82,7 @@ fn run_on_all<'a>(
 }
 
 /// Keeps the pairs whose values are not a number modulo 7, and adds the number of the call to each.
-fn retain<'a>(cache: &mut Cache<'a>, line: &mut Line<'a>, output: &mut Output<'a>) {
+fn retain(cache: &mut Cache, line: &mut Line, output: &mut Output) {
     let number = line.number();
     let guard = line.guard();
     let calls = Calls::new(line.counts());
@@ -105,7 +95,7 @@ fn retain<'a>(cache: &mut Cache<'a>, line: &mut Line<'a>, output: &mut Output<'a
 }
 
 /// Drops a cache within a window, and leaves a new one of the limit 0 in its place.
-fn drop_cache<'a>(alloc: Global, cache: &mut Cache<'a>, output: &mut Output<'a>) {
+fn drop_cache(alloc: Global, cache: &mut Cache, output: &mut Output) {
     let empty = Cache::with_hasher(alloc, 0, BuildKeyHasher::default());
     let taken = mem::replace(cache, empty);
     output.drop_within(taken);
@@ -113,12 +103,12 @@ fn drop_cache<'a>(alloc: Global, cache: &mut Cache<'a>, output: &mut Output<'a>)
 
 /// Runs the call of this name that is of the cache alone, and not of the original, and returns
 /// whether there is one.
-fn run_further<'a>(
+fn run_further(
     alloc: Global,
     name: &str,
-    line: &mut Line<'a>,
-    cache: &mut Cache<'a>,
-    output: &mut Output<'a>,
+    line: &mut Line,
+    cache: &mut Cache,
+    output: &mut Output,
 ) -> bool {
     match name {
         "retain" => retain(cache, line, output),
@@ -133,14 +123,14 @@ fn run_further<'a>(
 }
 
 /// Adds a number to every value in place, in a loop over the cache.
-fn add<'a>(cache: &mut Cache<'a>, number: u64) {
+fn add(cache: &mut Cache, number: u64) {
     for (_key, value) in cache {
         value.increase(number);
     }
 }
 
 /// Appends every pair, in a loop over the cache. Each step is within a window.
-fn show_all<'a>(cache: &Cache<'a>, output: &mut Output<'a>) {
+fn show_all(cache: &Cache, output: &mut Output) {
     for (key, value) in cache {
         output.show_pair(key, value);
         output.begin();
@@ -148,7 +138,7 @@ fn show_all<'a>(cache: &Cache<'a>, output: &mut Output<'a>) {
 }
 
 /// Iterates over a clone that is taken.
-fn into_iter<'a>(cache: &Cache<'a>, line: &mut Line<'a>, output: &mut Output<'a>) {
+fn into_iter(cache: &Cache, line: &mut Line, output: &mut Output) {
     match cache.clone() {
         Ok(copy) => iterate_to_the_end(copy.into_iter(), line, output),
         Err(refused) => output.show_refused(refused),
@@ -156,12 +146,7 @@ fn into_iter<'a>(cache: &Cache<'a>, line: &mut Line<'a>, output: &mut Output<'a>
 }
 
 /// Runs the call of this name that iterates, and returns whether there is one.
-fn run_iterator<'a>(
-    name: &str,
-    line: &mut Line<'a>,
-    cache: &mut Cache<'a>,
-    output: &mut Output<'a>,
-) -> bool {
+fn run_iterator(name: &str, line: &mut Line, cache: &mut Cache, output: &mut Output) -> bool {
     match name {
         "iter" => iterate_and_clone(cache.iter(), line, output),
         "iter_mut" => iterate_and_write(cache.iter_mut(), line, output),
@@ -176,13 +161,13 @@ fn run_iterator<'a>(
 
 /// Runs the call of this name, appends what it returns, the limit and the list, and returns whether
 /// there is such a call.
-pub fn run<'a>(
+pub fn run(
     alloc: Global,
     name: &str,
-    line: &mut Line<'a>,
-    cache: &mut Cache<'a>,
-    other: &Cache<'a>,
-    output: &mut Output<'a>,
+    line: &mut Line,
+    cache: &mut Cache,
+    other: &Cache,
+    output: &mut Output,
 ) -> bool {
     let is_known = run_by_key(name, line, cache, output)
         || run_on_all(alloc, name, line, cache, other, output)

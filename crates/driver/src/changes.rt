@@ -7,7 +7,7 @@ use super::output::Output;
 use std::alloc::Global;
 
 /// Inserts a pair, if its key is present or there is room.
-fn insert_within_capacity<'a>(map: &mut Map<'a>, line: &mut Line<'a>, output: &mut Output<'a>) {
+fn insert_within_capacity(map: &mut Map, line: &mut Line, output: &mut Output) {
     let (key, value) = (line.key(), line.value());
     output.end();
     if map.len() < map.capacity() || map.contains_key(&key) {
@@ -19,18 +19,13 @@ fn insert_within_capacity<'a>(map: &mut Map<'a>, line: &mut Line<'a>, output: &m
 }
 
 /// Drops a map within a window, and leaves a new one in its place.
-fn drop_map<'a>(alloc: Global, map: &mut Map<'a>, output: &mut Output<'a>) {
+fn drop_map(alloc: Global, map: &mut Map, output: &mut Output) {
     let taken = take(alloc, map);
     output.drop_within(taken);
 }
 
 /// Runs the call of this name by a key, and returns whether there is one.
-fn run_by_key<'a>(
-    name: &str,
-    line: &mut Line<'a>,
-    map: &mut Map<'a>,
-    output: &mut Output<'a>,
-) -> bool {
+fn run_by_key(name: &str, line: &mut Line, map: &mut Map, output: &mut Output) -> bool {
     match name {
         "insert" => output.show_result(map.insert(line.key(), line.value())),
         "insert_front" => output.show_result(map.insert_front(line.key(), line.value())),
@@ -44,13 +39,7 @@ fn run_by_key<'a>(
 }
 
 /// Runs the call of this name, and returns whether there is one.
-pub fn run<'a>(
-    alloc: Global,
-    name: &str,
-    line: &mut Line<'a>,
-    map: &mut Map<'a>,
-    output: &mut Output<'a>,
-) -> bool {
+pub fn run(alloc: Global, name: &str, line: &mut Line, map: &mut Map, output: &mut Output) -> bool {
     match name {
         "pop_front" => output.show(&map.pop_front()),
         "pop_back" => output.show(&map.pop_back()),

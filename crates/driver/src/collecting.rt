@@ -10,7 +10,7 @@ use linked_hash_map::LIMIT;
 use std::alloc::{AllocError, Global};
 
 /// Makes a map of the pairs of the words, by an iterator that knows how many they are.
-fn from_iter<'a>(alloc: Global, line: &mut Line<'a>, map: &mut Map<'a>, output: &mut Output<'a>) {
+fn from_iter(alloc: Global, line: &mut Line, map: &mut Map, output: &mut Output) {
     let count = line.pairs_left();
     let mut pairs = line.pairs();
     let items = (0..count).map(move |_| pairs.next_pair());
@@ -18,12 +18,7 @@ fn from_iter<'a>(alloc: Global, line: &mut Line<'a>, map: &mut Map<'a>, output: 
 }
 
 /// Makes a map of more pairs than are allowed, of which none is taken.
-fn from_iter_too_large<'a>(
-    alloc: Global,
-    line: &Line<'a>,
-    map: &mut Map<'a>,
-    output: &mut Output<'a>,
-) {
+fn from_iter_too_large(alloc: Global, line: &Line, map: &mut Map, output: &mut Output) {
     let guard = line.guard();
     let counts = line.counts();
     let items = (0..LIMIT + 1).map(move |number| {
@@ -34,30 +29,30 @@ fn from_iter_too_large<'a>(
 }
 
 /// Makes a map of the pairs of the words by `collect`.
-fn collect<'a>(alloc: Global, line: &mut Line<'a>, map: &mut Map<'a>, output: &mut Output<'a>) {
-    let made: Result<Map<'a>, AllocError> = line.pairs().collect(alloc);
+fn collect(alloc: Global, line: &mut Line, map: &mut Map, output: &mut Output) {
+    let made: Result<Map, AllocError> = line.pairs().collect(alloc);
     output.store(map, made);
 }
 
 /// Inserts the pairs of the words by the trait.
-fn extend_trait<'a>(line: &mut Line<'a>, map: &mut Map<'a>, output: &mut Output<'a>) {
-    let extended = <Map<'a> as Extend<(Key<'a>, Value<'a>)>>::extend(map, line.pairs());
+fn extend_trait(line: &mut Line, map: &mut Map, output: &mut Output) {
+    let extended = <Map as Extend<(Key, Value)>>::extend(map, line.pairs());
     output.show_refusal(extended);
 }
 
 /// Inserts copies of the pairs of another map.
-fn extend_by_copies<'a>(map: &mut Map<'a>, other: &Map<'a>, output: &mut Output<'a>) {
+fn extend_by_copies(map: &mut Map, other: &Map, output: &mut Output) {
     let copies = other.iter().map(|(key, value)| (key.copy(), value.copy()));
     output.show_refusal(map.extend(copies));
 }
 
 /// Runs the call of this name that makes a map, and returns whether there is one.
-fn run_to_make<'a>(
+fn run_to_make(
     alloc: Global,
     name: &str,
-    line: &mut Line<'a>,
-    map: &mut Map<'a>,
-    output: &mut Output<'a>,
+    line: &mut Line,
+    map: &mut Map,
+    output: &mut Output,
 ) -> bool {
     match name {
         "from_iter" => from_iter(alloc, line, map, output),
@@ -70,13 +65,13 @@ fn run_to_make<'a>(
 }
 
 /// Runs the call of this name, and returns whether there is one.
-pub fn run<'a>(
+pub fn run(
     alloc: Global,
     name: &str,
-    line: &mut Line<'a>,
-    map: &mut Map<'a>,
-    other: &mut Map<'a>,
-    output: &mut Output<'a>,
+    line: &mut Line,
+    map: &mut Map,
+    other: &mut Map,
+    output: &mut Output,
 ) -> bool {
     match name {
         "extend" => output.show_refusal(map.extend(line.pairs())),

@@ -11,10 +11,10 @@ use std::alloc::Global;
 use std::hash::BuildHasher;
 
 /// A map whose keys are compared as they are.
-type Ordered<'a> = LinkedHashMap<OrderedKey<'a>, Value<'a>>;
+type Ordered = LinkedHashMap<OrderedKey, Value>;
 
 /// Makes a map of the same pairs whose keys are compared as they are.
-pub fn ordered<'a>(alloc: Global, map: &Map<'a>, output: &mut Output<'a>) -> Ordered<'a> {
+pub fn ordered(alloc: Global, map: &Map, output: &mut Output) -> Ordered {
     let mut ordered = Ordered::new(alloc);
     for (key, value) in map.iter() {
         output.note(ordered.insert(key.ordered(), value.copy()));
@@ -23,14 +23,14 @@ pub fn ordered<'a>(alloc: Global, map: &Map<'a>, output: &mut Output<'a>) -> Ord
 }
 
 /// Appends the debug text of a map with the default hasher and the pair of a number.
-fn show_new<'a>(alloc: Global, number: u64, output: &mut Output<'a>) {
+fn show_new(alloc: Global, number: u64, output: &mut Output) {
     let mut map: LinkedHashMap<u64, u64> = LinkedHashMap::new(alloc);
     output.show_refusal(map.insert(number, number));
     output.show(&map);
 }
 
 /// Does so with a map of a capacity, and appends the capacity too.
-fn show_new_with_capacity<'a>(alloc: Global, line: &mut Line<'a>, output: &mut Output<'a>) {
+fn show_new_with_capacity(alloc: Global, line: &mut Line, output: &mut Output) {
     let (capacity, number) = (line.size(), line.number());
     let made: Result<LinkedHashMap<u64, u64>, ReserveError> = LinkedHashMap::with_capacity(
         alloc, capacity,
@@ -45,7 +45,7 @@ fn show_new_with_capacity<'a>(alloc: Global, line: &mut Line<'a>, output: &mut O
 }
 
 /// Appends the debug text of a map over several lines, as that of a string.
-fn show_pretty<'a>(alloc: Global, map: &Map<'a>, output: &mut Output<'a>) {
+fn show_pretty(alloc: Global, map: &Map, output: &mut Output) {
     output.end();
     match format!(in alloc; "{map:#?}") {
         Ok(text) => output.show(&text),
@@ -54,14 +54,14 @@ fn show_pretty<'a>(alloc: Global, map: &Map<'a>, output: &mut Output<'a>) {
 }
 
 /// Appends whether two maps are equal. Each comparison is within a window.
-fn show_equal<'a>(map: &Map<'a>, other: &Map<'a>, output: &mut Output<'a>) {
+fn show_equal(map: &Map, other: &Map, output: &mut Output) {
     output.show(&(*map == *other));
     output.begin();
     output.show(&(*map != *other));
 }
 
 /// Appends which of two maps is less, if they have an order. Each comparison is within a window.
-fn partial_compare<M: PartialOrd>(map: &M, other: &M, output: &mut Output<'_>) {
+fn partial_compare<M: PartialOrd>(map: &M, other: &M, output: &mut Output) {
     output.begin();
     output.show(&map.partial_cmp(other));
     output.begin();
@@ -71,7 +71,7 @@ fn partial_compare<M: PartialOrd>(map: &M, other: &M, output: &mut Output<'_>) {
 }
 
 /// Appends which of two maps of the same pairs is less.
-fn compare<'a>(alloc: Global, map: &Map<'a>, other: &Map<'a>, output: &mut Output<'a>) {
+fn compare(alloc: Global, map: &Map, other: &Map, output: &mut Output) {
     output.end();
     let map = ordered(alloc, map, output);
     let other = ordered(alloc, other, output);
@@ -81,19 +81,19 @@ fn compare<'a>(alloc: Global, map: &Map<'a>, other: &Map<'a>, output: &mut Outpu
 }
 
 /// Appends the hash that a hasher which is not counted gives a map.
-fn show_hash<'a>(map: &Map<'a>, output: &mut Output<'a>) {
+fn show_hash(map: &Map, output: &mut Output) {
     let hasher = BuildKeyHasher::default();
     output.show(&hasher.hash_one(map));
 }
 
 /// Runs the call of this name, and returns whether there is one.
-pub fn run<'a>(
+pub fn run(
     alloc: Global,
     name: &str,
-    line: &mut Line<'a>,
-    map: &Map<'a>,
-    other: &Map<'a>,
-    output: &mut Output<'a>,
+    line: &mut Line,
+    map: &Map,
+    other: &Map,
+    output: &mut Output,
 ) -> bool {
     match name {
         "eq" => show_equal(map, other, output),

@@ -17,15 +17,15 @@ use std::hash::{Hash, Hasher};
 
 /// A key of the same text as another, hashed and compared alike. Its drop is not counted.
 #[derive(Clone, Copy)]
-pub struct CopiedKey<'a> {
+pub struct CopiedKey {
     text: [u8; 8],
     folded: u64,
-    counts: &'a Counts,
+    counts: &'static Counts,
 }
 
-impl<'a> CopiedKey<'a> {
+impl CopiedKey {
     /// Makes a key of a text, and the number of it in lower case.
-    pub fn new(text: [u8; 8], folded: u64, counts: &'a Counts) -> CopiedKey<'a> {
+    pub fn new(text: [u8; 8], folded: u64, counts: &'static Counts) -> CopiedKey {
         CopiedKey {
             text,
             folded,
@@ -34,22 +34,22 @@ impl<'a> CopiedKey<'a> {
     }
 }
 
-impl<'a> PartialEq for CopiedKey<'a> {
+impl PartialEq for CopiedKey {
     ghost eq = { on (λ key. key.folded) ◌==◌ };
 
     ghost laws = { Prim.search (comparing, rules) };
 
-    fn eq(&self, other: &CopiedKey<'a>) -> bool {
+    fn eq(&self, other: &CopiedKey) -> bool {
         self.counts.count(Event::EqKey);
         self.folded == other.folded
     }
 }
 
-impl<'a> Eq for CopiedKey<'a> {
+impl Eq for CopiedKey {
     ghost laws = { Prim.search (comparing, rules) };
 }
 
-impl<'a> Hash for CopiedKey<'a> {
+impl Hash for CopiedKey {
     ghost hash_input = { λ key. fed.u64 key.folded };
 
     ghost respects_eq = { Prim.search (hashing, rules) };
@@ -61,17 +61,17 @@ impl<'a> Hash for CopiedKey<'a> {
 }
 
 /// The text alone.
-impl<'a> fmt::Debug for CopiedKey<'a> {
+impl fmt::Debug for CopiedKey {
     fn fmt<W: fmt::Write>(&self, f: &mut fmt::Formatter<W>) -> fmt::Result {
         write_text(self.text, f)
     }
 }
 
 /// A map of keys and values that are `Copy`.
-type Copied<'a> = LinkedHashMap<CopiedKey<'a>, u64, BuildKeyHasher<'a>>;
+type Copied = LinkedHashMap<CopiedKey, u64, BuildKeyHasher>;
 
 /// Makes a map of the same pairs, with a copy of the hasher.
-fn copied<'a>(alloc: Global, map: &Map<'a>, output: &mut Output<'a>) -> Copied<'a> {
+fn copied(alloc: Global, map: &Map, output: &mut Output) -> Copied {
     let mut made = Copied::with_hasher(alloc, map.hasher().copy());
     for (key, value) in map.iter() {
         output.note(made.insert(key.copied(), value.number()));
@@ -80,7 +80,7 @@ fn copied<'a>(alloc: Global, map: &Map<'a>, output: &mut Output<'a>) -> Copied<'
 }
 
 /// Extends a copy of a map by references to the pairs of a copy of another, and appends it.
-fn extend_by_refs<'a>(alloc: Global, map: &Map<'a>, other: &Map<'a>, output: &mut Output<'a>) {
+fn extend_by_refs(alloc: Global, map: &Map, other: &Map, output: &mut Output) {
     output.end();
     let mut map = copied(alloc, map, output);
     let other = copied(alloc, other, output);
@@ -92,12 +92,12 @@ fn extend_by_refs<'a>(alloc: Global, map: &Map<'a>, other: &Map<'a>, output: &mu
 }
 
 /// Does so by the trait.
-fn extend_by_trait<'a>(alloc: Global, map: &Map<'a>, other: &Map<'a>, output: &mut Output<'a>) {
+fn extend_by_trait(alloc: Global, map: &Map, other: &Map, output: &mut Output) {
     output.end();
     let mut map = copied(alloc, map, output);
     let other = copied(alloc, other, output);
     output.begin();
-    let extended = <Copied<'a> as Extend<(&CopiedKey<'a>, &u64)>>::extend(&mut map, other.iter());
+    let extended = <Copied as Extend<(&CopiedKey, &u64)>>::extend(&mut map, other.iter());
     if !output.is_given(extended) {
         output.push_str("refused ");
     }
@@ -105,13 +105,7 @@ fn extend_by_trait<'a>(alloc: Global, map: &Map<'a>, other: &Map<'a>, output: &m
 }
 
 /// Runs the call of this name, and returns whether there is one.
-pub fn run<'a>(
-    alloc: Global,
-    name: &str,
-    map: &Map<'a>,
-    other: &Map<'a>,
-    output: &mut Output<'a>,
-) -> bool {
+pub fn run(alloc: Global, name: &str, map: &Map, other: &Map, output: &mut Output) -> bool {
     match name {
         "extend_copied_refs" => extend_by_refs(alloc, map, other, output),
         "extend_trait_refs" => extend_by_trait(alloc, map, other, output),

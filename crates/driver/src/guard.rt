@@ -3,14 +3,14 @@
 use super::counts::{Counts, Kind};
 
 /// Counts the drop of the closure that owns it.
-pub struct Guard<'a> {
+pub struct Guard {
     serial: u64,
-    counts: &'a Counts,
+    counts: &'static Counts,
 }
 
-impl<'a> Guard<'a> {
+impl Guard {
     /// Makes one, with the next serial number.
-    pub fn new(counts: &'a Counts) -> Guard<'a> {
+    pub fn new(counts: &'static Counts) -> Guard {
         Guard {
             serial: counts.next_serial(),
             counts,
@@ -21,7 +21,7 @@ impl<'a> Guard<'a> {
     pub fn hold(&self) {}
 }
 
-impl<'a> Drop for Guard<'a> {
+impl Drop for Guard {
     fn drop(self) {
         self.counts.count_drop(Kind::Closure, self.serial);
         let Guard {

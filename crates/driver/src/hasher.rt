@@ -93,15 +93,15 @@ fn first_of(bytes: &[u8]) -> u64
 
 /// Makes the hashers of a choice. One that is made by default counts nothing, and its serial number
 /// is 0.
-pub struct BuildKeyHasher<'a> {
+pub struct BuildKeyHasher {
     choice: Choice,
     serial: u64,
-    counts: Option<&'a Counts>,
+    counts: Option<&'static Counts>,
 }
 
-impl<'a> BuildKeyHasher<'a> {
+impl BuildKeyHasher {
     /// Makes the builder of a choice, with the next serial number.
-    pub fn new(choice: Choice, counts: &'a Counts) -> BuildKeyHasher<'a> {
+    pub fn new(choice: Choice, counts: &'static Counts) -> BuildKeyHasher {
         BuildKeyHasher {
             choice,
             serial: counts.next_serial(),
@@ -110,7 +110,7 @@ impl<'a> BuildKeyHasher<'a> {
     }
 
     /// Makes a copy, which is not counted as a clone.
-    pub fn copy(&self) -> BuildKeyHasher<'a> {
+    pub fn copy(&self) -> BuildKeyHasher {
         BuildKeyHasher {
             choice: self.choice,
             serial: self.serial.wrapping_add(COPY),
@@ -132,7 +132,7 @@ impl<'a> BuildKeyHasher<'a> {
     }
 }
 
-impl<'a> Drop for BuildKeyHasher<'a> {
+impl Drop for BuildKeyHasher {
     fn drop(self) {
         if let Some(counts) = self.counts {
             counts.count_drop(Kind::Hasher, self.serial);
@@ -145,8 +145,8 @@ impl<'a> Drop for BuildKeyHasher<'a> {
     }
 }
 
-impl<'a> Clone for BuildKeyHasher<'a> {
-    fn clone(&self) -> Result<BuildKeyHasher<'a>, AllocError> {
+impl Clone for BuildKeyHasher {
+    fn clone(&self) -> Result<BuildKeyHasher, AllocError> {
         self.count(Event::CloneHasher);
         if self.is_refused() {
             return Err(AllocError);
@@ -155,7 +155,7 @@ impl<'a> Clone for BuildKeyHasher<'a> {
     }
 }
 
-impl<'a> BuildHasher for BuildKeyHasher<'a> {
+impl BuildHasher for BuildKeyHasher {
     type Hasher = KeyHasher;
 
     ghost build_hasher = { λ build. record { choice = build.choice; number = 0; first = 0 } };
@@ -171,8 +171,8 @@ impl<'a> BuildHasher for BuildKeyHasher<'a> {
 }
 
 /// Spreads the keys, and counts nothing.
-impl<'a> Default for BuildKeyHasher<'a> {
-    fn default() -> BuildKeyHasher<'a> {
+impl Default for BuildKeyHasher {
+    fn default() -> BuildKeyHasher {
         BuildKeyHasher {
             choice: Choice::Spread,
             serial: 0,
@@ -182,7 +182,7 @@ impl<'a> Default for BuildKeyHasher<'a> {
 }
 
 /// The choice alone.
-impl<'a> fmt::Debug for BuildKeyHasher<'a> {
+impl fmt::Debug for BuildKeyHasher {
     fn fmt<W: fmt::Write>(&self, f: &mut fmt::Formatter<W>) -> fmt::Result {
         write!(f, "BuildKeyHasher {{ choice: {:?} }}", self.choice)
     }

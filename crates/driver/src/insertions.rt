@@ -8,7 +8,7 @@ use super::refusal::Refusal;
 use std::alloc::Global;
 
 /// Appends a value that is lent, and adds 1 to its number after that, or what is handed back.
-fn show_and_increase<'a>(lent: &mut Lent<'_, 'a>, output: &mut Output<'a>) {
+fn show_and_increase(lent: &mut Lent<'_>, output: &mut Output) {
     match lent {
         Ok(value) => {
             output.show(&**value);
@@ -19,7 +19,7 @@ fn show_and_increase<'a>(lent: &mut Lent<'_, 'a>, output: &mut Output<'a>) {
     }
 }
 
-fn and_modify<'a>(map: &mut Map<'a>, line: &mut Line<'a>, output: &mut Output<'a>) {
+fn and_modify(map: &mut Map, line: &mut Line, output: &mut Output) {
     let (key, value) = (line.key(), line.value());
     let guard = line.guard();
     let zero = line.zero();
@@ -30,7 +30,7 @@ fn and_modify<'a>(map: &mut Map<'a>, line: &mut Line<'a>, output: &mut Output<'a
     show_and_increase(&mut entry.or_insert(zero), output);
 }
 
-fn or_insert_with<'a>(map: &mut Map<'a>, line: &mut Line<'a>, output: &mut Output<'a>) {
+fn or_insert_with(map: &mut Map, line: &mut Line, output: &mut Output) {
     let (key, value) = (line.key(), line.value());
     let guard = line.guard();
     let make = move || {
@@ -40,7 +40,7 @@ fn or_insert_with<'a>(map: &mut Map<'a>, line: &mut Line<'a>, output: &mut Outpu
     show_and_increase(&mut map.entry(key).or_insert_with(make), output);
 }
 
-fn or_insert_with_key<'a>(map: &mut Map<'a>, line: &mut Line<'a>, output: &mut Output<'a>) {
+fn or_insert_with_key(map: &mut Map, line: &mut Line, output: &mut Output) {
     let (key, value) = (line.key(), line.value());
     let guard = line.guard();
     let make = move |_key: &_| {
@@ -56,12 +56,7 @@ fn ask_for_box(alloc: Global) {
 }
 
 /// Inserts what a closure makes that asks for memory too.
-fn or_insert_with_box<'a>(
-    alloc: Global,
-    map: &mut Map<'a>,
-    line: &mut Line<'a>,
-    output: &mut Output<'a>,
-) {
+fn or_insert_with_box(alloc: Global, map: &mut Map, line: &mut Line, output: &mut Output) {
     let (key, value) = (line.key(), line.value());
     let guard = line.guard();
     let make = move || {
@@ -73,13 +68,7 @@ fn or_insert_with_box<'a>(
 }
 
 /// Runs the call of this name, and returns whether there is one.
-pub fn run<'a>(
-    alloc: Global,
-    name: &str,
-    line: &mut Line<'a>,
-    map: &mut Map<'a>,
-    output: &mut Output<'a>,
-) -> bool {
+pub fn run(alloc: Global, name: &str, line: &mut Line, map: &mut Map, output: &mut Output) -> bool {
     match name {
         "or_insert" => show_and_increase(
             &mut map.entry(line.key()).or_insert(line.value()),

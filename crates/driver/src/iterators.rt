@@ -27,7 +27,7 @@ fn step<T, I: DoubleEndedIterator<Item = T>>(items: &mut I, letter: u8) -> Optio
 pub fn iterate<T: Debug + Drop, I: DoubleEndedIterator<Item = T> + ExactSizeIterator>(
     items: &mut I,
     steps: &str,
-    output: &mut Output<'_>,
+    output: &mut Output,
 )
     requires { (items : I) → I.can_next items × I.can_next_back items }
 {
@@ -42,7 +42,7 @@ pub fn iterate<T: Debug + Drop, I: DoubleEndedIterator<Item = T> + ExactSizeIter
 pub fn iterate_and_drop<
     T: Debug + Drop,
     I: DoubleEndedIterator<Item = T> + ExactSizeIterator + Drop,
->(items: I, steps: &str, output: &mut Output<'_>)
+>(items: I, steps: &str, output: &mut Output)
     requires { (items : I) → I.can_next items × I.can_next_back items }
 {
     let mut items = items;
@@ -54,7 +54,7 @@ pub fn iterate_and_drop<
 pub fn iterate_and_clone<
     T: Debug + Drop,
     I: DoubleEndedIterator<Item = T> + ExactSizeIterator + Clone + Drop,
->(items: I, line: &mut Line<'_>, output: &mut Output<'_>)
+>(items: I, line: &mut Line, output: &mut Output)
     requires { (items : I) → I.can_next items × I.can_next_back items }
 {
     let mut items = items;
@@ -70,17 +70,13 @@ pub fn iterate_and_clone<
 }
 
 /// Appends a pair, and writes its value.
-fn write_pair<'a>(key: &Key<'a>, lent: &mut Value<'a>, value: Value<'a>, output: &mut Output<'a>) {
+fn write_pair(key: &Key, lent: &mut Value, value: Value, output: &mut Output) {
     output.show_pair(key, lent);
     output.write(lent, value);
 }
 
 /// Iterates by what `iter_mut` returns, and writes each value that is lent.
-pub fn iterate_and_write<'a>(
-    pairs: IterMut<'_, Key<'a>, Value<'a>>,
-    line: &mut Line<'a>,
-    output: &mut Output<'a>,
-) {
+pub fn iterate_and_write(pairs: IterMut<'_, Key, Value>, line: &mut Line, output: &mut Output) {
     let mut pairs = pairs;
     let steps = line.word();
     let mut values = line.values();
@@ -96,16 +92,16 @@ pub fn iterate_and_write<'a>(
 }
 
 /// Appends a value, and writes it.
-fn write_value<'a>(lent: &mut Value<'a>, value: Value<'a>, output: &mut Output<'a>) {
+fn write_value(lent: &mut Value, value: Value, output: &mut Output) {
     output.show(lent);
     output.write(lent, value);
 }
 
 /// Iterates by what `values_mut` returns, and writes each value that is lent.
-fn iterate_values_and_write<'a>(
-    lent_values: ValuesMut<'_, Key<'a>, Value<'a>>,
-    line: &mut Line<'a>,
-    output: &mut Output<'a>,
+fn iterate_values_and_write(
+    lent_values: ValuesMut<'_, Key, Value>,
+    line: &mut Line,
+    output: &mut Output,
 ) {
     let mut lent_values = lent_values;
     let steps = line.word();
@@ -122,14 +118,14 @@ fn iterate_values_and_write<'a>(
 }
 
 /// Adds a number to every value in place, in a loop over the map.
-fn add<'a>(map: &mut Map<'a>, number: u64) {
+fn add(map: &mut Map, number: u64) {
     for (_key, value) in map {
         value.increase(number);
     }
 }
 
 /// Appends every pair, in a loop over the map. Each step is within a window.
-fn show_all<'a>(map: &Map<'a>, output: &mut Output<'a>) {
+fn show_all(map: &Map, output: &mut Output) {
     for (key, value) in map {
         output.show_pair(key, value);
         output.begin();
@@ -137,7 +133,7 @@ fn show_all<'a>(map: &Map<'a>, output: &mut Output<'a>) {
 }
 
 /// Iterates by `drain`, and drops or forgets the iterator.
-fn drain<'a>(map: &mut Map<'a>, line: &mut Line<'a>, output: &mut Output<'a>) {
+fn drain(map: &mut Map, line: &mut Line, output: &mut Output) {
     let mut pairs = map.drain();
     iterate(&mut pairs, line.word(), output);
     if line.word() == "forget" {
@@ -148,7 +144,7 @@ fn drain<'a>(map: &mut Map<'a>, line: &mut Line<'a>, output: &mut Output<'a>) {
 }
 
 /// Iterates over a map that is taken, and forgets what is left.
-fn iterate_and_forget<'a>(map: Map<'a>, steps: &str, output: &mut Output<'a>) {
+fn iterate_and_forget(map: Map, steps: &str, output: &mut Output) {
     let mut pairs = map.into_iter();
     iterate(&mut pairs, steps, output);
     mem::forget(pairs);
@@ -158,7 +154,7 @@ fn iterate_and_forget<'a>(map: Map<'a>, steps: &str, output: &mut Output<'a>) {
 pub fn iterate_to_the_end<
     T: Debug + Drop,
     I: DoubleEndedIterator<Item = T> + ExactSizeIterator + Drop,
->(items: I, line: &mut Line<'_>, output: &mut Output<'_>)
+>(items: I, line: &mut Line, output: &mut Output)
     requires { (items : I) → I.can_next items × I.can_next_back items }
 {
     let mut items = items;
@@ -171,12 +167,12 @@ pub fn iterate_to_the_end<
 }
 
 /// Runs the call of this name that takes the map, and returns whether there is one.
-fn run_owned<'a>(
+fn run_owned(
     alloc: Global,
     name: &str,
-    line: &mut Line<'a>,
-    map: &mut Map<'a>,
-    output: &mut Output<'a>,
+    line: &mut Line,
+    map: &mut Map,
+    output: &mut Output,
 ) -> bool {
     match name {
         "into_iter" => iterate_and_clone(take(alloc, map).into_iter(), line, output),
@@ -189,13 +185,7 @@ fn run_owned<'a>(
 }
 
 /// Runs the call of this name, and returns whether there is one.
-pub fn run<'a>(
-    alloc: Global,
-    name: &str,
-    line: &mut Line<'a>,
-    map: &mut Map<'a>,
-    output: &mut Output<'a>,
-) -> bool {
+pub fn run(alloc: Global, name: &str, line: &mut Line, map: &mut Map, output: &mut Output) -> bool {
     match name {
         "iter" => iterate_and_clone(map.iter(), line, output),
         "keys" => iterate_and_clone(map.keys(), line, output),

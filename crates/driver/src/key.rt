@@ -20,17 +20,17 @@ pub const COPY: u64 = 4_294_967_296;
 
 /// The first eight bytes of a text. Two keys are the same if they differ in case alone, so what
 /// a map has stored shows which of them it keeps.
-pub struct Key<'a> {
+pub struct Key {
     text: [u8; 8],
     /// The text in lower case, as one number.
     folded: u64,
     serial: u64,
-    counts: &'a Counts,
+    counts: &'static Counts,
 }
 
-impl<'a> Key<'a> {
+impl Key {
     /// Makes a key of a text, with the next serial number.
-    pub fn new(text: &str, counts: &'a Counts) -> Key<'a> {
+    pub fn new(text: &str, counts: &'static Counts) -> Key {
         let mut bytes = [0; 8];
         for (place, byte) in bytes.iter_mut().zip(text.bytes()) {
             *place = byte;
@@ -48,7 +48,7 @@ impl<'a> Key<'a> {
     }
 
     /// Makes a key of the decimal text of a number, with the next serial number.
-    pub fn decimal(number: u64, counts: &'a Counts) -> Key<'a> {
+    pub fn decimal(number: u64, counts: &'static Counts) -> Key {
         let text = decimal_text(number);
         Key {
             text,
@@ -59,16 +59,16 @@ impl<'a> Key<'a> {
     }
 
     /// Makes a key of the same text, with the next serial number.
-    pub fn again(&self) -> Key<'a> {
+    pub fn again(&self) -> Key {
         self.with_serial(self.counts.next_serial())
     }
 
     /// Makes a copy, which is not counted as a clone.
-    pub fn copy(&self) -> Key<'a> {
+    pub fn copy(&self) -> Key {
         self.with_serial(self.serial.wrapping_add(COPY))
     }
 
-    fn with_serial(&self, serial: u64) -> Key<'a> {
+    fn with_serial(&self, serial: u64) -> Key {
         Key {
             text: self.text,
             folded: self.folded,
@@ -83,12 +83,12 @@ impl<'a> Key<'a> {
     }
 
     /// Returns the text in lower case as a key that is copied.
-    pub fn copied(&self) -> CopiedKey<'a> {
+    pub fn copied(&self) -> CopiedKey {
         CopiedKey::new(self.text, self.folded, self.counts)
     }
 
     /// Returns the text as a key that is compared as it is.
-    pub fn ordered(&self) -> OrderedKey<'a> {
+    pub fn ordered(&self) -> OrderedKey {
         OrderedKey::new(self.number(), self.counts)
     }
 
@@ -112,7 +112,7 @@ fn decimal_text(number: u64) -> [u8; 8] {
     u64::to_be_bytes(text)
 }
 
-impl<'a> Drop for Key<'a> {
+impl Drop for Key {
     fn drop(self) {
         self.counts.count_drop(Kind::Key, self.serial);
         let Key {
@@ -124,8 +124,8 @@ impl<'a> Drop for Key<'a> {
     }
 }
 
-impl<'a> Clone for Key<'a> {
-    fn clone(&self) -> Result<Key<'a>, AllocError> {
+impl Clone for Key {
+    fn clone(&self) -> Result<Key, AllocError> {
         self.counts.count(Event::CloneKey);
         if self.counts.refuses_clone() {
             return Err(AllocError);
@@ -134,28 +134,28 @@ impl<'a> Clone for Key<'a> {
     }
 }
 
-impl<'a> PartialEq for Key<'a> {
+impl PartialEq for Key {
     ghost eq = { on (λ key. key.folded) ◌==◌ };
 
     ghost laws = { Prim.search (comparing, rules) };
 
-    fn eq(&self, other: &Key<'a>) -> bool {
+    fn eq(&self, other: &Key) -> bool {
         self.counts.count(Event::EqKey);
         self.folded == other.folded
     }
 }
 
-impl<'a> Eq for Key<'a> {
+impl Eq for Key {
     ghost laws = { Prim.search (comparing, rules) };
 }
 
 /// Keys that are not the same have no order.
-impl<'a> PartialOrd for Key<'a> {
+impl PartialOrd for Key {
     ghost partial_cmp = { on (λ key. key.folded) same_cmp };
 
     ghost laws = { on_po (λ key. key.folded) same_cmp_partial_order };
 
-    fn partial_cmp(&self, other: &Key<'a>) -> Option<Ordering> {
+    fn partial_cmp(&self, other: &Key) -> Option<Ordering> {
         self.counts.count(Event::CmpKey);
         if self.folded == other.folded {
             Some(Ordering::Equal)
@@ -165,7 +165,7 @@ impl<'a> PartialOrd for Key<'a> {
     }
 }
 
-impl<'a> Hash for Key<'a> {
+impl Hash for Key {
     ghost hash_input = { λ key. fed.u64 key.folded };
 
     ghost respects_eq = { Prim.search (hashing, rules) };
@@ -177,7 +177,7 @@ impl<'a> Hash for Key<'a> {
 }
 
 /// The text alone.
-impl<'a> fmt::Debug for Key<'a> {
+impl fmt::Debug for Key {
     fn fmt<W: fmt::Write>(&self, f: &mut fmt::Formatter<W>) -> fmt::Result {
         write_text(self.text, f)
     }

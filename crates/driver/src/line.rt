@@ -11,14 +11,14 @@ use std::str::SplitWhitespace;
 /// The words of a line that are left. A word that is missing is empty, and one that is no number
 /// is 0. Each key, value and hasher that is made of a word has the next serial number.
 #[derive(Drop)]
-pub struct Line<'a> {
-    words: SplitWhitespace<'a>,
-    counts: &'a Counts,
+pub struct Line {
+    words: SplitWhitespace<'static>,
+    counts: &'static Counts,
 }
 
-impl<'a> Line<'a> {
+impl Line {
     /// Begins a line.
-    pub fn new(text: &'a str, counts: &'a Counts) -> Line<'a> {
+    pub fn new(text: &'static str, counts: &'static Counts) -> Line {
         Line {
             words: text.split_whitespace(),
             counts,
@@ -26,7 +26,7 @@ impl<'a> Line<'a> {
     }
 
     /// Returns the next word.
-    pub fn word(&mut self) -> &'a str {
+    pub fn word(&mut self) -> &'static str {
         match self.words.next() {
             Some(word) => word,
             None => "",
@@ -34,27 +34,27 @@ impl<'a> Line<'a> {
     }
 
     /// Makes a key of a word.
-    pub fn key_of(&self, word: &str) -> Key<'a> {
+    pub fn key_of(&self, word: &str) -> Key {
         Key::new(word, self.counts)
     }
 
     /// Returns the next word as a key.
-    pub fn key(&mut self) -> Key<'a> {
+    pub fn key(&mut self) -> Key {
         Key::new(self.word(), self.counts)
     }
 
     /// Returns the next word as a value.
-    pub fn value(&mut self) -> Value<'a> {
+    pub fn value(&mut self) -> Value {
         Value::new(self.number(), self.counts)
     }
 
     /// Returns the next word as the values of a call that is made more than once.
-    pub fn values(&mut self) -> Values<'a> {
+    pub fn values(&mut self) -> Values {
         Values::new(self.value(), self.counts)
     }
 
     /// Returns the hasher that the next word names.
-    pub fn hasher(&mut self) -> BuildKeyHasher<'a> {
+    pub fn hasher(&mut self) -> BuildKeyHasher {
         BuildKeyHasher::new(Choice::named(self.word()), self.counts)
     }
 
@@ -73,17 +73,17 @@ impl<'a> Line<'a> {
     }
 
     /// Returns the counts.
-    pub fn counts(&self) -> &'a Counts {
+    pub fn counts(&self) -> &'static Counts {
         self.counts
     }
 
     /// Makes what a closure owns.
-    pub fn guard(&self) -> Guard<'a> {
+    pub fn guard(&self) -> Guard {
         Guard::new(self.counts)
     }
 
     /// Makes a value of the number 0.
-    pub fn zero(&self) -> Value<'a> {
+    pub fn zero(&self) -> Value {
         Value::new(0, self.counts)
     }
 
@@ -103,7 +103,7 @@ impl<'a> Line<'a> {
     }
 
     /// Returns the words that are left as keys.
-    pub fn keys(&mut self) -> Keys<'a> {
+    pub fn keys(&mut self) -> Keys {
         Keys {
             words: mem::replace(&mut self.words, "".split_whitespace()),
             counts: self.counts,
@@ -111,7 +111,7 @@ impl<'a> Line<'a> {
     }
 
     /// Returns the words that are left as pairs of a key and a value.
-    pub fn pairs(&mut self) -> Pairs<'a> {
+    pub fn pairs(&mut self) -> Pairs {
         Pairs {
             words: mem::replace(&mut self.words, "".split_whitespace()),
             counts: self.counts,
@@ -129,14 +129,14 @@ fn number_of(word: &str) -> u64 {
 
 /// Words as keys, each of which is made when it is taken.
 #[derive(Drop)]
-pub struct Keys<'a> {
-    words: SplitWhitespace<'a>,
-    counts: &'a Counts,
+pub struct Keys {
+    words: SplitWhitespace<'static>,
+    counts: &'static Counts,
 }
 
-impl<'a> Keys<'a> {
+impl Keys {
     /// Returns the next key, whose word may be missing.
-    pub fn next_key(&mut self) -> Key<'a> {
+    pub fn next_key(&mut self) -> Key {
         match self.words.next() {
             Some(word) => Key::new(word, self.counts),
             None => Key::new("", self.counts),
@@ -144,14 +144,14 @@ impl<'a> Keys<'a> {
     }
 }
 
-impl<'a> Iterator for Keys<'a> {
-    type Item = Key<'a>;
+impl Iterator for Keys {
+    type Item = Key;
 
-    ghost can_next = { λ keys. ⟦<SplitWhitespace<'a> as Iterator>⟧.can_next keys.words };
+    ghost can_next = { λ keys. ⟦<SplitWhitespace<'static> as Iterator>⟧.can_next keys.words };
 
-    ghost remaining = { λ keys. ⟦<SplitWhitespace<'a> as Iterator>⟧.remaining keys.words };
+    ghost remaining = { λ keys. ⟦<SplitWhitespace<'static> as Iterator>⟧.remaining keys.words };
 
-    fn next(&mut self) -> Option<Key<'a>> {
+    fn next(&mut self) -> Option<Key> {
         let word = self.words.next()?;
         Some(Key::new(word, self.counts))
     }
@@ -159,14 +159,14 @@ impl<'a> Iterator for Keys<'a> {
 
 /// Words as pairs, each of which is made when it is taken.
 #[derive(Drop)]
-pub struct Pairs<'a> {
-    words: SplitWhitespace<'a>,
-    counts: &'a Counts,
+pub struct Pairs {
+    words: SplitWhitespace<'static>,
+    counts: &'static Counts,
 }
 
-impl<'a> Pairs<'a> {
+impl Pairs {
     /// Returns the next pair, whose words may be missing.
-    pub fn next_pair(&mut self) -> (Key<'a>, Value<'a>) {
+    pub fn next_pair(&mut self) -> (Key, Value) {
         let key = match self.words.next() {
             Some(word) => Key::new(word, self.counts),
             None => Key::new("", self.counts),
@@ -179,14 +179,14 @@ impl<'a> Pairs<'a> {
     }
 }
 
-impl<'a> Iterator for Pairs<'a> {
-    type Item = (Key<'a>, Value<'a>);
+impl Iterator for Pairs {
+    type Item = (Key, Value);
 
-    ghost can_next = { λ pairs. ⟦<SplitWhitespace<'a> as Iterator>⟧.can_next pairs.words };
+    ghost can_next = { λ pairs. ⟦<SplitWhitespace<'static> as Iterator>⟧.can_next pairs.words };
 
-    ghost remaining = { λ pairs. ⟦<SplitWhitespace<'a> as Iterator>⟧.remaining pairs.words };
+    ghost remaining = { λ pairs. ⟦<SplitWhitespace<'static> as Iterator>⟧.remaining pairs.words };
 
-    fn next(&mut self) -> Option<(Key<'a>, Value<'a>)> {
+    fn next(&mut self) -> Option<(Key, Value)> {
         let key = Key::new(self.words.next()?, self.counts);
         let number = match self.words.next() {
             Some(word) => number_of(word),

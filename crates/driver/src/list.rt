@@ -9,7 +9,7 @@ use linked_hash_map::Iter;
 pub const SHOWN: usize = 100;
 
 /// Returns what a pair adds to a digest, before its place.
-fn mixed(key: &Key<'_>, value: &Value<'_>) -> u64 {
+fn mixed(key: &Key, value: &Value) -> u64 {
     key.number() ^ spread(value.number())
 }
 
@@ -44,7 +44,7 @@ impl Digest {
 }
 
 /// Returns a digest of the pairs in order.
-fn digest_of_pairs(pairs: Iter<'_, Key<'_>, Value<'_>>) -> u64 {
+fn digest_of_pairs(pairs: Iter<'_, Key, Value>) -> u64 {
     let mut digest = Digest::new();
     for (key, value) in pairs {
         digest.add(mixed(key, value));
@@ -53,7 +53,7 @@ fn digest_of_pairs(pairs: Iter<'_, Key<'_>, Value<'_>>) -> u64 {
 }
 
 /// Returns a digest of the items in order.
-fn digest_of_items(items: linked_hash_set::Iter<'_, Key<'_>>) -> u64 {
+fn digest_of_items(items: linked_hash_set::Iter<'_, Key>) -> u64 {
     let mut digest = Digest::new();
     for item in items {
         digest.add(item.number());
@@ -62,21 +62,21 @@ fn digest_of_items(items: linked_hash_set::Iter<'_, Key<'_>>) -> u64 {
 }
 
 /// Appends the pairs in order.
-fn list_all_pairs(pairs: Iter<'_, Key<'_>, Value<'_>>, output: &mut Output<'_>) {
+fn list_all_pairs(pairs: Iter<'_, Key, Value>, output: &mut Output) {
     for (key, value) in pairs {
         output.list_pair(key, value);
     }
 }
 
 /// Appends the items in order.
-fn list_all_items(items: linked_hash_set::Iter<'_, Key<'_>>, output: &mut Output<'_>) {
+fn list_all_items(items: linked_hash_set::Iter<'_, Key>, output: &mut Output) {
     for item in items {
         output.list(item);
     }
 }
 
 /// Appends the first and the last pair.
-fn list_end_pairs(pairs: Iter<'_, Key<'_>, Value<'_>>, output: &mut Output<'_>) {
+fn list_end_pairs(pairs: Iter<'_, Key, Value>, output: &mut Output) {
     let mut pairs = pairs;
     if let Some((key, value)) = pairs.next() {
         output.list_pair(key, value);
@@ -87,7 +87,7 @@ fn list_end_pairs(pairs: Iter<'_, Key<'_>, Value<'_>>, output: &mut Output<'_>) 
 }
 
 /// Appends the first and the last item.
-fn list_end_items(items: linked_hash_set::Iter<'_, Key<'_>>, output: &mut Output<'_>) {
+fn list_end_items(items: linked_hash_set::Iter<'_, Key>, output: &mut Output) {
     let mut items = items;
     if let Some(item) = items.next() {
         output.list(item);
@@ -98,7 +98,7 @@ fn list_end_items(items: linked_hash_set::Iter<'_, Key<'_>>, output: &mut Output
 }
 
 /// Appends the pairs in order, or if they are many, the first, the last and a digest.
-pub fn list_pairs(pairs: Iter<'_, Key<'_>, Value<'_>>, output: &mut Output<'_>) {
+pub fn list_pairs(pairs: Iter<'_, Key, Value>, output: &mut Output) {
     let len = pairs.len();
     output.push_str("|");
     output.list(&len);
@@ -111,7 +111,7 @@ pub fn list_pairs(pairs: Iter<'_, Key<'_>, Value<'_>>, output: &mut Output<'_>) 
 }
 
 /// Returns a digest of the pairs of a slice in order.
-fn digest_of_slice(pairs: &[(Key<'_>, Value<'_>)]) -> u64 {
+fn digest_of_slice(pairs: &[(Key, Value)]) -> u64 {
     let mut digest = Digest::new();
     for pair in pairs {
         digest.add(mixed(&pair.0, &pair.1));
@@ -120,7 +120,7 @@ fn digest_of_slice(pairs: &[(Key<'_>, Value<'_>)]) -> u64 {
 }
 
 /// Appends how many pairs a slice has, the first, the last and a digest.
-pub fn list_ends(pairs: &[(Key<'_>, Value<'_>)], output: &mut Output<'_>) {
+pub fn list_ends(pairs: &[(Key, Value)], output: &mut Output) {
     output.list(&pairs.len());
     if let Some(pair) = pairs.first() {
         output.list_pair(&pair.0, &pair.1);
@@ -132,7 +132,7 @@ pub fn list_ends(pairs: &[(Key<'_>, Value<'_>)], output: &mut Output<'_>) {
 }
 
 /// Appends the items in order, or if they are many, the first, the last and a digest.
-pub fn list_items(items: linked_hash_set::Iter<'_, Key<'_>>, output: &mut Output<'_>) {
+pub fn list_items(items: linked_hash_set::Iter<'_, Key>, output: &mut Output) {
     let len = items.len();
     output.push_str("|");
     output.list(&len);

@@ -7,7 +7,7 @@ use super::output::Output;
 use super::value::Value;
 
 /// Reads by index, if the key is present.
-fn index<'a>(map: &Map<'a>, key: &Key<'a>, output: &mut Output<'a>) {
+fn index(map: &Map, key: &Key, output: &mut Output) {
     output.end();
     if map.contains_key(key) {
         output.begin();
@@ -18,7 +18,7 @@ fn index<'a>(map: &Map<'a>, key: &Key<'a>, output: &mut Output<'a>) {
 }
 
 /// Writes by index, if the key is present.
-fn index_mut<'a>(map: &mut Map<'a>, line: &mut Line<'a>, output: &mut Output<'a>) {
+fn index_mut(map: &mut Map, line: &mut Line, output: &mut Output) {
     let key = line.key();
     let value = line.value();
     output.end();
@@ -32,7 +32,7 @@ fn index_mut<'a>(map: &mut Map<'a>, line: &mut Line<'a>, output: &mut Output<'a>
 }
 
 /// Appends a value that is lent, and writes another, if there is one.
-pub fn write_lent<'a>(lent: Option<&mut Value<'a>>, value: Value<'a>, output: &mut Output<'a>) {
+pub fn write_lent(lent: Option<&mut Value>, value: Value, output: &mut Output) {
     match lent {
         Some(lent) => {
             output.show(lent);
@@ -43,7 +43,7 @@ pub fn write_lent<'a>(lent: Option<&mut Value<'a>>, value: Value<'a>, output: &m
 }
 
 /// Runs the call of this name by a key that reads, and returns whether there is one.
-fn run_by_key<'a>(name: &str, line: &mut Line<'a>, map: &Map<'a>, output: &mut Output<'a>) -> bool {
+fn run_by_key(name: &str, line: &mut Line, map: &Map, output: &mut Output) -> bool {
     match name {
         "get" => output.show(&map.get(&line.key())),
         "get_key_value" => output.show(&map.get_key_value(&line.key())),
@@ -56,12 +56,7 @@ fn run_by_key<'a>(name: &str, line: &mut Line<'a>, map: &Map<'a>, output: &mut O
 }
 
 /// Runs the call of this name that writes one value, and returns whether there is one.
-fn run_by_write<'a>(
-    name: &str,
-    line: &mut Line<'a>,
-    map: &mut Map<'a>,
-    output: &mut Output<'a>,
-) -> bool {
+fn run_by_write(name: &str, line: &mut Line, map: &mut Map, output: &mut Output) -> bool {
     match name {
         "index_mut" => index_mut(map, line, output),
         "get_mut" => write_lent(map.get_mut(&line.key()), line.value(), output),
@@ -74,7 +69,7 @@ fn run_by_write<'a>(
 }
 
 /// Runs the call of this name that takes no word, and returns whether there is one.
-fn run_on_all<'a>(name: &str, map: &Map<'a>, output: &mut Output<'a>) -> bool {
+fn run_on_all(name: &str, map: &Map, output: &mut Output) -> bool {
     match name {
         "front" => output.show(&map.front()),
         "back" => output.show(&map.back()),
@@ -86,12 +81,7 @@ fn run_on_all<'a>(name: &str, map: &Map<'a>, output: &mut Output<'a>) -> bool {
 }
 
 /// Runs the call of this name, and returns whether there is one.
-pub fn run<'a>(
-    name: &str,
-    line: &mut Line<'a>,
-    map: &mut Map<'a>,
-    output: &mut Output<'a>,
-) -> bool {
+pub fn run(name: &str, line: &mut Line, map: &mut Map, output: &mut Output) -> bool {
     run_by_key(name, line, map, output)
         || run_by_write(name, line, map, output)
         || run_on_all(name, map, output)

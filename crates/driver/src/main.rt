@@ -72,24 +72,24 @@ use stop::Stop;
 use value::Value;
 
 /// The maps that the lines speak of.
-type Map<'a> = LinkedHashMap<Key<'a>, Value<'a>, BuildKeyHasher<'a>>;
+type Map = LinkedHashMap<Key, Value, BuildKeyHasher>;
 
 /// What the lines speak of: two maps, two caches, two sets and two tables of sessions.
 #[derive(Drop)]
-struct All<'a> {
-    map_a: Map<'a>,
-    map_b: Map<'a>,
-    cache_a: Cache<'a>,
-    cache_b: Cache<'a>,
-    set_a: Set<'a>,
-    set_b: Set<'a>,
-    table_a: Table<'a>,
-    table_b: Table<'a>,
+struct All {
+    map_a: Map,
+    map_b: Map,
+    cache_a: Cache,
+    cache_b: Cache,
+    set_a: Set,
+    set_b: Set,
+    table_a: Table,
+    table_b: Table,
 }
 
-impl<'a> All<'a> {
+impl All {
     /// Makes them, all empty.
-    fn new(alloc: Global) -> All<'a> {
+    fn new(alloc: Global) -> All {
         All {
             map_a: Map::with_hasher(alloc, BuildKeyHasher::default()),
             map_b: Map::with_hasher(alloc, BuildKeyHasher::default()),
@@ -104,12 +104,12 @@ impl<'a> All<'a> {
 }
 
 /// Runs the call of this name that goes by an entry, and returns whether there is one.
-fn run_on_entries<'a>(
+fn run_on_entries(
     alloc: Global,
     name: &str,
-    line: &mut Line<'a>,
-    map: &mut Map<'a>,
-    output: &mut Output<'a>,
+    line: &mut Line,
+    map: &mut Map,
+    output: &mut Output,
 ) -> bool {
     entries::run(name, line, map, output)
         || insertions::run(alloc, name, line, map, output)
@@ -117,12 +117,12 @@ fn run_on_entries<'a>(
 }
 
 /// Runs the call of this name that makes many steps, and returns whether there is one.
-fn run_on_many<'a>(
+fn run_on_many(
     alloc: Global,
     name: &str,
-    line: &mut Line<'a>,
-    map: &mut Map<'a>,
-    output: &mut Output<'a>,
+    line: &mut Line,
+    map: &mut Map,
+    output: &mut Output,
 ) -> bool {
     retaining::run(name, line, map, output)
         || replays::run(alloc, name, line, map, output)
@@ -133,13 +133,13 @@ fn run_on_many<'a>(
 
 /// Runs the call of this name on `map` and, if it takes two, on `other` too, appends what it
 /// returns and the list of `map`, and returns whether there is such a call.
-fn run_on_map<'a>(
+fn run_on_map(
     alloc: Global,
     name: &str,
-    line: &mut Line<'a>,
-    map: &mut Map<'a>,
-    other: &mut Map<'a>,
-    output: &mut Output<'a>,
+    line: &mut Line,
+    map: &mut Map,
+    other: &mut Map,
+    output: &mut Output,
 ) -> bool {
     let is_known = lookups::run(name, line, map, output)
         || changes::run(alloc, name, line, map, output)
@@ -170,12 +170,7 @@ fn name_of_set_call(name: &str) -> Option<&str> {
 
 /// Runs the call of a line on what it names, and returns whether there is such a call. The first
 /// window is open when the call begins.
-fn run_call<'a>(
-    alloc: Global,
-    line: &mut Line<'a>,
-    all: &mut All<'a>,
-    output: &mut Output<'a>,
-) -> bool {
+fn run_call(alloc: Global, line: &mut Line, all: &mut All, output: &mut Output) -> bool {
     let name = line.word();
     let is_b = line.word() == "b";
     output.begin();
@@ -206,9 +201,9 @@ fn run_call<'a>(
 
 /// Runs the lines on new maps, caches, sets and tables, and returns the whole text of the output.
 /// For a line that is no call that is `unknown`. A line that begins with `#` makes everything anew.
-fn respond_counting<'a>(alloc: Global, lines: &'a str, counts: &'a Counts) -> Result<String, Stop> {
-    let mut output: Output<'a> = Output::new(alloc, counts);
-    let mut all: All<'a> = All::new(alloc);
+fn respond(alloc: Global, lines: &'static str, counts: &'static Counts) -> Result<String, Stop> {
+    let mut output = Output::new(alloc, counts);
+    let mut all = All::new(alloc);
     for text in lines.lines() {
         output.begin_line();
         if text.starts_with('#') {
@@ -224,16 +219,19 @@ fn respond_counting<'a>(alloc: Global, lines: &'a str, counts: &'a Counts) -> Re
     output.finish()
 }
 
-/// Runs the lines with new counts, and returns the whole text of the output.
-fn respond(alloc: Global, lines: &str) -> Result<String, Stop> {
-    let counts = Counts::new();
-    respond_counting(alloc, lines, &counts)
+/// Moves a value to memory that is never freed, so a key that refers to it names no lifetime.
+fn leak<T: Drop + 'static>(alloc: Global, value: T) -> Result<&'static T, Stop> {
+    match Box::new(alloc, value) {
+        Ok(made) => Ok(Box::leak(made)),
+        Err(_refused) => Err(Stop::OutOfMemory),
+    }
 }
 
 /// Reads all lines, runs them and writes the output.
 fn run<R: Read + Drop, W: Write>(alloc: Global, input: R, writer: &mut W) -> Result<(), Stop> {
-    let lines = io::read_to_string(alloc, input)?;
-    let text = respond(alloc, lines.as_str())?;
+    let counts = leak(alloc, Counts::new())?;
+    let lines = leak(alloc, io::read_to_string(alloc, input)?)?;
+    let text = respond(alloc, lines.as_str(), counts)?;
     writer.write_all(text.as_bytes())?;
     writer.flush()?;
     Ok(())

@@ -9,40 +9,35 @@ use std::default::{Emptied, MadeWith};
 use std::mem;
 
 /// Makes an empty map, with the hasher that the next word names.
-fn with_hasher<'a>(alloc: Global, line: &mut Line<'a>, map: &mut Map<'a>, output: &mut Output<'a>) {
+fn with_hasher(alloc: Global, line: &mut Line, map: &mut Map, output: &mut Output) {
     output.replace(map, Map::with_hasher(alloc, line.hasher()));
 }
 
 /// Makes an empty map, with that hasher and the capacity after it.
-fn with_capacity<'a>(
-    alloc: Global,
-    line: &mut Line<'a>,
-    map: &mut Map<'a>,
-    output: &mut Output<'a>,
-) {
+fn with_capacity(alloc: Global, line: &mut Line, map: &mut Map, output: &mut Output) {
     let hasher = line.hasher();
     let capacity = line.size();
     output.store(map, Map::with_capacity_and_hasher(alloc, capacity, hasher));
 }
 
 /// Makes an empty map with the default hasher.
-fn with_default_hasher<'a>(alloc: Global, map: &mut Map<'a>, output: &mut Output<'a>) {
+fn with_default_hasher(alloc: Global, map: &mut Map, output: &mut Output) {
     output.replace(map, Map::with_hasher(alloc, BuildKeyHasher::default()));
 }
 
 /// Takes a map, and leaves an empty one with the default hasher in its place.
-pub fn take<'a>(alloc: Global, map: &mut Map<'a>) -> Map<'a> {
+pub fn take(alloc: Global, map: &mut Map) -> Map {
     mem::replace(map, Map::with_hasher(alloc, BuildKeyHasher::default()))
 }
 
 /// Runs the call of this name, and returns whether there is one.
-pub fn run<'a>(
+pub fn run(
     alloc: Global,
     name: &str,
-    line: &mut Line<'a>,
-    map: &mut Map<'a>,
-    other: &mut Map<'a>,
-    output: &mut Output<'a>,
+    line: &mut Line,
+    map: &mut Map,
+    other: &mut Map,
+    output: &mut Output,
 ) -> bool {
     match name {
         "with_hasher" => with_hasher(alloc, line, map, output),

@@ -6,7 +6,7 @@ use super::output::Output;
 use linked_hash_map::Mode;
 
 /// Moves pairs from the front to the back, if there are so many.
-fn rotate_left<'a>(map: &mut Map<'a>, count: usize, output: &mut Output<'a>) {
+fn rotate_left(map: &mut Map, count: usize, output: &mut Output) {
     if count <= map.len() {
         map.rotate_left(count);
     } else {
@@ -24,7 +24,7 @@ pub fn mode_named(name: &str) -> Mode {
 }
 
 /// Runs the call of this name that reads a number or the mode, and returns whether there is one.
-fn run_to_read<'a>(name: &str, map: &Map<'a>, output: &mut Output<'a>) -> bool {
+fn run_to_read(name: &str, map: &Map, output: &mut Output) -> bool {
     match name {
         "capacity" => output.show(&map.capacity()),
         "rechained" => output.show(&map.rechained()),
@@ -35,12 +35,7 @@ fn run_to_read<'a>(name: &str, map: &Map<'a>, output: &mut Output<'a>) -> bool {
 }
 
 /// Runs the call of this name, and returns whether there is one.
-pub fn run<'a>(
-    name: &str,
-    line: &mut Line<'a>,
-    map: &mut Map<'a>,
-    output: &mut Output<'a>,
-) -> bool {
+pub fn run(name: &str, line: &mut Line, map: &mut Map, output: &mut Output) -> bool {
     match name {
         "move_to_back" => output.show(&map.move_to_back(&line.key())),
         "move_to_front" => output.show(&map.move_to_front(&line.key())),

@@ -14,34 +14,34 @@ use std::hash::{Hash, Hasher};
 
 /// The text of a key as a number, by which it is compared. Its drop is not counted.
 #[derive(Clone, Copy)]
-pub struct OrderedKey<'a> {
+pub struct OrderedKey {
     number: u64,
-    counts: &'a Counts,
+    counts: &'static Counts,
 }
 
-impl<'a> OrderedKey<'a> {
+impl OrderedKey {
     /// Makes a key of a number.
-    pub fn new(number: u64, counts: &'a Counts) -> OrderedKey<'a> {
+    pub fn new(number: u64, counts: &'static Counts) -> OrderedKey {
         OrderedKey { number, counts }
     }
 }
 
-impl<'a> PartialEq for OrderedKey<'a> {
+impl PartialEq for OrderedKey {
     ghost eq = { on (λ key. key.number) ◌==◌ };
 
     ghost laws = { Prim.search (comparing, rules) };
 
-    fn eq(&self, other: &OrderedKey<'a>) -> bool {
+    fn eq(&self, other: &OrderedKey) -> bool {
         self.counts.count(Event::EqKey);
         self.number == other.number
     }
 }
 
-impl<'a> Eq for OrderedKey<'a> {
+impl Eq for OrderedKey {
     ghost laws = { Prim.search (comparing, rules) };
 }
 
-impl<'a> Ord for OrderedKey<'a> {
+impl Ord for OrderedKey {
     ghost cmp = { on (λ key. key.number) nat_cmp };
 
     ghost total = { Prim.search (comparing, rules) };
@@ -50,24 +50,24 @@ impl<'a> Ord for OrderedKey<'a> {
 
     ghost matches_eq = { Prim.search (comparing, rules) };
 
-    fn cmp(&self, other: &OrderedKey<'a>) -> Ordering {
+    fn cmp(&self, other: &OrderedKey) -> Ordering {
         self.counts.count(Event::CmpKey);
         self.number.cmp(&other.number)
     }
 }
 
-impl<'a> PartialOrd for OrderedKey<'a> {
+impl PartialOrd for OrderedKey {
     ghost partial_cmp = { as_partial_cmp (on (λ key. key.number) nat_cmp) };
 
     ghost laws = { partial_order_from_own_ties (Prim.search (comparing, rules))
         (Prim.search (comparing, rules)) };
 
-    fn partial_cmp(&self, other: &OrderedKey<'a>) -> Option<Ordering> {
+    fn partial_cmp(&self, other: &OrderedKey) -> Option<Ordering> {
         Some(self.cmp(other))
     }
 }
 
-impl<'a> Hash for OrderedKey<'a> {
+impl Hash for OrderedKey {
     ghost hash_input = { λ key. fed.u64 key.number };
 
     ghost respects_eq = { Prim.search (hashing, rules) };
@@ -79,7 +79,7 @@ impl<'a> Hash for OrderedKey<'a> {
 }
 
 /// The text alone.
-impl<'a> fmt::Debug for OrderedKey<'a> {
+impl fmt::Debug for OrderedKey {
     fn fmt<W: fmt::Write>(&self, f: &mut fmt::Formatter<W>) -> fmt::Result {
         write_text(u64::to_be_bytes(self.number), f)
     }

@@ -19,16 +19,16 @@ const LONGEST_LINE: usize = 65_536;
 
 /// The text of the output, which is not written if it was itself refused memory.
 #[derive(Drop)]
-pub struct Output<'a> {
+pub struct Output {
     text: String,
     alloc: Global,
-    counts: &'a Counts,
+    counts: &'static Counts,
     is_out_of_memory: bool,
 }
 
-impl<'a> Output<'a> {
+impl Output {
     /// Makes an empty output.
-    pub fn new(alloc: Global, counts: &'a Counts) -> Output<'a> {
+    pub fn new(alloc: Global, counts: &'static Counts) -> Output {
         Output {
             text: String::new(alloc),
             alloc,
@@ -141,7 +141,7 @@ impl<'a> Output<'a> {
     }
 
     /// Appends a pair.
-    pub fn show_pair(&mut self, key: &Key<'_>, value: &Value<'_>) {
+    pub fn show_pair(&mut self, key: &Key, value: &Value) {
         self.end();
         let written = write!(self.text, "{key:?}={value:?} ");
         self.note(written);
@@ -155,7 +155,7 @@ impl<'a> Output<'a> {
     }
 
     /// Appends a key that a call handed out, or the given one if it handed that back.
-    pub fn show_key(&mut self, returned: Result<Key<'_>, Key<'_>>) {
+    pub fn show_key(&mut self, returned: Result<Key, Key>) {
         self.end();
         let (name, key) = match returned {
             Ok(key) => ("Ok", key),
@@ -188,7 +188,7 @@ impl<'a> Output<'a> {
     }
 
     /// Appends a pair that a refused call handed back.
-    pub fn show_refused_pair(&mut self, key: &Key<'_>, value: &Value<'_>) {
+    pub fn show_refused_pair(&mut self, key: &Key, value: &Value) {
         self.end();
         let (first, second) = (key.serial(), value.serial());
         let written = write!(self.text, "refused {key:?}={value:?} #{first} #{second} ");
@@ -203,7 +203,7 @@ impl<'a> Output<'a> {
     }
 
     /// Appends a pair that a call sent away.
-    pub fn show_gone_pair(&mut self, key: &Key<'_>, value: &Value<'_>) {
+    pub fn show_gone_pair(&mut self, key: &Key, value: &Value) {
         self.end();
         let (first, second) = (key.serial(), value.serial());
         let written = write!(self.text, "Some({key:?}={value:?} #{first} #{second}) ");
@@ -211,7 +211,7 @@ impl<'a> Output<'a> {
     }
 
     /// Appends a key that a refused call handed back.
-    pub fn show_refused_item(&mut self, item: &Key<'_>) {
+    pub fn show_refused_item(&mut self, item: &Key) {
         self.end();
         let serial = item.serial();
         let written = write!(self.text, "refused {item:?} #{serial} ");
@@ -226,7 +226,7 @@ impl<'a> Output<'a> {
     }
 
     /// Appends a pair of a list.
-    pub fn list_pair(&mut self, key: &Key<'_>, value: &Value<'_>) {
+    pub fn list_pair(&mut self, key: &Key, value: &Value) {
         self.end();
         let written = write!(self.text, " {key:?}:{value:?}");
         self.note(written);
@@ -288,7 +288,7 @@ impl<'a> Output<'a> {
     }
 
     /// Writes to a value that a call lent.
-    pub fn write<'v>(&mut self, lent: &mut Value<'v>, value: Value<'v>) {
+    pub fn write(&mut self, lent: &mut Value, value: Value) {
         self.end();
         *lent = value;
     }

@@ -11,10 +11,10 @@ use linked_hash_map::replay::{Answer, PairList, Reply, replay};
 use std::alloc::Global;
 
 /// A command of the words of a line.
-type Command<'a> = linked_hash_map::replay::Command<Key<'a>, Value<'a>>;
+type Command = linked_hash_map::replay::Command<Key, Value>;
 
 /// Reads the command of this name that takes a pair.
-fn command_by_pair<'a>(name: &str, line: &mut Line<'a>) -> Option<Command<'a>> {
+fn command_by_pair(name: &str, line: &mut Line) -> Option<Command> {
     match name {
         "insert" => Some(Command::Insert(line.key(), line.value())),
         "write" => Some(Command::Write(line.key(), line.value())),
@@ -25,7 +25,7 @@ fn command_by_pair<'a>(name: &str, line: &mut Line<'a>) -> Option<Command<'a>> {
 }
 
 /// Reads the command of this name that takes a key.
-fn command_by_key<'a>(name: &str, line: &mut Line<'a>) -> Option<Command<'a>> {
+fn command_by_key(name: &str, line: &mut Line) -> Option<Command> {
     match name {
         "refresh" => Some(Command::Refresh(line.key())),
         "remove" => Some(Command::Remove(line.key())),
@@ -35,11 +35,7 @@ fn command_by_key<'a>(name: &str, line: &mut Line<'a>) -> Option<Command<'a>> {
 }
 
 /// Reads a number of pairs, and as many of them.
-fn list_of_pairs<'a>(
-    alloc: Global,
-    line: &mut Line<'a>,
-    output: &mut Output<'a>,
-) -> PairList<Key<'a>, Value<'a>> {
+fn list_of_pairs(alloc: Global, line: &mut Line, output: &mut Output) -> PairList<Key, Value> {
     let mut pairs = Vec::new(alloc);
     for _ in 0..line.number() {
         output.note(pairs.push((line.key(), line.value())));
@@ -48,12 +44,7 @@ fn list_of_pairs<'a>(
 }
 
 /// Reads the command of this name, if there is one.
-fn command<'a>(
-    alloc: Global,
-    name: &str,
-    line: &mut Line<'a>,
-    output: &mut Output<'a>,
-) -> Option<Command<'a>> {
+fn command(alloc: Global, name: &str, line: &mut Line, output: &mut Output) -> Option<Command> {
     match name {
         "reserve" => Some(Command::Reserve(line.size())),
         "setmode" => Some(Command::SetMode(mode_named(line.word()))),
@@ -63,7 +54,7 @@ fn command<'a>(
 }
 
 /// Returns the command of this name that takes nothing, if there is one.
-fn bare_command<'a>(name: &str) -> Option<Command<'a>> {
+fn bare_command(name: &str) -> Option<Command> {
     match name {
         "popfront" => Some(Command::PopFront),
         "popback" => Some(Command::PopBack),
@@ -75,11 +66,7 @@ fn bare_command<'a>(name: &str) -> Option<Command<'a>> {
 }
 
 /// Reads the next command, which is none if its name is not known.
-fn next_command<'a>(
-    alloc: Global,
-    line: &mut Line<'a>,
-    output: &mut Output<'a>,
-) -> Option<Command<'a>> {
+fn next_command(alloc: Global, line: &mut Line, output: &mut Output) -> Option<Command> {
     let name = line.word();
     match bare_command(name) {
         Some(command) => Some(command),
@@ -88,7 +75,7 @@ fn next_command<'a>(
 }
 
 /// Reads all commands of a line.
-fn commands<'a>(alloc: Global, line: &mut Line<'a>, output: &mut Output<'a>) -> Vec<Command<'a>> {
+fn commands(alloc: Global, line: &mut Line, output: &mut Output) -> Vec<Command> {
     let mut commands = Vec::new(alloc);
     for _ in 0..line.words_left() {
         if let Some(command) = next_command(alloc, line, output) {
@@ -99,7 +86,7 @@ fn commands<'a>(alloc: Global, line: &mut Line<'a>, output: &mut Output<'a>) -> 
 }
 
 /// Returns whether an answer has so many pairs that not all are shown.
-fn has_many_pairs<'a>(answer: &Answer<Key<'a>, Value<'a>>) -> bool {
+fn has_many_pairs(answer: &Answer<Key, Value>) -> bool {
     match answer {
         Answer::Pairs(list) => list.len() > SHOWN,
         _ => false,
@@ -107,7 +94,7 @@ fn has_many_pairs<'a>(answer: &Answer<Key<'a>, Value<'a>>) -> bool {
 }
 
 /// Appends the ends of the list that an answer has, and the length and the capacity of the map.
-fn show_ends<'a>(reply: &Reply<Key<'a>, Value<'a>>, output: &mut Output<'a>) {
+fn show_ends(reply: &Reply<Key, Value>, output: &mut Output) {
     if let Answer::Pairs(list) = &reply.answer {
         output.push_str("Pairs");
         list_ends(list.as_slice(), output);
@@ -117,7 +104,7 @@ fn show_ends<'a>(reply: &Reply<Key<'a>, Value<'a>>, output: &mut Output<'a>) {
 }
 
 /// Appends a reply, and of a list that it has the length and the capacity.
-fn show_reply<'a>(reply: Reply<Key<'a>, Value<'a>>, output: &mut Output<'a>) {
+fn show_reply(reply: Reply<Key, Value>, output: &mut Output) {
     if has_many_pairs(&reply.answer) {
         show_ends(&reply, output);
     } else {
@@ -127,7 +114,7 @@ fn show_reply<'a>(reply: Reply<Key<'a>, Value<'a>>, output: &mut Output<'a>) {
 }
 
 /// Appends the length and the capacity of the list that an answer has.
-fn show_list_size<'a>(answer: Answer<Key<'a>, Value<'a>>, output: &mut Output<'a>) {
+fn show_list_size(answer: Answer<Key, Value>, output: &mut Output) {
     match answer {
         Answer::Pairs(list) => {
             let pairs = list.into_vec();
@@ -139,7 +126,7 @@ fn show_list_size<'a>(answer: Answer<Key<'a>, Value<'a>>, output: &mut Output<'a
 }
 
 /// Appends how long the list of replies is, and each of them.
-fn show_replies<'a>(replies: Vec<Reply<Key<'a>, Value<'a>>>, output: &mut Output<'a>) {
+fn show_replies(replies: Vec<Reply<Key, Value>>, output: &mut Output) {
     output.show_size(replies.len(), replies.capacity());
     for reply in replies {
         show_reply(reply, output);
@@ -147,7 +134,7 @@ fn show_replies<'a>(replies: Vec<Reply<Key<'a>, Value<'a>>>, output: &mut Output
 }
 
 /// Runs the commands of a line.
-fn replay_all<'a>(alloc: Global, map: &mut Map<'a>, line: &mut Line<'a>, output: &mut Output<'a>) {
+fn replay_all(alloc: Global, map: &mut Map, line: &mut Line, output: &mut Output) {
     output.end();
     let commands = commands(alloc, line, output);
     output.begin();
@@ -160,13 +147,7 @@ fn replay_all<'a>(alloc: Global, map: &mut Map<'a>, line: &mut Line<'a>, output:
 }
 
 /// Runs the call of this name, and returns whether there is one.
-pub fn run<'a>(
-    alloc: Global,
-    name: &str,
-    line: &mut Line<'a>,
-    map: &mut Map<'a>,
-    output: &mut Output<'a>,
-) -> bool {
+pub fn run(alloc: Global, name: &str, line: &mut Line, map: &mut Map, output: &mut Output) -> bool {
     if name == "replay" {
         replay_all(alloc, map, line, output);
         return true;

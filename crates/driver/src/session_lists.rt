@@ -8,15 +8,15 @@ use std::fmt;
 
 /// A session, which is shown as its id, weight and payload.
 #[derive(Clone, Copy)]
-struct Shown<'s, 'a> {
+struct Shown<'s> {
     id: u64,
     weight: u64,
-    payload: &'s Value<'a>,
+    payload: &'s Value,
 }
 
-impl<'s, 'a> Shown<'s, 'a> {
+impl<'s> Shown<'s> {
     /// Makes one of a session that is owned.
-    fn of(session: &'s (u64, u64, Value<'a>)) -> Shown<'s, 'a> {
+    fn of(session: &'s (u64, u64, Value)) -> Shown<'s> {
         Shown {
             id: session.0,
             weight: session.1,
@@ -30,14 +30,14 @@ impl<'s, 'a> Shown<'s, 'a> {
     }
 }
 
-impl<'s, 'a> fmt::Debug for Shown<'s, 'a> {
+impl<'s> fmt::Debug for Shown<'s> {
     fn fmt<W: fmt::Write>(&self, f: &mut fmt::Formatter<W>) -> fmt::Result {
         write!(f, "{}:{}:{:?}", self.id, self.weight, self.payload)
     }
 }
 
 /// Returns a digest of the sessions in order.
-fn digest_of<'a>(sessions: &[(u64, u64, Value<'a>)]) -> u64 {
+fn digest_of(sessions: &[(u64, u64, Value)]) -> u64 {
     let mut digest = Digest::new();
     for session in sessions {
         digest.add(Shown::of(session).mixed());
@@ -46,7 +46,7 @@ fn digest_of<'a>(sessions: &[(u64, u64, Value<'a>)]) -> u64 {
 }
 
 /// Appends the first and the last session and a digest.
-fn show_ends<'a>(sessions: &[(u64, u64, Value<'a>)], output: &mut Output<'a>) {
+fn show_ends(sessions: &[(u64, u64, Value)], output: &mut Output) {
     if let Some(first) = sessions.first() {
         output.show(&Shown::of(first));
     }
@@ -57,7 +57,7 @@ fn show_ends<'a>(sessions: &[(u64, u64, Value<'a>)], output: &mut Output<'a>) {
 }
 
 /// Appends the sessions in order, or if they are many, the first, the last and a digest.
-pub fn show_sessions<'a>(sessions: &[(u64, u64, Value<'a>)], output: &mut Output<'a>) {
+pub fn show_sessions(sessions: &[(u64, u64, Value)], output: &mut Output) {
     if sessions.len() > SHOWN {
         return show_ends(sessions, output);
     }
@@ -67,7 +67,7 @@ pub fn show_sessions<'a>(sessions: &[(u64, u64, Value<'a>)], output: &mut Output
 }
 
 /// Appends the sessions of a table in order.
-fn list_all<'a>(table: &Table<'a>, output: &mut Output<'a>) {
+fn list_all(table: &Table, output: &mut Output) {
     for (id, weight, payload) in table.iter() {
         output.list(&Shown {
             id,
@@ -78,7 +78,7 @@ fn list_all<'a>(table: &Table<'a>, output: &mut Output<'a>) {
 }
 
 /// Appends the first session of a table, the last and a digest.
-fn list_ends<'a>(table: &Table<'a>, output: &mut Output<'a>) {
+fn list_ends(table: &Table, output: &mut Output) {
     let mut digest = Digest::new();
     let mut last = None;
     for (id, weight, payload) in table.iter() {
@@ -100,7 +100,7 @@ fn list_ends<'a>(table: &Table<'a>, output: &mut Output<'a>) {
 }
 
 /// Appends the sessions of a table in order, or if they are many, the first, the last and a digest.
-pub fn list_sessions<'a>(table: &Table<'a>, output: &mut Output<'a>) {
+pub fn list_sessions(table: &Table, output: &mut Output) {
     output.push_str("|");
     output.list(&table.len());
     if table.len() <= SHOWN {

@@ -11,21 +11,21 @@ use std::ops::Range;
 
 /// The items of a range of numbers, each of which is made when it is taken.
 #[derive(Drop)]
-struct NumberedItems<'l, 'a> {
+struct NumberedItems<'l> {
     numbers: Range<u64>,
     /// The number that was taken last.
     last: &'l Cell<u64>,
-    counts: &'a Counts,
+    counts: &'static Counts,
 }
 
-impl<'l, 'a> Iterator for NumberedItems<'l, 'a> {
-    type Item = Key<'a>;
+impl<'l> Iterator for NumberedItems<'l> {
+    type Item = Key;
 
     ghost can_next = { λ items. ⟦<Range<u64> as Iterator>⟧.can_next items.numbers };
 
     ghost remaining = { λ items. ⟦<Range<u64> as Iterator>⟧.remaining items.numbers };
 
-    fn next(&mut self) -> Option<Key<'a>> {
+    fn next(&mut self) -> Option<Key> {
         let number = self.numbers.next()?;
         self.last.set(number);
         Some(Key::decimal(number, self.counts))
@@ -33,12 +33,7 @@ impl<'l, 'a> Iterator for NumberedItems<'l, 'a> {
 }
 
 /// Inserts an item that a closure makes anew, and returns whether there was memory.
-fn put_by_closure<'a>(
-    set: &mut Set<'a>,
-    item: &Key<'a>,
-    line: &Line<'a>,
-    output: &mut Output<'a>,
-) -> bool {
+fn put_by_closure(set: &mut Set, item: &Key, line: &Line, output: &mut Output) -> bool {
     let guard = line.guard();
     let returned = set.get_or_insert_with(item, move |item| {
         drop(guard);
@@ -48,13 +43,7 @@ fn put_by_closure<'a>(
 }
 
 /// Inserts the item of a number by the call of this name, and returns whether there was memory.
-fn put<'a>(
-    set: &mut Set<'a>,
-    call: &str,
-    number: u64,
-    line: &Line<'a>,
-    output: &mut Output<'a>,
-) -> bool {
+fn put(set: &mut Set, call: &str, number: u64, line: &Line, output: &mut Output) -> bool {
     let item = Key::decimal(number, line.counts());
     output.begin();
     match call {
@@ -67,13 +56,7 @@ fn put<'a>(
 }
 
 /// Inserts the items of the numbers below a count. Each call is within a window.
-fn fill_one_by_one<'a>(
-    set: &mut Set<'a>,
-    count: u64,
-    call: &str,
-    line: &Line<'a>,
-    output: &mut Output<'a>,
-) {
+fn fill_one_by_one(set: &mut Set, count: u64, call: &str, line: &Line, output: &mut Output) {
     for number in 0..count {
         if !put(set, call, number, line, output) {
             output.show_refused_number(number);
@@ -85,13 +68,13 @@ fn fill_one_by_one<'a>(
 
 /// Makes a set of the items of the numbers below a count, by an iterator that knows how many they
 /// are, and returns whether there was memory.
-fn make<'a>(
+fn make(
     alloc: Global,
-    set: &mut Set<'a>,
+    set: &mut Set,
     numbers: Range<u64>,
     last: &Cell<u64>,
-    counts: &'a Counts,
-    output: &mut Output<'a>,
+    counts: &'static Counts,
+    output: &mut Output,
 ) -> bool {
     let items = numbers.map(move |number| {
         last.set(number);
@@ -101,12 +84,12 @@ fn make<'a>(
 }
 
 /// Inserts items, and returns whether there was memory.
-fn extend<'a>(
-    set: &mut Set<'a>,
+fn extend(
+    set: &mut Set,
     numbers: Range<u64>,
     last: &Cell<u64>,
-    counts: &'a Counts,
-    output: &mut Output<'a>,
+    counts: &'static Counts,
+    output: &mut Output,
 ) -> bool {
     let items = NumberedItems {
         numbers,
@@ -117,13 +100,13 @@ fn extend<'a>(
 }
 
 /// Takes in the items of the numbers below a count, by one call.
-fn fill_at_once<'a>(
+fn fill_at_once(
     alloc: Global,
-    set: &mut Set<'a>,
+    set: &mut Set,
     count: u64,
     call: &str,
-    line: &Line<'a>,
-    output: &mut Output<'a>,
+    line: &Line,
+    output: &mut Output,
 ) {
     let last = Cell::new(0);
     let is_given = if call == "from_iter" {
@@ -139,7 +122,7 @@ fn fill_at_once<'a>(
 }
 
 /// Fills a set by a call, up to a refusal.
-pub fn fill<'a>(alloc: Global, set: &mut Set<'a>, line: &mut Line<'a>, output: &mut Output<'a>) {
+pub fn fill(alloc: Global, set: &mut Set, line: &mut Line, output: &mut Output) {
     let (count, call) = (line.number(), line.word());
     match call {
         "extend" | "from_iter" => fill_at_once(alloc, set, count, call, line, output),

@@ -12,7 +12,7 @@ use std::hash::BuildHasher;
 fn step_through<T: Debug + Drop, I: Iterator<Item = T>>(
     items: &mut I,
     steps: &str,
-    output: &mut Output<'_>,
+    output: &mut Output,
 )
     requires { (items : I) → I.can_next items }
 {
@@ -27,7 +27,7 @@ fn step_and_clone<T: Debug + Drop, I: Iterator<Item = T> + Clone + Drop>(
     items: I,
     first: &str,
     steps: &str,
-    output: &mut Output<'_>,
+    output: &mut Output,
 )
     requires { (items : I) → I.can_next items }
 {
@@ -49,8 +49,8 @@ fn step_and_clone<T: Debug + Drop, I: Iterator<Item = T> + Clone + Drop>(
 /// Appends all items, or makes the steps of the words, if there are any.
 fn iterate<T: Debug + Drop, I: Iterator<Item = T> + Clone + Drop>(
     items: I,
-    line: &mut Line<'_>,
-    output: &mut Output<'_>,
+    line: &mut Line,
+    output: &mut Output,
 )
     requires can { (items : I) → I.can_next items }
     requires ends { IsFinite (I.remaining items) }
@@ -64,21 +64,21 @@ fn iterate<T: Debug + Drop, I: Iterator<Item = T> + Clone + Drop>(
 }
 
 /// Appends whether two sets are equal. Each comparison is within a window.
-fn show_equal<'a>(set: &Set<'a>, other: &Set<'a>, output: &mut Output<'a>) {
+fn show_equal(set: &Set, other: &Set, output: &mut Output) {
     output.show(&(*set == *other));
     output.begin();
     output.show(&(*set != *other));
 }
 
 /// Appends the hash that a hasher which is not counted gives a set.
-fn show_hash<'a>(set: &Set<'a>, output: &mut Output<'a>) {
+fn show_hash(set: &Set, output: &mut Output) {
     let hasher = BuildKeyHasher::default();
     output.show(&hasher.hash_one(set));
 }
 
 /// Runs the call of this name that compares two sets or hashes one, and returns whether there is
 /// one.
-fn compare<'a>(name: &str, set: &Set<'a>, other: &Set<'a>, output: &mut Output<'a>) -> bool {
+fn compare(name: &str, set: &Set, other: &Set, output: &mut Output) -> bool {
     match name {
         "is_subset" => output.show(&set.is_subset(other)),
         "is_superset" => output.show(&set.is_superset(other)),
@@ -91,13 +91,7 @@ fn compare<'a>(name: &str, set: &Set<'a>, other: &Set<'a>, output: &mut Output<'
 }
 
 /// Runs the call of this name on two sets, and returns whether there is one.
-pub fn run<'a>(
-    name: &str,
-    line: &mut Line<'a>,
-    set: &Set<'a>,
-    other: &Set<'a>,
-    output: &mut Output<'a>,
-) -> bool {
+pub fn run(name: &str, line: &mut Line, set: &Set, other: &Set, output: &mut Output) -> bool {
     match name {
         "difference" => iterate(set.difference(other), line, output),
         "symmetric_difference" => iterate(set.symmetric_difference(other), line, output),

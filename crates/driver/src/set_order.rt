@@ -11,7 +11,7 @@ use linked_hash_set::LinkedHashSet;
 use std::alloc::Global;
 
 /// Sorts by the texts as numbers modulo 7, compared as a word says.
-fn sort_by<'a>(set: &mut Set<'a>, line: &mut Line<'a>, output: &mut Output<'a>) {
+fn sort_by(set: &mut Set, line: &mut Line, output: &mut Output) {
     let word = line.word();
     let guard = line.guard();
     let calls = Calls::new(line.counts());
@@ -24,9 +24,9 @@ fn sort_by<'a>(set: &mut Set<'a>, line: &mut Line<'a>, output: &mut Output<'a>) 
 }
 
 /// Sorts a set of the same items that are compared as they are, and appends it.
-fn sort<'a>(alloc: Global, set: &Set<'a>, output: &mut Output<'a>) {
+fn sort(alloc: Global, set: &Set, output: &mut Output) {
     output.end();
-    let mut sorted: LinkedHashSet<OrderedKey<'a>> = LinkedHashSet::new(alloc);
+    let mut sorted: LinkedHashSet<OrderedKey> = LinkedHashSet::new(alloc);
     for item in set {
         output.note(sorted.insert(item.ordered()));
     }
@@ -36,12 +36,12 @@ fn sort<'a>(alloc: Global, set: &Set<'a>, output: &mut Output<'a>) {
 }
 
 /// Runs the call of this name that sorts a set or turns it round, and returns whether there is one.
-fn run_on_all<'a>(
+fn run_on_all(
     alloc: Global,
     name: &str,
-    line: &mut Line<'a>,
-    set: &mut Set<'a>,
-    output: &mut Output<'a>,
+    line: &mut Line,
+    set: &mut Set,
+    output: &mut Output,
 ) -> bool {
     match name {
         "sort_by" => sort_by(set, line, output),
@@ -53,7 +53,7 @@ fn run_on_all<'a>(
 }
 
 /// Runs the call of this name that iterates from an item on, and returns whether there is one.
-fn iterate<'a>(name: &str, line: &mut Line<'a>, set: &Set<'a>, output: &mut Output<'a>) -> bool {
+fn iterate(name: &str, line: &mut Line, set: &Set, output: &mut Output) -> bool {
     match name {
         "iter_from" => {
             let item = line.key();
@@ -69,13 +69,13 @@ fn iterate<'a>(name: &str, line: &mut Line<'a>, set: &Set<'a>, output: &mut Outp
 }
 
 /// Runs the call of this name, and returns whether there is one.
-pub fn run<'a>(
+pub fn run(
     alloc: Global,
     name: &str,
-    line: &mut Line<'a>,
-    set: &mut Set<'a>,
-    other: &mut Set<'a>,
-    output: &mut Output<'a>,
+    line: &mut Line,
+    set: &mut Set,
+    other: &mut Set,
+    output: &mut Output,
 ) -> bool {
     match name {
         "append" => output.show_refusal(set.append(other)),

@@ -12,10 +12,10 @@ use linked_hash_set::LinkedHashSet;
 use std::alloc::Global;
 
 /// The sets that the lines speak of.
-pub type Set<'a> = LinkedHashSet<Key<'a>, BuildKeyHasher<'a>>;
+pub type Set = LinkedHashSet<Key, BuildKeyHasher>;
 
 /// Inserts an item that a closure makes anew, if it is absent.
-fn get_or_insert_with<'a>(set: &mut Set<'a>, line: &mut Line<'a>, output: &mut Output<'a>) {
+fn get_or_insert_with(set: &mut Set, line: &mut Line, output: &mut Output) {
     let item = line.key();
     let guard = line.guard();
     let returned = set.get_or_insert_with(&item, move |item| {
@@ -26,12 +26,7 @@ fn get_or_insert_with<'a>(set: &mut Set<'a>, line: &mut Line<'a>, output: &mut O
 }
 
 /// Runs the call of this name that inserts or looks up one item, and returns whether there is one.
-fn run_by_item<'a>(
-    name: &str,
-    line: &mut Line<'a>,
-    set: &mut Set<'a>,
-    output: &mut Output<'a>,
-) -> bool {
+fn run_by_item(name: &str, line: &mut Line, set: &mut Set, output: &mut Output) -> bool {
     match name {
         "insert" => output.show_result(set.insert(line.key())),
         "insert_if_absent" => output.show_result(set.insert_if_absent(line.key())),
@@ -44,12 +39,7 @@ fn run_by_item<'a>(
 }
 
 /// Runs the call of this name that looks up one item, and returns whether there is one.
-fn look_up<'a>(
-    name: &str,
-    line: &mut Line<'a>,
-    set: &mut Set<'a>,
-    output: &mut Output<'a>,
-) -> bool {
+fn look_up(name: &str, line: &mut Line, set: &mut Set, output: &mut Output) -> bool {
     match name {
         "contains" => output.show(&set.contains(&line.key())),
         "get" => output.show(&set.get(&line.key())),
@@ -64,7 +54,7 @@ fn look_up<'a>(
 }
 
 /// Keeps the items whose texts, as numbers, are not the given number modulo 7.
-fn retain<'a>(set: &mut Set<'a>, line: &mut Line<'a>, output: &mut Output<'a>) {
+fn retain(set: &mut Set, line: &mut Line, output: &mut Output) {
     let number = line.number();
     let guard = line.guard();
     let calls = Calls::new(line.counts());
@@ -78,7 +68,7 @@ fn retain<'a>(set: &mut Set<'a>, line: &mut Line<'a>, output: &mut Output<'a>) {
 }
 
 /// Appends every item, in a loop over the set. Each step is within a window.
-fn show_all<'a>(set: &Set<'a>, output: &mut Output<'a>) {
+fn show_all(set: &Set, output: &mut Output) {
     for item in set {
         output.show(item);
         output.begin();
@@ -86,7 +76,7 @@ fn show_all<'a>(set: &Set<'a>, output: &mut Output<'a>) {
 }
 
 /// Iterates over a clone that is taken.
-fn into_iter<'a>(set: &Set<'a>, line: &mut Line<'a>, output: &mut Output<'a>) {
+fn into_iter(set: &Set, line: &mut Line, output: &mut Output) {
     match set.clone() {
         Ok(copy) => iterate_to_the_end(copy.into_iter(), line, output),
         Err(refused) => output.show_refused(refused),
@@ -95,12 +85,7 @@ fn into_iter<'a>(set: &Set<'a>, line: &mut Line<'a>, output: &mut Output<'a>) {
 
 /// Runs the call of this name at an end of a set, or on all of its items, and returns whether there
 /// is one.
-fn run_on_items<'a>(
-    name: &str,
-    line: &mut Line<'a>,
-    set: &mut Set<'a>,
-    output: &mut Output<'a>,
-) -> bool {
+fn run_on_items(name: &str, line: &mut Line, set: &mut Set, output: &mut Output) -> bool {
     match name {
         "front" => output.show(&set.front()),
         "back" => output.show(&set.back()),
@@ -118,12 +103,7 @@ fn run_on_items<'a>(
 }
 
 /// Runs the call of this name on a whole set, and returns whether there is one.
-fn run_on_all<'a>(
-    name: &str,
-    line: &mut Line<'a>,
-    set: &mut Set<'a>,
-    output: &mut Output<'a>,
-) -> bool {
+fn run_on_all(name: &str, line: &mut Line, set: &mut Set, output: &mut Output) -> bool {
     match name {
         "len" => output.show_two(&set.len(), &set.is_empty()),
         "capacity" => output.show(&set.capacity()),
@@ -139,13 +119,13 @@ fn run_on_all<'a>(
 
 /// Runs the call of this name, appends what it returns and the list, and returns whether there is
 /// such a call.
-pub fn run<'a>(
+pub fn run(
     alloc: Global,
     name: &str,
-    line: &mut Line<'a>,
-    set: &mut Set<'a>,
-    other: &mut Set<'a>,
-    output: &mut Output<'a>,
+    line: &mut Line,
+    set: &mut Set,
+    other: &mut Set,
+    output: &mut Output,
 ) -> bool {
     let is_known = set_making::run(alloc, name, line, set, other, output)
         || run_by_item(name, line, set, output)

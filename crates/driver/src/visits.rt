@@ -11,10 +11,10 @@ use linked_hash_map::Entries;
 use std::mem;
 
 /// Makes an edit by the next entry of a cursor.
-fn edit_next<'a>(
-    entries: &mut Entries<'_, Key<'a>, Value<'a>, BuildKeyHasher<'a>>,
-    edit: &mut Edit<'a>,
-    output: &mut Output<'a>,
+fn edit_next(
+    entries: &mut Entries<'_, Key, Value, BuildKeyHasher>,
+    edit: &mut Edit,
+    output: &mut Output,
 ) {
     output.begin();
     let Some(mut entry) = entries.next() else {
@@ -26,7 +26,7 @@ fn edit_next<'a>(
 
 /// Makes an edit by each entry of a cursor, up to the end of the word, and drops or forgets the
 /// cursor.
-fn edit_each<'a>(map: &mut Map<'a>, line: &mut Line<'a>, output: &mut Output<'a>) {
+fn edit_each(map: &mut Map, line: &mut Line, output: &mut Output) {
     let edits = line.word();
     let mut edit = Edit::new("", line);
     let mut entries = map.entries();
@@ -57,32 +57,27 @@ macro_rules! edit_if_some {
 }
 
 /// Makes an edit by the next entry of a visit.
-fn edit_next_entry<'a>(map: &mut Map<'a>, line: &mut Line<'a>, output: &mut Output<'a>) {
+fn edit_next_entry(map: &mut Map, line: &mut Line, output: &mut Output) {
     edit_if_some!(map.next_entry(), line, output);
 }
 
 /// Makes an edit by the entry of the front pair.
-fn edit_front<'a>(map: &mut Map<'a>, line: &mut Line<'a>, output: &mut Output<'a>) {
+fn edit_front(map: &mut Map, line: &mut Line, output: &mut Output) {
     edit_if_some!(map.front_entry(), line, output);
 }
 
 /// Makes an edit by the entry of the back pair.
-fn edit_back<'a>(map: &mut Map<'a>, line: &mut Line<'a>, output: &mut Output<'a>) {
+fn edit_back(map: &mut Map, line: &mut Line, output: &mut Output) {
     edit_if_some!(map.back_entry(), line, output);
 }
 
 /// Begins a visit.
-fn visit<'a>(map: &mut Map<'a>) {
+fn visit(map: &mut Map) {
     let _map = map.visit();
 }
 
 /// Runs the call of this name, and returns whether there is one.
-pub fn run<'a>(
-    name: &str,
-    line: &mut Line<'a>,
-    map: &mut Map<'a>,
-    output: &mut Output<'a>,
-) -> bool {
+pub fn run(name: &str, line: &mut Line, map: &mut Map, output: &mut Output) -> bool {
     match name {
         "entries" => edit_each(map, line, output),
         "visit" => visit(map),
