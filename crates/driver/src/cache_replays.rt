@@ -6,7 +6,6 @@ use super::line::Line;
 use super::output::Output;
 use super::value::Value;
 use lru_cache::replay::{Answer, replay};
-use std::alloc::Global;
 
 /// A command of the words of a line.
 type Command = lru_cache::replay::Command<Key, Value>;
@@ -25,8 +24,8 @@ fn next_command(line: &mut Line) -> Option<Command> {
 }
 
 /// Reads all commands of a line.
-fn commands(alloc: Global, line: &mut Line, output: &mut Output) -> Vec<Command> {
-    let mut commands = Vec::new(alloc);
+fn commands(line: &mut Line, output: &mut Output) -> Vec<Command> {
+    let mut commands = Vec::new(line.alloc);
     for _ in 0..line.words_left() {
         if let Some(command) = next_command(line) {
             output.note(commands.push(command));
@@ -44,9 +43,9 @@ fn show_answers(answers: Vec<Answer<Key, Value>>, output: &mut Output) {
 }
 
 /// Runs the commands of a line.
-pub fn replay_all(alloc: Global, cache: &mut Cache, line: &mut Line, output: &mut Output) {
+pub fn replay_all(cache: &mut Cache, line: &mut Line, output: &mut Output) {
     output.end();
-    let commands = commands(alloc, line, output);
+    let commands = commands(line, output);
     output.begin();
     let returned = replay(cache, commands);
     output.end();

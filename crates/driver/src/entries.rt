@@ -26,10 +26,15 @@ pub struct Edit {
 }
 
 impl Edit {
-    /// Makes an edit of no letter, of a word of a key and of the next word as values.
-    pub fn new(key: &'static str, line: &mut Line) -> Edit {
+    /// Makes an edit of the first letter of a word, of a word of a key and of the next word as
+    /// values.
+    pub fn new(key: &'static str, letters: &str, line: &mut Line) -> Edit {
+        let letter = match letters.as_bytes().first() {
+            Some(byte) => *byte,
+            None => 0,
+        };
         Edit {
-            letter: 0,
+            letter,
             values: line.values(),
             key,
         }
@@ -47,13 +52,13 @@ impl Edit {
 }
 
 /// Inserts a value by an entry, and appends the one that was there.
-fn show_replaced(entry: &mut Occupied<'_>, value: Value, output: &mut Output) {
+fn show_replaced(entry: &mut Occupied, value: Value, output: &mut Output) {
     output.begin();
     output.show(&entry.insert(value));
 }
 
 /// Inserts a value and then 0.
-fn insert_twice(entry: &mut Occupied<'_>, values: &mut Values, output: &mut Output) {
+fn insert_twice(entry: &mut Occupied, values: &mut Values, output: &mut Output) {
     let value = values.take();
     let zero = values.zero();
     show_replaced(entry, value, output);
@@ -61,9 +66,9 @@ fn insert_twice(entry: &mut Occupied<'_>, values: &mut Values, output: &mut Outp
 }
 
 /// Writes the value of an entry at `w`, inserts one at `i`, or inserts one and then 0 at `t`.
-fn edit_value(entry: &mut Occupied<'_>, edit: &mut Edit, output: &mut Output) {
+fn edit_value(entry: &mut Occupied, edit: &mut Edit, output: &mut Output) {
     match edit.letter {
-        b'w' => output.write(entry.get_mut(), edit.values.take()),
+        b'w' => output.replace(entry.get_mut(), edit.values.take()),
         b'i' => show_replaced(entry, edit.values.take(), output),
         b't' => insert_twice(entry, &mut edit.values, output),
         _ => {}
@@ -71,14 +76,14 @@ fn edit_value(entry: &mut Occupied<'_>, edit: &mut Edit, output: &mut Output) {
 }
 
 /// Replaces the key of an entry.
-fn replace_key(entry: &mut Occupied<'_>, key: Key, output: &mut Output) {
+fn replace_key(entry: &mut Occupied, key: Key, output: &mut Output) {
     output.begin();
     output.show_key(entry.replace_key(key));
 }
 
 /// Moves the pair of an entry to the back at `b` or to the front at `f`, or replaces its key at
 /// `p`.
-fn edit_place_or_key(entry: &mut Occupied<'_>, edit: &Edit, output: &mut Output) {
+fn edit_place_or_key(entry: &mut Occupied, edit: &Edit, output: &mut Output) {
     match edit.letter {
         b'b' => entry.move_to_back(),
         b'f' => entry.move_to_front(),
@@ -88,7 +93,7 @@ fn edit_place_or_key(entry: &mut Occupied<'_>, edit: &Edit, output: &mut Output)
 }
 
 /// Makes an edit in place.
-pub fn edit_in_place(entry: &mut Occupied<'_>, edit: &mut Edit, output: &mut Output) {
+pub fn edit_in_place(entry: &mut Occupied, edit: &mut Edit, output: &mut Output) {
     edit_value(entry, edit, output);
     edit_place_or_key(entry, edit, output);
 }
@@ -122,7 +127,7 @@ macro_rules! edit_occupied {
 pub(crate) use edit_occupied;
 
 /// Appends a value that was inserted.
-fn show_inserted(lent: &Lent<'_>, output: &mut Output) {
+fn show_inserted(lent: &Lent, output: &mut Output) {
     match lent {
         Ok(lent) => output.show(lent),
         Err(refused) => refused.show(output),
@@ -130,7 +135,7 @@ fn show_inserted(lent: &Lent<'_>, output: &mut Output) {
 }
 
 /// Writes to a value that was inserted.
-fn write_inserted(lent: &mut Lent<'_>, value: Value, output: &mut Output) {
+fn write_inserted(lent: &mut Lent, value: Value, output: &mut Output) {
     output.end();
     match lent {
         Ok(lent) => **lent = value,
@@ -167,18 +172,8 @@ fn edit_by_entry(map: &mut Map, key: Key, edit: &mut Edit, output: &mut Output) 
 fn edit_entry(map: &mut Map, line: &mut Line, output: &mut Output) {
     let word = line.word();
     let key = line.key_of(word);
-    let letter = first_byte(line.word());
-    let mut edit = Edit::new(word, line);
-    edit.letter = letter;
+    let mut edit = Edit::new(word, line.word(), line);
     edit_by_entry(map, key, &mut edit, output);
-}
-
-/// Returns the first byte of a word, or 0 if there is none.
-pub fn first_byte(word: &str) -> u8 {
-    match word.as_bytes().first() {
-        Some(byte) => *byte,
-        None => 0,
-    }
 }
 
 /// Appends the key of an entry, and drops the entry.
@@ -200,9 +195,9 @@ fn replace_entry_key(map: &mut Map, line: &mut Line, output: &mut Output) {
     }
 }
 
-/// Runs the call of this name, and returns whether there is one.
-pub fn run(name: &str, line: &mut Line, map: &mut Map, output: &mut Output) -> bool {
-    match name {
+/// Runs the call of a line, and returns whether there is one.
+pub fn run(line: &mut Line, map: &mut Map, output: &mut Output) -> bool {
+    match line.name() {
         "entry" => edit_entry(map, line, output),
         "entry_key" => show_entry_key(map, line.key(), output),
         "entry_replace_key" => replace_entry_key(map, line, output),

@@ -7,7 +7,7 @@ use super::line::Line;
 use super::output::Output;
 use super::value::Value;
 use linked_hash_map::Entry;
-use std::alloc::{AllocError, Global};
+use std::alloc::AllocError;
 use std::cell::Cell;
 use std::ops::Range;
 
@@ -72,42 +72,41 @@ fn put_by_closure(map: &mut Map, key: Key, value: Value, line: &Line, output: &m
     output.is_given(map.entry(key).or_insert_with(make))
 }
 
-/// Inserts the pair of a number by the call of this name, and returns whether there was memory.
-fn put(map: &mut Map, call: &str, number: u64, line: &Line, output: &mut Output) -> bool {
-    let (key, value) = pair(number, line.counts());
-    output.begin();
-    match call {
-        "or_insert" => output.is_given(map.entry(key).or_insert(value)),
-        "or_insert_with" => put_by_closure(map, key, value, line, output),
-        "vacant" => put_by_vacant(map, key, value, output),
-        _ => output.is_given(map.insert(key, value)),
-    }
+/// What can be filled one by one.
+pub trait Fill {
+    /// Puts in what a number makes, by the call of a name, and returns whether there was memory.
+    fn put_number(&mut self, call: &str, number: u64, line: &Line, output: &mut Output) -> bool;
 }
 
-/// Inserts a number with a default value, and returns whether there was memory.
-fn put_default(map: &mut Map, number: u64, line: &Line, output: &mut Output) -> bool {
-    let key = Key::decimal(number, line.counts());
-    output.begin();
-    output.is_given(map.entry(key).or_default())
-}
-
-/// Inserts the default values of the numbers below a count. Each call is within a window.
-fn fill_by_defaults(map: &mut Map, count: u64, line: &Line, output: &mut Output) {
-    for number in 0..count {
-        if !put_default(map, number, line, output) {
-            output.show_refused_number(number);
-            return;
+impl Fill for Map {
+    fn put_number(&mut self, call: &str, number: u64, line: &Line, output: &mut Output) -> bool {
+        let key = Key::decimal(number, line.counts());
+        if call == "or_default" {
+            output.begin();
+            return output.is_given(self.entry(key).or_default());
+        }
+        let value = Value::new(number, line.counts());
+        output.begin();
+        match call {
+            "or_insert" => output.is_given(self.entry(key).or_insert(value)),
+            "or_insert_with" => put_by_closure(self, key, value, line, output),
+            "vacant" => put_by_vacant(self, key, value, output),
+            _ => output.is_given(self.insert(key, value)),
         }
     }
-    output.show(&count);
 }
 
-/// Inserts the pairs of the numbers below a count. Each call is within a window.
-fn fill_one_by_one(map: &mut Map, count: u64, call: &str, line: &Line, output: &mut Output) {
+/// Puts in what the numbers below a count make, up to a refusal. Each call is within a window.
+pub fn fill_one_by_one<F: Fill>(
+    filled: &mut F,
+    count: u64,
+    call: &str,
+    line: &Line,
+    output: &mut Output,
+) {
     for number in 0..count {
-        if !put(map, call, number, line, output) {
-            output.show_refused_number(number);
-            return;
+        if !filled.put_number(call, number, line, output) {
+            return output.show_refused_number(number);
         }
     }
     output.show(&count);
@@ -116,16 +115,16 @@ fn fill_one_by_one(map: &mut Map, count: u64, call: &str, line: &Line, output: &
 /// Takes in the pairs of an iterator by the call of this name, and returns whether there was
 /// memory.
 fn take_in(
-    alloc: Global,
     call: &str,
     items: Numbered<'_>,
+    line: &Line,
     map: &mut Map,
     output: &mut Output,
 ) -> bool {
     match call {
         "extend" => output.is_given(map.extend(items)),
         "collect" => {
-            let made: Result<Map, AllocError> = items.collect(alloc);
+            let made: Result<Map, AllocError> = items.collect(line.alloc);
             output.is_stored(map, made)
         }
         _ => output.is_given(<Map as Extend<(Key, Value)>>::extend(map, items)),
@@ -134,61 +133,47 @@ fn take_in(
 
 /// Makes a map of pairs by an iterator that knows how many they are, and returns whether there was
 /// memory.
-fn make(
-    alloc: Global,
-    numbers: Range<u64>,
-    last: &Cell<u64>,
-    counts: &'static Counts,
-    map: &mut Map,
-    output: &mut Output,
-) -> bool {
-    let items = numbers.map(move |number| {
+fn make(count: u64, last: &Cell<u64>, line: &Line, map: &mut Map, output: &mut Output) -> bool {
+    let counts = line.counts();
+    let items = (0..count).map(move |number| {
         last.set(number);
         pair(number, counts)
     });
-    output.is_stored(map, Map::from_iter(alloc, items))
+    output.is_stored(map, Map::from_iter(line.alloc, items))
 }
 
 /// Takes in the pairs of the numbers below a count, by one call.
-fn fill_at_once(
-    alloc: Global,
-    map: &mut Map,
-    count: u64,
-    call: &str,
-    line: &Line,
-    output: &mut Output,
-) {
-    let counts = line.counts();
+fn fill_at_once(map: &mut Map, count: u64, call: &str, line: &Line, output: &mut Output) {
     let last = Cell::new(0);
     let is_given = if call == "from_iter" {
-        make(alloc, 0..count, &last, counts, map, output)
+        make(count, &last, line, map, output)
     } else {
-        let items = Numbered::new(count, &last, counts);
-        take_in(alloc, call, items, map, output)
+        take_in(
+            call,
+            Numbered::new(count, &last, line.counts()),
+            line,
+            map,
+            output,
+        )
     };
-    if is_given {
-        output.show(&count);
-    } else {
-        output.show_refused_number(last.get());
-    }
+    output.show_filled(is_given, count, last.get());
 }
 
 /// Fills a map by a call, up to a refusal.
-fn fill(alloc: Global, map: &mut Map, line: &mut Line, output: &mut Output) {
+fn fill(map: &mut Map, line: &mut Line, output: &mut Output) {
     let (count, call) = (line.number(), line.word());
     match call {
         "extend" | "extend_trait" | "collect" | "from_iter" => {
-            fill_at_once(alloc, map, count, call, line, output);
+            fill_at_once(map, count, call, line, output);
         }
-        "or_default" => fill_by_defaults(map, count, line, output),
         _ => fill_one_by_one(map, count, call, line, output),
     }
 }
 
-/// Runs the call of this name, and returns whether there is one.
-pub fn run(alloc: Global, name: &str, line: &mut Line, map: &mut Map, output: &mut Output) -> bool {
-    match name {
-        "fill" => fill(alloc, map, line, output),
+/// Runs the call of a line, and returns whether there is one.
+pub fn run(line: &mut Line, map: &mut Map, output: &mut Output) -> bool {
+    match line.name() {
+        "fill" => fill(map, line, output),
         "refuse_clone" => line.counts().set_refused_clone(line.number()),
         _ => return false,
     }

@@ -12,8 +12,7 @@ fn show_and_increase(lent: &mut Lent<'_>, output: &mut Output) {
     match lent {
         Ok(value) => {
             output.show(&**value);
-            let increased = value.increased(1);
-            **value = increased;
+            value.increase(1);
         }
         Err(refused) => refused.show(output),
     }
@@ -56,9 +55,10 @@ fn ask_for_box(alloc: Global) {
 }
 
 /// Inserts what a closure makes that asks for memory too.
-fn or_insert_with_box(alloc: Global, map: &mut Map, line: &mut Line, output: &mut Output) {
+fn or_insert_with_box(map: &mut Map, line: &mut Line, output: &mut Output) {
     let (key, value) = (line.key(), line.value());
     let guard = line.guard();
+    let alloc = line.alloc;
     let make = move || {
         drop(guard);
         ask_for_box(alloc);
@@ -67,16 +67,16 @@ fn or_insert_with_box(alloc: Global, map: &mut Map, line: &mut Line, output: &mu
     show_and_increase(&mut map.entry(key).or_insert_with(make), output);
 }
 
-/// Runs the call of this name, and returns whether there is one.
-pub fn run(alloc: Global, name: &str, line: &mut Line, map: &mut Map, output: &mut Output) -> bool {
-    match name {
+/// Runs the call of a line, and returns whether there is one.
+pub fn run(line: &mut Line, map: &mut Map, output: &mut Output) -> bool {
+    match line.name() {
         "or_insert" => show_and_increase(
             &mut map.entry(line.key()).or_insert(line.value()),
             output,
         ),
         "or_insert_with" => or_insert_with(map, line, output),
         "or_insert_with_key" => or_insert_with_key(map, line, output),
-        "or_insert_with_box" => or_insert_with_box(alloc, map, line, output),
+        "or_insert_with_box" => or_insert_with_box(map, line, output),
         "or_default" => show_and_increase(&mut map.entry(line.key()).or_default(), output),
         "and_modify" => and_modify(map, line, output),
         _ => return false,

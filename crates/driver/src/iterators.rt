@@ -7,7 +7,6 @@ use super::making::take;
 use super::output::Output;
 use super::value::Value;
 use linked_hash_map::{IterMut, ValuesMut};
-use std::alloc::Global;
 use std::fmt::Debug;
 use std::mem;
 
@@ -72,7 +71,7 @@ pub fn iterate_and_clone<
 /// Appends a pair, and writes its value.
 fn write_pair(key: &Key, lent: &mut Value, value: Value, output: &mut Output) {
     output.show_pair(key, lent);
-    output.write(lent, value);
+    output.replace(lent, value);
 }
 
 /// Iterates by what `iter_mut` returns, and writes each value that is lent.
@@ -94,7 +93,7 @@ pub fn iterate_and_write(pairs: IterMut<'_, Key, Value>, line: &mut Line, output
 /// Appends a value, and writes it.
 fn write_value(lent: &mut Value, value: Value, output: &mut Output) {
     output.show(lent);
-    output.write(lent, value);
+    output.replace(lent, value);
 }
 
 /// Iterates by what `values_mut` returns, and writes each value that is lent.
@@ -132,17 +131,6 @@ fn show_all(map: &Map, output: &mut Output) {
     }
 }
 
-/// Iterates by `drain`, and drops or forgets the iterator.
-fn drain(map: &mut Map, line: &mut Line, output: &mut Output) {
-    let mut pairs = map.drain();
-    iterate(&mut pairs, line.word(), output);
-    if line.word() == "forget" {
-        mem::forget(pairs);
-    } else {
-        output.drop_within(pairs);
-    }
-}
-
 /// Iterates over a map that is taken, and forgets what is left.
 fn iterate_and_forget(map: Map, steps: &str, output: &mut Output) {
     let mut pairs = map.into_iter();
@@ -166,36 +154,22 @@ pub fn iterate_to_the_end<
     }
 }
 
-/// Runs the call of this name that takes the map, and returns whether there is one.
-fn run_owned(
-    alloc: Global,
-    name: &str,
-    line: &mut Line,
-    map: &mut Map,
-    output: &mut Output,
-) -> bool {
-    match name {
-        "into_iter" => iterate_and_clone(take(alloc, map).into_iter(), line, output),
-        "into_iter_forget" => iterate_and_forget(take(alloc, map), line.word(), output),
-        "into_keys" => iterate_to_the_end(take(alloc, map).into_keys(), line, output),
-        "into_values" => iterate_to_the_end(take(alloc, map).into_values(), line, output),
-        _ => return false,
-    }
-    true
-}
-
-/// Runs the call of this name, and returns whether there is one.
-pub fn run(alloc: Global, name: &str, line: &mut Line, map: &mut Map, output: &mut Output) -> bool {
-    match name {
+/// Runs the call of a line, and returns whether there is one.
+pub fn run(line: &mut Line, map: &mut Map, output: &mut Output) -> bool {
+    match line.name() {
         "iter" => iterate_and_clone(map.iter(), line, output),
         "keys" => iterate_and_clone(map.keys(), line, output),
         "values" => iterate_and_clone(map.values(), line, output),
         "iter_mut" => iterate_and_write(map.iter_mut(), line, output),
         "values_mut" => iterate_values_and_write(map.values_mut(), line, output),
-        "drain" => drain(map, line, output),
+        "drain" => iterate_to_the_end(map.drain(), line, output),
         "loop" => show_all(map, output),
         "loop_mut" => add(map, line.number()),
-        _ => return run_owned(alloc, name, line, map, output),
+        "into_iter" => iterate_and_clone(take(line, map).into_iter(), line, output),
+        "into_iter_forget" => iterate_and_forget(take(line, map), line.word(), output),
+        "into_keys" => iterate_to_the_end(take(line, map).into_keys(), line, output),
+        "into_values" => iterate_to_the_end(take(line, map).into_values(), line, output),
+        _ => return false,
     }
     true
 }

@@ -47,9 +47,9 @@ pub fn advance_and_clone<T: Debug + Drop, I: Iterator<Item = T> + Clone + Drop>(
     output.drop_within(items);
 }
 
-/// Runs the call of this name, and returns whether there is one.
-pub fn run(name: &str, line: &mut Line, map: &Map, output: &mut Output) -> bool {
-    match name {
+/// Runs the call of a line, and returns whether there is one.
+pub fn run(line: &mut Line, map: &Map, output: &mut Output) -> bool {
+    match line.name() {
         "iter_from" => {
             let key = line.key();
             advance_and_clone(map.iter_from(&key), line, output);

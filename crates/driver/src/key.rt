@@ -8,23 +8,20 @@ ghost use Rattle.std.proofs.Common.{rules};
 ghost use Rattle.driver.specs.Keys.{same_cmp, same_cmp_partial_order};
 
 use super::copied::CopiedKey;
-use super::counts::{Counts, Event, Kind};
-use super::ordered::OrderedKey;
-use std::alloc::AllocError;
+use super::counts::{Counts, Effect};
+use super::identity::Identity;
 use std::cmp::Ordering;
 use std::fmt;
 use std::hash::{Hash, Hasher};
 
-/// What is added to the serial number of a key or a value to give that of a copy.
-pub const COPY: u64 = 4_294_967_296;
-
 /// The first eight bytes of a text. Two keys are the same if they differ in case alone, so what
 /// a map has stored shows which of them it keeps.
+#[derive(Clone, Drop)]
 pub struct Key {
+    identity: Identity,
     text: [u8; 8],
     /// The text in lower case, as one number.
     folded: u64,
-    serial: u64,
     counts: &'static Counts,
 }
 
@@ -35,44 +32,38 @@ impl Key {
         for (place, byte) in bytes.iter_mut().zip(text.bytes()) {
             *place = byte;
         }
-        let mut lower = bytes;
+        Key::of_bytes(bytes, counts)
+    }
+
+    fn of_bytes(text: [u8; 8], counts: &'static Counts) -> Key {
+        let mut lower = text;
         for place in lower.iter_mut() {
             *place = place.to_ascii_lowercase();
         }
         Key {
-            text: bytes,
+            identity: Identity::new(counts, Effect::DropKey),
+            text,
             folded: u64::from_le_bytes(lower),
-            serial: counts.next_serial(),
             counts,
         }
     }
 
     /// Makes a key of the decimal text of a number, with the next serial number.
     pub fn decimal(number: u64, counts: &'static Counts) -> Key {
-        let text = decimal_text(number);
-        Key {
-            text,
-            folded: u64::from_le_bytes(text),
-            serial: counts.next_serial(),
-            counts,
-        }
+        Key::of_bytes(decimal_text(number), counts)
     }
 
     /// Makes a key of the same text, with the next serial number.
     pub fn again(&self) -> Key {
-        self.with_serial(self.counts.next_serial())
+        Key::of_bytes(self.text, self.counts)
     }
 
     /// Makes a copy, which is not counted as a clone.
     pub fn copy(&self) -> Key {
-        self.with_serial(self.serial.wrapping_add(COPY))
-    }
-
-    fn with_serial(&self, serial: u64) -> Key {
         Key {
+            identity: self.identity.copy(),
             text: self.text,
             folded: self.folded,
-            serial,
             counts: self.counts,
         }
     }
@@ -87,14 +78,14 @@ impl Key {
         CopiedKey::new(self.text, self.folded, self.counts)
     }
 
-    /// Returns the text as a key that is compared as it is.
-    pub fn ordered(&self) -> OrderedKey {
-        OrderedKey::new(self.number(), self.counts)
+    /// Returns the text as a key that is copied, and compared as it is.
+    pub fn ordered(&self) -> CopiedKey {
+        CopiedKey::new(self.text, self.number(), self.counts)
     }
 
     /// Returns the serial number.
     pub fn serial(&self) -> u64 {
-        self.serial
+        self.identity.serial()
     }
 }
 
@@ -112,35 +103,13 @@ fn decimal_text(number: u64) -> [u8; 8] {
     u64::to_be_bytes(text)
 }
 
-impl Drop for Key {
-    fn drop(self) {
-        self.counts.count_drop(Kind::Key, self.serial);
-        let Key {
-            text: _,
-            folded: _,
-            serial: _,
-            counts: _,
-        } = self;
-    }
-}
-
-impl Clone for Key {
-    fn clone(&self) -> Result<Key, AllocError> {
-        self.counts.count(Event::CloneKey);
-        if self.counts.refuses_clone() {
-            return Err(AllocError);
-        }
-        Ok(self.copy())
-    }
-}
-
 impl PartialEq for Key {
     ghost eq = { on (λ key. key.folded) ◌==◌ };
 
     ghost laws = { Prim.search (comparing, rules) };
 
     fn eq(&self, other: &Key) -> bool {
-        self.counts.count(Event::EqKey);
+        self.identity.count(Effect::EqKey);
         self.folded == other.folded
     }
 }
@@ -156,7 +125,7 @@ impl PartialOrd for Key {
     ghost laws = { on_po (λ key. key.folded) same_cmp_partial_order };
 
     fn partial_cmp(&self, other: &Key) -> Option<Ordering> {
-        self.counts.count(Event::CmpKey);
+        self.identity.count(Effect::CmpKey);
         if self.folded == other.folded {
             Some(Ordering::Equal)
         } else {
@@ -171,7 +140,7 @@ impl Hash for Key {
     ghost respects_eq = { Prim.search (hashing, rules) };
 
     fn hash<H: Hasher>(&self, state: &mut H) {
-        self.counts.count(Event::HashKey);
+        self.identity.count(Effect::HashKey);
         state.write_u64(self.folded);
     }
 }

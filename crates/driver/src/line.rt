@@ -1,27 +1,51 @@
 //! The words of a line.
 
-use super::counts::Counts;
-use super::guard::Guard;
+use super::counts::{Counts, Effect};
 use super::hasher::{BuildKeyHasher, Choice};
+use super::identity::Identity;
 use super::key::Key;
 use super::value::{Value, Values};
+use std::alloc::Global;
 use std::mem;
 use std::str::SplitWhitespace;
 
-/// The words of a line that are left. A word that is missing is empty, and one that is no number
-/// is 0. Each key, value and hasher that is made of a word has the next serial number.
+/// The name of a call and the words of its line that are left. A word that is missing is empty, and
+/// one that is no number is 0. Each key, value and hasher that is made of a word has the next serial
+/// number.
 #[derive(Drop)]
 pub struct Line {
+    pub alloc: Global,
+    name: &'static str,
     words: SplitWhitespace<'static>,
     counts: &'static Counts,
 }
 
 impl Line {
-    /// Begins a line.
-    pub fn new(text: &'static str, counts: &'static Counts) -> Line {
-        Line {
+    /// Begins a line, whose first word is the name.
+    pub fn new(alloc: Global, text: &'static str, counts: &'static Counts) -> Line {
+        let mut line = Line {
+            alloc,
+            name: "",
             words: text.split_whitespace(),
             counts,
+        };
+        line.name = line.word();
+        line
+    }
+
+    /// Returns the name of the call.
+    pub fn name(&self) -> &'static str {
+        self.name
+    }
+
+    /// Returns whether the name begins with a prefix, and takes it off.
+    pub fn strip_prefix(&mut self, prefix: &str) -> bool {
+        match self.name.strip_prefix(prefix) {
+            Some(name) => {
+                self.name = name;
+                true
+            }
+            None => false,
         }
     }
 
@@ -66,20 +90,14 @@ impl Line {
         }
     }
 
-    /// Returns how many pairs the words that are left make.
-    pub fn pairs_left(&self) -> usize {
-        let words = self.words_left();
-        words / 2 + words % 2
-    }
-
     /// Returns the counts.
     pub fn counts(&self) -> &'static Counts {
         self.counts
     }
 
-    /// Makes what a closure owns.
-    pub fn guard(&self) -> Guard {
-        Guard::new(self.counts)
+    /// Makes what a closure owns, so that its drop is counted.
+    pub fn guard(&self) -> Identity {
+        Identity::new(self.counts, Effect::DropClosure)
     }
 
     /// Makes a value of the number 0.
@@ -97,25 +115,24 @@ impl Line {
         self.number() as usize
     }
 
-    /// Returns the next word as a number below 1,000.
-    pub fn small_number(&mut self) -> usize {
-        (self.number() % 1000) as usize
+    /// Takes the words that are left into a line of their own.
+    pub fn rest(&mut self) -> Line {
+        Line {
+            alloc: self.alloc,
+            name: "",
+            words: mem::replace(&mut self.words, "".split_whitespace()),
+            counts: self.counts,
+        }
     }
 
-    /// Returns the words that are left as keys.
+    /// Takes the words that are left as keys.
     pub fn keys(&mut self) -> Keys {
-        Keys {
-            words: mem::replace(&mut self.words, "".split_whitespace()),
-            counts: self.counts,
-        }
+        Keys { line: self.rest() }
     }
 
-    /// Returns the words that are left as pairs of a key and a value.
+    /// Takes the words that are left as pairs of a key and a value.
     pub fn pairs(&mut self) -> Pairs {
-        Pairs {
-            words: mem::replace(&mut self.words, "".split_whitespace()),
-            counts: self.counts,
-        }
+        Pairs { line: self.rest() }
     }
 }
 
@@ -130,68 +147,42 @@ fn number_of(word: &str) -> u64 {
 /// Words as keys, each of which is made when it is taken.
 #[derive(Drop)]
 pub struct Keys {
-    words: SplitWhitespace<'static>,
-    counts: &'static Counts,
-}
-
-impl Keys {
-    /// Returns the next key, whose word may be missing.
-    pub fn next_key(&mut self) -> Key {
-        match self.words.next() {
-            Some(word) => Key::new(word, self.counts),
-            None => Key::new("", self.counts),
-        }
-    }
+    line: Line,
 }
 
 impl Iterator for Keys {
     type Item = Key;
 
-    ghost can_next = { λ keys. ⟦<SplitWhitespace<'static> as Iterator>⟧.can_next keys.words };
+    ghost can_next = { λ keys. ⟦<SplitWhitespace<'static> as Iterator>⟧.can_next keys.line.words };
 
-    ghost remaining = { λ keys. ⟦<SplitWhitespace<'static> as Iterator>⟧.remaining keys.words };
+    ghost remaining = { λ keys. ⟦<SplitWhitespace<'static> as Iterator>⟧.remaining keys.line.words };
 
     fn next(&mut self) -> Option<Key> {
-        let word = self.words.next()?;
-        Some(Key::new(word, self.counts))
+        let word = self.line.words.next()?;
+        Some(self.line.key_of(word))
     }
 }
 
 /// Words as pairs, each of which is made when it is taken.
 #[derive(Drop)]
 pub struct Pairs {
-    words: SplitWhitespace<'static>,
-    counts: &'static Counts,
-}
-
-impl Pairs {
-    /// Returns the next pair, whose words may be missing.
-    pub fn next_pair(&mut self) -> (Key, Value) {
-        let key = match self.words.next() {
-            Some(word) => Key::new(word, self.counts),
-            None => Key::new("", self.counts),
-        };
-        let number = match self.words.next() {
-            Some(word) => number_of(word),
-            None => 0,
-        };
-        (key, Value::new(number, self.counts))
-    }
+    line: Line,
 }
 
 impl Iterator for Pairs {
     type Item = (Key, Value);
 
-    ghost can_next = { λ pairs. ⟦<SplitWhitespace<'static> as Iterator>⟧.can_next pairs.words };
+    ghost can_next = { λ pairs. ⟦<SplitWhitespace<'static> as Iterator>⟧.can_next pairs.line.words };
 
-    ghost remaining = { λ pairs. ⟦<SplitWhitespace<'static> as Iterator>⟧.remaining pairs.words };
+    ghost remaining = { λ pairs. ⟦<SplitWhitespace<'static> as Iterator>⟧.remaining pairs.line.words };
 
     fn next(&mut self) -> Option<(Key, Value)> {
-        let key = Key::new(self.words.next()?, self.counts);
-        let number = match self.words.next() {
+        let word = self.line.words.next()?;
+        let key = self.line.key_of(word);
+        let number = match self.line.words.next() {
             Some(word) => number_of(word),
             None => 0,
         };
-        Some((key, Value::new(number, self.counts)))
+        Some((key, Value::new(number, self.line.counts)))
     }
 }

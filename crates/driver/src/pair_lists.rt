@@ -6,14 +6,13 @@ use super::line::Line;
 use super::output::Output;
 use super::value::Value;
 use linked_hash_map::replay::PairList;
-use std::alloc::Global;
 
 /// The lists that the lines speak of.
 type Pairs = PairList<Key, Value>;
 
 /// Makes a list of the words of a line.
-fn list_of_words(alloc: Global, line: &mut Line, output: &mut Output) -> Pairs {
-    let mut pairs = Vec::new(alloc);
+fn list_of_words(line: &mut Line, output: &mut Output) -> Pairs {
+    let mut pairs = Vec::new(line.alloc);
     for pair in line.pairs() {
         output.note(pairs.push(pair));
     }
@@ -21,8 +20,8 @@ fn list_of_words(alloc: Global, line: &mut Line, output: &mut Output) -> Pairs {
 }
 
 /// Makes a list of copies of the pairs of a map.
-fn list_of_copies(alloc: Global, map: &Map, output: &mut Output) -> Pairs {
-    let mut pairs = Vec::new(alloc);
+fn list_of_copies(line: &Line, map: &Map, output: &mut Output) -> Pairs {
+    let mut pairs = Vec::new(line.alloc);
     for (key, value) in map.iter() {
         output.note(pairs.push((key.copy(), value.copy())));
     }
@@ -53,23 +52,14 @@ fn convert(list: Pairs) -> Pairs {
     PairList::from_vec(Vec::from(list))
 }
 
-/// Makes two lists, and makes each call of a list.
-fn show_calls(alloc: Global, map: &Map, line: &mut Line, output: &mut Output) {
+/// Makes a list of the words of a line and one of a map, and makes each call of a list.
+pub fn show_calls(line: &mut Line, map: &Map, output: &mut Output) {
     output.end();
-    let list = list_of_words(alloc, line, output);
-    let other = list_of_copies(alloc, map, output);
+    let list = list_of_words(line, output);
+    let other = list_of_copies(line, map, output);
     show_list(&list, output);
     show_equal(&list, &other, output);
     output.begin();
     let converted = convert(list);
     output.drop_within(converted);
-}
-
-/// Runs the call of this name, and returns whether there is one.
-pub fn run(alloc: Global, name: &str, line: &mut Line, map: &Map, output: &mut Output) -> bool {
-    if name == "pair_lists" {
-        show_calls(alloc, map, line, output);
-        return true;
-    }
-    false
 }

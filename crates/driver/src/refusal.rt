@@ -26,7 +26,8 @@ impl Refusal for Refused<u64, u64> {
 
 impl Refusal for linked_hash_set::Refused<Key> {
     fn show(&self, output: &mut Output) {
-        output.show_refused_item(&self.item);
+        output.push_str("refused ");
+        output.show_numbered(&self.item, self.item.serial());
     }
 }
 

@@ -58,13 +58,9 @@ pub fn show_no_room(output: &mut Output) {
     output.show(&AllocError::from(NoRoom));
 }
 
-/// Runs the call of this name, and returns whether there is one.
-pub fn run(name: &str, line: &mut Line, output: &mut Output) -> bool {
-    if name == "refused_texts" {
-        show_refused(line, output);
-        show_no_room(output);
-        show_reserve_errors(output);
-        return true;
-    }
-    false
+/// Appends the texts of all errors of a map, and what they are turned into.
+pub fn show_all(line: &mut Line, output: &mut Output) {
+    show_refused(line, output);
+    show_no_room(output);
+    show_reserve_errors(output);
 }

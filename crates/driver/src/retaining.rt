@@ -49,7 +49,7 @@ pub fn keep_and_increase(value: &mut Value, number: u64, by: u64) -> bool {
 }
 
 /// Keeps the pairs whose values are not a number modulo 7, and adds the number of the call to each.
-fn retain(map: &mut Map, line: &mut Line, output: &mut Output) {
+pub fn retain(map: &mut Map, line: &mut Line, output: &mut Output) {
     let number = line.number();
     let guard = line.guard();
     let calls = Calls::new(line.counts());
@@ -59,13 +59,4 @@ fn retain(map: &mut Map, line: &mut Line, output: &mut Output) {
         keep_and_increase(value, number, noted.note())
     });
     calls.show(output);
-}
-
-/// Runs the call of this name, and returns whether there is one.
-pub fn run(name: &str, line: &mut Line, map: &mut Map, output: &mut Output) -> bool {
-    if name == "retain" {
-        retain(map, line, output);
-        return true;
-    }
-    false
 }

@@ -1,11 +1,11 @@
 //! Calls of a table of sessions.
 
 use super::line::Line;
+use super::list::{Digest, SHOWN, list};
 use super::lookups::write_lent;
 use super::output::Output;
 use super::refusal::Refusal;
 use super::retaining::{Calls, keep_and_increase};
-use super::session_lists::{list_sessions, show_sessions};
 use super::stop::Stop;
 use super::value::Value;
 use linked_hash_map::sessions::{Put, PutRefused, Sessions};
@@ -26,15 +26,44 @@ impl Refusal for PutRefused<Value> {
 }
 
 /// Makes an empty table of a limit and a capacity.
-fn with_capacity(alloc: Global, line: &mut Line, table: &mut Table, output: &mut Output) {
+fn with_capacity(line: &mut Line, table: &mut Table, output: &mut Output) {
     let limit = line.number();
-    output.store(table, Table::with_capacity(alloc, limit, line.size()));
+    output.store(table, Table::with_capacity(line.alloc, limit, line.size()));
 }
 
 /// Drops a table within a window, and leaves a new one of the limit 0 in its place.
-fn drop_table(alloc: Global, table: &mut Table, output: &mut Output) {
-    let taken = mem::replace(table, Table::new(alloc, 0));
-    output.drop_within(taken);
+fn drop_table(line: &Line, table: &mut Table, output: &mut Output) {
+    output.drop_within(mem::replace(table, Table::new(line.alloc, 0)));
+}
+
+/// Appends a session that went.
+fn show_gone(session: &(u64, u64, Value), output: &mut Output) {
+    output.show_session(("", " "), session.0, session.1, &session.2);
+}
+
+/// Appends the first session that went, the last and a digest.
+fn show_ends(sessions: &[(u64, u64, Value)], output: &mut Output) {
+    if let Some(first) = sessions.first() {
+        show_gone(first, output);
+    }
+    if let Some(last) = sessions.last() {
+        show_gone(last, output);
+    }
+    let mut digest = Digest::default();
+    for session in sessions {
+        digest.add(&(session.0, session.1, &session.2));
+    }
+    output.show(&digest.sum);
+}
+
+/// Appends the sessions that went in order, or if they are many, the ends.
+fn show_all_gone(sessions: &[(u64, u64, Value)], output: &mut Output) {
+    if sessions.len() > SHOWN {
+        return show_ends(sessions, output);
+    }
+    for session in sessions {
+        show_gone(session, output);
+    }
 }
 
 /// Appends what a put returned: the old payload, and those that went.
@@ -42,7 +71,7 @@ fn show_put(put: Put<Value>, output: &mut Output) {
     output.show(&put.old);
     output.push_str("gone ");
     output.show_size(put.gone.len(), put.gone.capacity());
-    show_sessions(put.gone.as_slice(), output);
+    show_all_gone(put.gone.as_slice(), output);
 }
 
 fn put(table: &mut Table, line: &mut Line, output: &mut Output) {
@@ -98,17 +127,17 @@ fn show_handed(old: Option<Value>, handed: &Handed, output: &mut Output) {
     output.show(&old);
     output.push_str("handed ");
     let sessions = handed.take();
-    show_sessions(sessions.as_slice(), output);
+    show_all_gone(sessions.as_slice(), output);
 }
 
-fn put_with(alloc: Global, table: &mut Table, line: &mut Line, output: &mut Output) {
+fn put_with(table: &mut Table, line: &mut Line, output: &mut Output) {
     output.end();
-    let Ok(sessions) = Vec::with_capacity(alloc, table.len()) else {
+    let Ok(sessions) = Vec::with_capacity(line.alloc, table.len()) else {
         return output.note(Err::<(), _>(Stop::OutOfMemory));
     };
     let handed = Handed {
         sessions: Cell::new(sessions),
-        alloc,
+        alloc: line.alloc,
     };
     match put_into(table, line, &handed, output) {
         Ok(old) => show_handed(old, &handed, output),
@@ -155,28 +184,14 @@ fn iterate(table: &Table, steps: &str, output: &mut Output) {
     output.drop_within(sessions);
 }
 
-/// Runs the call of this name by one session, and returns whether there is one.
-fn run_by_id(
-    alloc: Global,
-    name: &str,
-    line: &mut Line,
-    table: &mut Table,
-    output: &mut Output,
-) -> bool {
-    match name {
+/// Runs the call of a line, and returns whether there is one.
+fn run_call(line: &mut Line, table: &mut Table, output: &mut Output) -> bool {
+    match line.name() {
         "put" => put(table, line, output),
-        "put_with" => put_with(alloc, table, line, output),
+        "put_with" => put_with(table, line, output),
         "touch" => output.show(&table.touch(line.number())),
         "touch_mut" => write_lent(table.touch(line.number()), line.value(), output),
         "remove" => output.show(&table.remove(line.number())),
-        _ => return false,
-    }
-    true
-}
-
-/// Runs the call of this name on a whole table, and returns whether there is one.
-fn run_on_all(name: &str, line: &mut Line, table: &mut Table, output: &mut Output) -> bool {
-    match name {
         "retain" => retain(table, line, output),
         "reserve" => output.show_refusal(table.reserve(line.size())),
         "capacity" => output.show(&table.capacity()),
@@ -184,44 +199,23 @@ fn run_on_all(name: &str, line: &mut Line, table: &mut Table, output: &mut Outpu
         "len" => output.show(&table.len()),
         "iter" => iterate(table, line.word(), output),
         "fill" => fill(table, line, output),
+        "new" => output.replace(table, Table::new(line.alloc, line.number())),
+        "with_capacity" => with_capacity(line, table, output),
+        "drop" => drop_table(line, table, output),
         _ => return false,
     }
     true
 }
 
-/// Runs the call of this name that leaves another table, and returns whether there is one.
-fn run_to_make(
-    alloc: Global,
-    name: &str,
-    line: &mut Line,
-    table: &mut Table,
-    output: &mut Output,
-) -> bool {
-    match name {
-        "new" => output.replace(table, Table::new(alloc, line.number())),
-        "with_capacity" => with_capacity(alloc, line, table, output),
-        "drop" => drop_table(alloc, table, output),
-        _ => return false,
-    }
-    true
-}
-
-/// Runs the call of this name, appends what it returns, the total and the list, and returns whether
+/// Runs the call of a line, appends what it returns, the total and the list, and returns whether
 /// there is such a call.
-pub fn run(
-    alloc: Global,
-    name: &str,
-    line: &mut Line,
-    table: &mut Table,
-    output: &mut Output,
-) -> bool {
-    let is_known = run_by_id(alloc, name, line, table, output)
-        || run_on_all(name, line, table, output)
-        || run_to_make(alloc, name, line, table, output);
+pub fn run(line: &mut Line, table: &mut Table, output: &mut Output) -> bool {
+    let is_known = run_call(line, table, output);
     if is_known {
         output.push_str("| ");
         output.show(&table.total());
-        list_sessions(table, output);
+        output.push_str("|");
+        list(table.len(), table.iter(), output);
     }
     is_known
 }

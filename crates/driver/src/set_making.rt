@@ -6,28 +6,25 @@ use super::output::Output;
 use super::set_fills;
 use super::sets::Set;
 use linked_hash_set::{LinkedHashSet, ReserveError};
-use std::alloc::Global;
 use std::default::{Emptied, MadeWith};
 use std::mem;
 
-/// Makes an empty set, with the hasher that the next word names.
-fn with_hasher(alloc: Global, line: &mut Line, set: &mut Set, output: &mut Output) {
-    output.replace(set, Set::with_hasher(alloc, line.hasher()));
-}
-
-/// Makes an empty set, with that hasher and the capacity after it.
-fn with_capacity(alloc: Global, line: &mut Line, set: &mut Set, output: &mut Output) {
+/// Makes an empty set, with the hasher that the next word names and the capacity after it.
+fn with_capacity(line: &mut Line, set: &mut Set, output: &mut Output) {
     let hasher = line.hasher();
     let capacity = line.size();
-    output.store(set, Set::with_capacity_and_hasher(alloc, capacity, hasher));
+    output.store(
+        set,
+        Set::with_capacity_and_hasher(line.alloc, capacity, hasher),
+    );
 }
 
 /// Makes a set of the words, by an iterator that knows how many they are.
-fn from_iter(alloc: Global, line: &mut Line, set: &mut Set, output: &mut Output) {
+fn from_iter(line: &mut Line, set: &mut Set, output: &mut Output) {
     let count = line.words_left();
-    let mut keys = line.keys();
-    let items = (0..count).map(move |_| keys.next_key());
-    output.store(set, Set::from_iter(alloc, items));
+    let mut rest = line.rest();
+    let items = (0..count).map(move |_| rest.key());
+    output.store(set, Set::from_iter(line.alloc, items));
 }
 
 /// Inserts copies of the items of another set. Each insertion is within a window.
@@ -45,16 +42,11 @@ fn insert_twice(set: &mut LinkedHashSet<u64>, number: u64, output: &mut Output) 
     output.show(set);
 }
 
-/// Makes a set with the default hasher and inserts a number twice.
-fn show_new(alloc: Global, number: u64, output: &mut Output) {
-    insert_twice(&mut LinkedHashSet::new(alloc), number, output);
-}
-
 /// Does so with a set of a capacity, and appends the capacity too.
-fn show_new_with_capacity(alloc: Global, line: &mut Line, output: &mut Output) {
+fn show_new_with_capacity(line: &mut Line, output: &mut Output) {
     let (capacity, number) = (line.size(), line.number());
     let made: Result<LinkedHashSet<u64>, ReserveError> = LinkedHashSet::with_capacity(
-        alloc, capacity,
+        line.alloc, capacity,
     );
     match made {
         Ok(mut set) => {
@@ -66,81 +58,37 @@ fn show_new_with_capacity(alloc: Global, line: &mut Line, output: &mut Output) {
 }
 
 /// Drops a set within a window, and leaves a new one in its place.
-fn drop_set(alloc: Global, set: &mut Set, output: &mut Output) {
-    let taken = mem::replace(set, Set::with_hasher(alloc, BuildKeyHasher::default()));
-    output.drop_within(taken);
+fn drop_set(line: &Line, set: &mut Set, output: &mut Output) {
+    let empty = Set::with_hasher(line.alloc, BuildKeyHasher::default());
+    output.drop_within(mem::replace(set, empty));
 }
 
-/// Runs the call of this name that makes a set of nothing, and returns whether there is one.
-fn make(
-    alloc: Global,
-    name: &str,
-    line: &mut Line,
-    set: &mut Set,
-    other: &Set,
-    output: &mut Output,
-) -> bool {
-    match name {
-        "new" => show_new(alloc, line.number(), output),
-        "new_with_capacity" => show_new_with_capacity(alloc, line, output),
-        "with_hasher" => with_hasher(alloc, line, set, output),
-        "with_capacity" => with_capacity(alloc, line, set, output),
+/// Runs the call of a line that leaves the hasher to be shown, and returns whether there is one.
+fn make(line: &mut Line, set: &mut Set, other: &Set, output: &mut Output) -> bool {
+    match line.name() {
+        "new" => insert_twice(&mut LinkedHashSet::new(line.alloc), line.number(), output),
+        "new_with_capacity" => show_new_with_capacity(line, output),
+        "with_hasher" => output.replace(set, Set::with_hasher(line.alloc, line.hasher())),
+        "with_capacity" => with_capacity(line, set, output),
         "emptied" => output.store(set, Emptied::emptied(other)),
-        "made_with" => output.replace(set, MadeWith::made_with(alloc)),
-        _ => return false,
-    }
-    true
-}
-
-/// Runs the call of this name that takes items in, and returns whether there is one.
-fn take_in(
-    alloc: Global,
-    name: &str,
-    line: &mut Line,
-    set: &mut Set,
-    other: &Set,
-    output: &mut Output,
-) -> bool {
-    match name {
-        "from_iter" => from_iter(alloc, line, set, output),
-        "collect" => output.store(set, Set::from_iter(alloc, line.keys())),
+        "made_with" => output.replace(set, MadeWith::made_with(line.alloc)),
+        "from_iter" => from_iter(line, set, output),
+        "collect" => output.store(set, Set::from_iter(line.alloc, line.keys())),
         "extend" => output.show_refusal(set.extend(line.keys())),
         "extend_refs" => extend_by_copies(set, other, output),
         "clone" => output.store(set, other.clone()),
         _ => return false,
     }
+    output.show(set.hasher());
     true
 }
 
-/// Runs the call of this name, appends the hasher, and returns whether there is such a call.
-pub fn run(
-    alloc: Global,
-    name: &str,
-    line: &mut Line,
-    set: &mut Set,
-    other: &Set,
-    output: &mut Output,
-) -> bool {
-    let is_known = make(alloc, name, line, set, other, output)
-        || take_in(alloc, name, line, set, other, output);
-    if is_known {
-        output.show(set.hasher());
-    }
-    is_known
-}
-
-/// Runs the call of this name that fills a set or drops it, and returns whether there is one.
-pub fn run_on_whole(
-    alloc: Global,
-    name: &str,
-    line: &mut Line,
-    set: &mut Set,
-    output: &mut Output,
-) -> bool {
-    match name {
-        "fill" => set_fills::fill(alloc, set, line, output),
-        "drop" => drop_set(alloc, set, output),
-        _ => return false,
+/// Runs the call of a line, and returns whether there is one.
+pub fn run(line: &mut Line, set: &mut Set, other: &Set, output: &mut Output) -> bool {
+    match line.name() {
+        "fill" => set_fills::fill(set, line, output),
+        "drop" => drop_set(line, set, output),
+        _ => return make(line, set, other, output),
     }
     true
 }

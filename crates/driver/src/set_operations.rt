@@ -70,34 +70,19 @@ fn show_equal(set: &Set, other: &Set, output: &mut Output) {
     output.show(&(*set != *other));
 }
 
-/// Appends the hash that a hasher which is not counted gives a set.
-fn show_hash(set: &Set, output: &mut Output) {
-    let hasher = BuildKeyHasher::default();
-    output.show(&hasher.hash_one(set));
-}
-
-/// Runs the call of this name that compares two sets or hashes one, and returns whether there is
-/// one.
-fn compare(name: &str, set: &Set, other: &Set, output: &mut Output) -> bool {
-    match name {
-        "is_subset" => output.show(&set.is_subset(other)),
-        "is_superset" => output.show(&set.is_superset(other)),
-        "is_disjoint" => output.show(&set.is_disjoint(other)),
-        "eq" => show_equal(set, other, output),
-        "hash" => show_hash(set, output),
-        _ => return false,
-    }
-    true
-}
-
-/// Runs the call of this name on two sets, and returns whether there is one.
-pub fn run(name: &str, line: &mut Line, set: &Set, other: &Set, output: &mut Output) -> bool {
-    match name {
+/// Runs the call of a line, and returns whether there is one.
+pub fn run(line: &mut Line, set: &Set, other: &Set, output: &mut Output) -> bool {
+    match line.name() {
         "difference" => iterate(set.difference(other), line, output),
         "symmetric_difference" => iterate(set.symmetric_difference(other), line, output),
         "intersection" => iterate(set.intersection(other), line, output),
         "union" => iterate(set.union(other), line, output),
-        _ => return compare(name, set, other, output),
+        "is_subset" => output.show(&set.is_subset(other)),
+        "is_superset" => output.show(&set.is_superset(other)),
+        "is_disjoint" => output.show(&set.is_disjoint(other)),
+        "eq" => show_equal(set, other, output),
+        "hash" => output.show(&BuildKeyHasher::default().hash_one(set)),
+        _ => return false,
     }
     true
 }

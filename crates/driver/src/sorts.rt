@@ -5,7 +5,6 @@ use super::comparisons::ordered;
 use super::line::Line;
 use super::output::Output;
 use super::retaining::Calls;
-use std::alloc::Global;
 use std::cmp::Ordering;
 
 /// Compares two numbers as a word says: `less` and `turn` are no orders.
@@ -45,20 +44,20 @@ fn sort_by_key(map: &mut Map, line: &mut Line, output: &mut Output) {
 }
 
 /// Sorts a map of the same pairs whose keys are compared as they are, and appends it.
-fn sort_keys(alloc: Global, map: &Map, output: &mut Output) {
+fn sort_keys(line: &Line, map: &Map, output: &mut Output) {
     output.end();
-    let mut map = ordered(alloc, map, output);
+    let mut map = ordered(line, map, output);
     output.begin();
     map.sort_keys();
     output.show(&map);
 }
 
-/// Runs the call of this name, and returns whether there is one.
-pub fn run(alloc: Global, name: &str, line: &mut Line, map: &mut Map, output: &mut Output) -> bool {
-    match name {
+/// Runs the call of a line, and returns whether there is one.
+pub fn run(line: &mut Line, map: &mut Map, output: &mut Output) -> bool {
+    match line.name() {
         "sort_by" => sort_by(map, line, output),
         "sort_by_key" => sort_by_key(map, line, output),
-        "sort_keys" => sort_keys(alloc, map, output),
+        "sort_keys" => sort_keys(line, map, output),
         "reverse" => map.reverse(),
         _ => return false,
     }

@@ -6,36 +6,34 @@ ghost use Rattle.std.specs.Hash as fed;
 ghost use Rattle.std.specs.Ordering.{on, nat_cmp, as_partial_cmp};
 ghost use Rattle.std.proofs.Common.{rules};
 
-use super::counts::{Counts, Event, Kind};
-use super::key::{COPY, Key};
-use std::alloc::AllocError;
+use super::counts::{Counts, Effect};
+use super::identity::Identity;
+use super::key::Key;
 use std::cmp::Ordering;
 use std::fmt;
 use std::hash::{Hash, Hasher};
 
 /// A number. One that is made by default counts nothing, and its serial number is 0.
+#[derive(Clone, Default, Drop)]
 pub struct Value {
+    identity: Identity,
     number: u64,
-    serial: u64,
-    counts: Option<&'static Counts>,
 }
 
 impl Value {
     /// Makes a value, with the next serial number.
     pub fn new(number: u64, counts: &'static Counts) -> Value {
         Value {
+            identity: Identity::new(counts, Effect::DropValue),
             number,
-            serial: counts.next_serial(),
-            counts: Some(counts),
         }
     }
 
     /// Makes a copy, which is not counted as a clone.
     pub fn copy(&self) -> Value {
         Value {
+            identity: self.identity.copy(),
             number: self.number,
-            serial: self.serial.wrapping_add(COPY),
-            counts: self.counts,
         }
     }
 
@@ -46,68 +44,12 @@ impl Value {
 
     /// Returns the serial number.
     pub fn serial(&self) -> u64 {
-        self.serial
-    }
-
-    /// Returns this value with a number that is greater, modulo 2^64.
-    pub fn increased(&self, by: u64) -> Value {
-        Value {
-            number: self.number.wrapping_add(by),
-            serial: self.serial,
-            counts: self.counts,
-        }
+        self.identity.serial()
     }
 
     /// Adds to the number in place, modulo 2^64.
     pub fn increase(&mut self, by: u64) {
         self.number = self.number.wrapping_add(by);
-    }
-
-    fn count(&self, event: Event) {
-        if let Some(counts) = self.counts {
-            counts.count(event);
-        }
-    }
-
-    fn is_refused(&self) -> bool {
-        match self.counts {
-            Some(counts) => counts.refuses_clone(),
-            None => false,
-        }
-    }
-}
-
-impl Drop for Value {
-    fn drop(self) {
-        if let Some(counts) = self.counts {
-            counts.count_drop(Kind::Value, self.serial);
-        }
-        let Value {
-            number: _,
-            serial: _,
-            counts: _,
-        } = self;
-    }
-}
-
-impl Clone for Value {
-    fn clone(&self) -> Result<Value, AllocError> {
-        self.count(Event::CloneValue);
-        if self.is_refused() {
-            return Err(AllocError);
-        }
-        Ok(self.copy())
-    }
-}
-
-/// The number 0, which counts nothing.
-impl Default for Value {
-    fn default() -> Value {
-        Value {
-            number: 0,
-            serial: 0,
-            counts: None,
-        }
     }
 }
 
@@ -117,7 +59,7 @@ impl PartialEq for Value {
     ghost laws = { Prim.search (comparing, rules) };
 
     fn eq(&self, other: &Value) -> bool {
-        self.count(Event::EqValue);
+        self.identity.count(Effect::EqValue);
         self.number == other.number
     }
 }
@@ -136,7 +78,7 @@ impl Ord for Value {
     ghost matches_eq = { Prim.search (comparing, rules) };
 
     fn cmp(&self, other: &Value) -> Ordering {
-        self.count(Event::CmpValue);
+        self.identity.count(Effect::CmpValue);
         self.number.cmp(&other.number)
     }
 }
@@ -158,7 +100,7 @@ impl Hash for Value {
     ghost respects_eq = { Prim.search (hashing, rules) };
 
     fn hash<H: Hasher>(&self, state: &mut H) {
-        self.count(Event::HashValue);
+        self.identity.count(Effect::HashValue);
         state.write_u64(self.number);
     }
 }

@@ -1,7 +1,7 @@
 //! Visits of the pairs, one entry after the other.
 
 use super::Map;
-use super::entries::{Edit, edit_in_place, edit_occupied, first_byte};
+use super::entries::{Edit, edit_in_place, edit_occupied};
 use super::hasher::BuildKeyHasher;
 use super::key::Key;
 use super::line::Line;
@@ -12,7 +12,7 @@ use std::mem;
 
 /// Makes an edit by the next entry of a cursor.
 fn edit_next(
-    entries: &mut Entries<'_, Key, Value, BuildKeyHasher>,
+    entries: &mut Entries<Key, Value, BuildKeyHasher>,
     edit: &mut Edit,
     output: &mut Output,
 ) {
@@ -28,7 +28,7 @@ fn edit_next(
 /// cursor.
 fn edit_each(map: &mut Map, line: &mut Line, output: &mut Output) {
     let edits = line.word();
-    let mut edit = Edit::new("", line);
+    let mut edit = Edit::new("", edits, line);
     let mut entries = map.entries();
     for letter in edits.bytes() {
         output.show(&entries.remaining());
@@ -45,9 +45,7 @@ fn edit_each(map: &mut Map, line: &mut Line, output: &mut Output) {
 /// Makes an edit by an entry, if there is one.
 macro_rules! edit_if_some {
     ($entry:expr, $line:ident, $output:ident) => {
-        let letter = first_byte($line.word());
-        let mut edit = Edit::new("", $line);
-        edit.letter = letter;
+        let mut edit = Edit::new("", $line.word(), $line);
         let Some(mut entry) = $entry else {
             $output.push_str("end ");
             return;
@@ -76,9 +74,9 @@ fn visit(map: &mut Map) {
     let _map = map.visit();
 }
 
-/// Runs the call of this name, and returns whether there is one.
-pub fn run(name: &str, line: &mut Line, map: &mut Map, output: &mut Output) -> bool {
-    match name {
+/// Runs the call of a line, and returns whether there is one.
+pub fn run(line: &mut Line, map: &mut Map, output: &mut Output) -> bool {
+    match line.name() {
         "entries" => edit_each(map, line, output),
         "visit" => visit(map),
         "next_entry" => edit_next_entry(map, line, output),
