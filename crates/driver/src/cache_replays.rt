@@ -6,13 +6,12 @@ use super::line::Line;
 use super::output::Output;
 use super::value::Value;
 use lru_cache::replay::{Answer, replay};
-use std::alloc::Global;
 
 /// A command of the words of a line.
-type Command<'a> = lru_cache::replay::Command<Key<'a>, Value<'a>>;
+type Command = lru_cache::replay::Command<Key, Value>;
 
 /// Reads the next command, which is none if its name is not known.
-fn next_command<'a>(line: &mut Line<'a>) -> Option<Command<'a>> {
+fn next_command(line: &mut Line) -> Option<Command> {
     match line.word() {
         "insert" => Some(Command::Insert(line.key(), line.value())),
         "get" => Some(Command::Get(line.key())),
@@ -25,8 +24,8 @@ fn next_command<'a>(line: &mut Line<'a>) -> Option<Command<'a>> {
 }
 
 /// Reads all commands of a line.
-fn commands<'a>(alloc: Global, line: &mut Line<'a>, output: &mut Output<'a>) -> Vec<Command<'a>> {
-    let mut commands = Vec::new(alloc);
+fn commands(line: &mut Line, output: &mut Output) -> Vec<Command> {
+    let mut commands = Vec::new(line.alloc);
     for _ in 0..line.words_left() {
         if let Some(command) = next_command(line) {
             output.note(commands.push(command));
@@ -36,7 +35,7 @@ fn commands<'a>(alloc: Global, line: &mut Line<'a>, output: &mut Output<'a>) -> 
 }
 
 /// Appends how long the list of answers is, and each of them.
-fn show_answers<'a>(answers: Vec<Answer<Key<'a>, Value<'a>>>, output: &mut Output<'a>) {
+fn show_answers(answers: Vec<Answer<Key, Value>>, output: &mut Output) {
     output.show_size(answers.len(), answers.capacity());
     for answer in answers {
         output.show(&answer);
@@ -44,14 +43,9 @@ fn show_answers<'a>(answers: Vec<Answer<Key<'a>, Value<'a>>>, output: &mut Outpu
 }
 
 /// Runs the commands of a line.
-pub fn replay_all<'a>(
-    alloc: Global,
-    cache: &mut Cache<'a>,
-    line: &mut Line<'a>,
-    output: &mut Output<'a>,
-) {
+pub fn replay_all(cache: &mut Cache, line: &mut Line, output: &mut Output) {
     output.end();
-    let commands = commands(alloc, line, output);
+    let commands = commands(line, output);
     output.begin();
     let returned = replay(cache, commands);
     output.end();

@@ -4,40 +4,35 @@ use super::hasher::BuildKeyHasher;
 use super::iterators::{iterate_and_clone, iterate_and_write, iterate_to_the_end};
 use super::key::Key;
 use super::line::Line;
-use super::list::list_pairs;
+use super::list::list;
 use super::lookups::write_lent;
 use super::output::Output;
 use super::retaining::{Calls, keep_and_increase};
 use super::value::Value;
 use super::{cache_fills, cache_replays};
 use lru_cache::LruCache;
-use std::alloc::Global;
 use std::mem;
 
 /// The caches that the lines speak of.
-pub type Cache<'a> = LruCache<Key<'a>, Value<'a>, BuildKeyHasher<'a>>;
+pub type Cache = LruCache<Key, Value, BuildKeyHasher>;
 
 /// Makes an empty cache, with the hasher that the next word names and the limit after it.
-fn with_hasher<'a>(
-    alloc: Global,
-    line: &mut Line<'a>,
-    cache: &mut Cache<'a>,
-    output: &mut Output<'a>,
-) {
+fn with_hasher(line: &mut Line, cache: &mut Cache, output: &mut Output) {
     let hasher = line.hasher();
-    output.replace(cache, Cache::with_hasher(alloc, line.size(), hasher));
+    output.replace(cache, Cache::with_hasher(line.alloc, line.size(), hasher));
 }
 
 /// Makes a cache of one pair with the default hasher, inserts two pairs, and appends its text.
-fn show_new<'a>(alloc: Global, number: u64, output: &mut Output<'a>) {
-    let mut cache = LruCache::new(alloc, 1);
+fn show_new(line: &mut Line, output: &mut Output) {
+    let mut cache = LruCache::new(line.alloc, 1);
+    let number = line.number();
     output.show_refusal(cache.insert(0, 0));
     output.show_refusal(cache.insert(number, 1));
     output.show(&cache);
 }
 
 /// Appends the pair that a put sent away, if one went, or what it handed back.
-fn put<'a>(cache: &mut Cache<'a>, line: &mut Line<'a>, output: &mut Output<'a>) {
+fn put(cache: &mut Cache, line: &mut Line, output: &mut Output) {
     match cache.put(line.key(), line.value()) {
         Ok(Some((key, value))) => output.show_gone_pair(&key, &value),
         Ok(None) => output.push_str("None "),
@@ -45,54 +40,8 @@ fn put<'a>(cache: &mut Cache<'a>, line: &mut Line<'a>, output: &mut Output<'a>) 
     }
 }
 
-/// Runs the call of this name by a key, and returns whether there is one.
-fn run_by_key<'a>(
-    name: &str,
-    line: &mut Line<'a>,
-    cache: &mut Cache<'a>,
-    output: &mut Output<'a>,
-) -> bool {
-    match name {
-        "insert" => output.show_result(cache.insert(line.key(), line.value())),
-        "put" => put(cache, line, output),
-        "get_mut" => write_lent(cache.get_mut(&line.key()), line.value(), output),
-        "peek_mut" => write_lent(cache.peek_mut(&line.key()), line.value(), output),
-        "get" => output.show(&cache.get(&line.key())),
-        "peek" => output.show(&cache.peek(&line.key())),
-        "contains_key" => output.show(&cache.contains_key(&line.key())),
-        "remove" => output.show(&cache.remove(&line.key())),
-        _ => return false,
-    }
-    true
-}
-
-/// Runs the call of this name that makes a cache or changes what it has, and returns whether there
-/// is one.
-fn run_on_all<'a>(
-    alloc: Global,
-    name: &str,
-    line: &mut Line<'a>,
-    cache: &mut Cache<'a>,
-    other: &Cache<'a>,
-    output: &mut Output<'a>,
-) -> bool {
-    match name {
-        "with_hasher" => with_hasher(alloc, line, cache, output),
-        "clone" => output.store(cache, other.clone()),
-        "extend" => output.show_refusal(cache.extend(line.pairs())),
-        "set_capacity" => cache.set_capacity(line.size()),
-        "remove_lru" => output.show(&cache.remove_lru()),
-        "clear" => cache.clear(),
-        "len" => output.show_two(&cache.len(), &cache.is_empty()),
-        "debug" => output.show_within(cache),
-        "new" => show_new(alloc, line.number(), output),
-        _ => return false,
-    }
-    true
-}
-
 /// Keeps the pairs whose values are not a number modulo 7, and adds the number of the call to each.
-fn retain<'a>(cache: &mut Cache<'a>, line: &mut Line<'a>, output: &mut Output<'a>) {
+fn retain(cache: &mut Cache, line: &mut Line, output: &mut Output) {
     let number = line.number();
     let guard = line.guard();
     let calls = Calls::new(line.counts());
@@ -105,42 +54,20 @@ fn retain<'a>(cache: &mut Cache<'a>, line: &mut Line<'a>, output: &mut Output<'a
 }
 
 /// Drops a cache within a window, and leaves a new one of the limit 0 in its place.
-fn drop_cache<'a>(alloc: Global, cache: &mut Cache<'a>, output: &mut Output<'a>) {
-    let empty = Cache::with_hasher(alloc, 0, BuildKeyHasher::default());
-    let taken = mem::replace(cache, empty);
-    output.drop_within(taken);
-}
-
-/// Runs the call of this name that is of the cache alone, and not of the original, and returns
-/// whether there is one.
-fn run_further<'a>(
-    alloc: Global,
-    name: &str,
-    line: &mut Line<'a>,
-    cache: &mut Cache<'a>,
-    output: &mut Output<'a>,
-) -> bool {
-    match name {
-        "retain" => retain(cache, line, output),
-        "reserve" => output.show_refusal(cache.reserve(line.size())),
-        "room" => output.show(&cache.room()),
-        "replay" => cache_replays::replay_all(alloc, cache, line, output),
-        "fill" => cache_fills::fill(cache, line, output),
-        "drop" => drop_cache(alloc, cache, output),
-        _ => return false,
-    }
-    true
+fn drop_cache(line: &Line, cache: &mut Cache, output: &mut Output) {
+    let empty = Cache::with_hasher(line.alloc, 0, BuildKeyHasher::default());
+    output.drop_within(mem::replace(cache, empty));
 }
 
 /// Adds a number to every value in place, in a loop over the cache.
-fn add<'a>(cache: &mut Cache<'a>, number: u64) {
+fn add(cache: &mut Cache, number: u64) {
     for (_key, value) in cache {
         value.increase(number);
     }
 }
 
 /// Appends every pair, in a loop over the cache. Each step is within a window.
-fn show_all<'a>(cache: &Cache<'a>, output: &mut Output<'a>) {
+fn show_all(cache: &Cache, output: &mut Output) {
     for (key, value) in cache {
         output.show_pair(key, value);
         output.begin();
@@ -148,21 +75,55 @@ fn show_all<'a>(cache: &Cache<'a>, output: &mut Output<'a>) {
 }
 
 /// Iterates over a clone that is taken.
-fn into_iter<'a>(cache: &Cache<'a>, line: &mut Line<'a>, output: &mut Output<'a>) {
+fn into_iter(cache: &Cache, line: &mut Line, output: &mut Output) {
     match cache.clone() {
         Ok(copy) => iterate_to_the_end(copy.into_iter(), line, output),
         Err(refused) => output.show_refused(refused),
     }
 }
 
-/// Runs the call of this name that iterates, and returns whether there is one.
-fn run_iterator<'a>(
-    name: &str,
-    line: &mut Line<'a>,
-    cache: &mut Cache<'a>,
-    output: &mut Output<'a>,
-) -> bool {
-    match name {
+/// Runs the call of a line by one pair, and returns whether there is one.
+fn run_by_key(line: &mut Line, cache: &mut Cache, output: &mut Output) -> bool {
+    match line.name() {
+        "insert" => output.show_result(cache.insert(line.key(), line.value())),
+        "put" => put(cache, line, output),
+        "get_mut" => write_lent(cache.get_mut(&line.key()), line.value(), output),
+        "peek_mut" => write_lent(cache.peek_mut(&line.key()), line.value(), output),
+        "get" => output.show(&cache.get(&line.key())),
+        "peek" => output.show(&cache.peek(&line.key())),
+        "contains_key" => output.show(&cache.contains_key(&line.key())),
+        "remove" => output.show(&cache.remove(&line.key())),
+        "remove_lru" => output.show(&cache.remove_lru()),
+        _ => return false,
+    }
+    true
+}
+
+/// Runs the call of a line that makes, fills or drops a cache, and returns whether there is one.
+fn run_on_whole(line: &mut Line, cache: &mut Cache, other: &Cache, output: &mut Output) -> bool {
+    match line.name() {
+        "new" => show_new(line, output),
+        "with_hasher" => with_hasher(line, cache, output),
+        "clone" => output.store(cache, other.clone()),
+        "extend" => output.show_refusal(cache.extend(line.pairs())),
+        "replay" => cache_replays::replay_all(cache, line, output),
+        "fill" => cache_fills::fill(cache, line, output),
+        "drop" => drop_cache(line, cache, output),
+        _ => return false,
+    }
+    true
+}
+
+/// Runs the call of a line on all pairs, and returns whether there is one.
+fn run_on_all(line: &mut Line, cache: &mut Cache, output: &mut Output) -> bool {
+    match line.name() {
+        "set_capacity" => cache.set_capacity(line.size()),
+        "clear" => cache.clear(),
+        "len" => output.show_two(&cache.len(), &cache.is_empty()),
+        "debug" => output.show_within(cache),
+        "retain" => retain(cache, line, output),
+        "reserve" => output.show_refusal(cache.reserve(line.size())),
+        "room" => output.show(&cache.room()),
         "iter" => iterate_and_clone(cache.iter(), line, output),
         "iter_mut" => iterate_and_write(cache.iter_mut(), line, output),
         "into_iter" => into_iter(cache, line, output),
@@ -174,24 +135,17 @@ fn run_iterator<'a>(
     true
 }
 
-/// Runs the call of this name, appends what it returns, the limit and the list, and returns whether
+/// Runs the call of a line, appends what it returns, the limit and the list, and returns whether
 /// there is such a call.
-pub fn run<'a>(
-    alloc: Global,
-    name: &str,
-    line: &mut Line<'a>,
-    cache: &mut Cache<'a>,
-    other: &Cache<'a>,
-    output: &mut Output<'a>,
-) -> bool {
-    let is_known = run_by_key(name, line, cache, output)
-        || run_on_all(alloc, name, line, cache, other, output)
-        || run_further(alloc, name, line, cache, output)
-        || run_iterator(name, line, cache, output);
+pub fn run(line: &mut Line, cache: &mut Cache, other: &Cache, output: &mut Output) -> bool {
+    let is_known = run_by_key(line, cache, output)
+        || run_on_whole(line, cache, other, output)
+        || run_on_all(line, cache, output);
     if is_known {
         output.push_str("| ");
         output.show(&cache.capacity());
-        list_pairs(cache.iter(), output);
+        output.push_str("|");
+        list(cache.len(), cache.iter(), output);
     }
     is_known
 }

@@ -4,10 +4,9 @@ use super::Map;
 use super::line::Line;
 use super::making::take;
 use super::output::Output;
-use std::alloc::Global;
 
 /// Inserts a pair, if its key is present or there is room.
-fn insert_within_capacity<'a>(map: &mut Map<'a>, line: &mut Line<'a>, output: &mut Output<'a>) {
+fn insert_within_capacity(map: &mut Map, line: &mut Line, output: &mut Output) {
     let (key, value) = (line.key(), line.value());
     output.end();
     if map.len() < map.capacity() || map.contains_key(&key) {
@@ -18,47 +17,22 @@ fn insert_within_capacity<'a>(map: &mut Map<'a>, line: &mut Line<'a>, output: &m
     }
 }
 
-/// Drops a map within a window, and leaves a new one in its place.
-fn drop_map<'a>(alloc: Global, map: &mut Map<'a>, output: &mut Output<'a>) {
-    let taken = take(alloc, map);
-    output.drop_within(taken);
-}
-
-/// Runs the call of this name by a key, and returns whether there is one.
-fn run_by_key<'a>(
-    name: &str,
-    line: &mut Line<'a>,
-    map: &mut Map<'a>,
-    output: &mut Output<'a>,
-) -> bool {
-    match name {
+/// Runs the call of a line, and returns whether there is one.
+pub fn run(line: &mut Line, map: &mut Map, output: &mut Output) -> bool {
+    match line.name() {
         "insert" => output.show_result(map.insert(line.key(), line.value())),
         "insert_front" => output.show_result(map.insert_front(line.key(), line.value())),
         "insert_within_capacity" => insert_within_capacity(map, line, output),
         "replace_key" => output.show_key(map.replace_key(line.key())),
         "remove" => output.show(&map.remove(&line.key())),
         "remove_entry" => output.show(&map.remove_entry(&line.key())),
-        _ => return false,
-    }
-    true
-}
-
-/// Runs the call of this name, and returns whether there is one.
-pub fn run<'a>(
-    alloc: Global,
-    name: &str,
-    line: &mut Line<'a>,
-    map: &mut Map<'a>,
-    output: &mut Output<'a>,
-) -> bool {
-    match name {
         "pop_front" => output.show(&map.pop_front()),
         "pop_back" => output.show(&map.pop_back()),
         "clear" => map.clear(),
         "reserve" => output.show_refusal(map.reserve(line.size())),
         "shrink_to_fit" => output.show_refusal(map.shrink_to_fit()),
-        "drop" => drop_map(alloc, map, output),
-        _ => return run_by_key(name, line, map, output),
+        "drop" => output.drop_within(take(line, map)),
+        _ => return false,
     }
     true
 }

@@ -7,88 +7,58 @@ use super::line::Line;
 use super::output::Output;
 use super::value::Value;
 use linked_hash_map::LIMIT;
-use std::alloc::{AllocError, Global};
+use std::alloc::AllocError;
 
 /// Makes a map of the pairs of the words, by an iterator that knows how many they are.
-fn from_iter<'a>(alloc: Global, line: &mut Line<'a>, map: &mut Map<'a>, output: &mut Output<'a>) {
-    let count = line.pairs_left();
-    let mut pairs = line.pairs();
-    let items = (0..count).map(move |_| pairs.next_pair());
-    output.store(map, Map::from_iter(alloc, items));
+fn from_iter(line: &mut Line, map: &mut Map, output: &mut Output) {
+    let words = line.words_left();
+    let mut rest = line.rest();
+    let items = (0..words / 2 + words % 2).map(move |_| (rest.key(), rest.value()));
+    output.store(map, Map::from_iter(line.alloc, items));
 }
 
 /// Makes a map of more pairs than are allowed, of which none is taken.
-fn from_iter_too_large<'a>(
-    alloc: Global,
-    line: &Line<'a>,
-    map: &mut Map<'a>,
-    output: &mut Output<'a>,
-) {
+fn from_iter_too_large(line: &Line, map: &mut Map, output: &mut Output) {
     let guard = line.guard();
     let counts = line.counts();
     let items = (0..LIMIT + 1).map(move |number| {
         guard.hold();
         pair(number as u64, counts)
     });
-    output.store(map, Map::from_iter(alloc, items));
+    output.store(map, Map::from_iter(line.alloc, items));
 }
 
 /// Makes a map of the pairs of the words by `collect`.
-fn collect<'a>(alloc: Global, line: &mut Line<'a>, map: &mut Map<'a>, output: &mut Output<'a>) {
-    let made: Result<Map<'a>, AllocError> = line.pairs().collect(alloc);
+fn collect(line: &mut Line, map: &mut Map, output: &mut Output) {
+    let made: Result<Map, AllocError> = line.pairs().collect(line.alloc);
     output.store(map, made);
 }
 
 /// Inserts the pairs of the words by the trait.
-fn extend_trait<'a>(line: &mut Line<'a>, map: &mut Map<'a>, output: &mut Output<'a>) {
-    let extended = <Map<'a> as Extend<(Key<'a>, Value<'a>)>>::extend(map, line.pairs());
+fn extend_trait(line: &mut Line, map: &mut Map, output: &mut Output) {
+    let extended = <Map as Extend<(Key, Value)>>::extend(map, line.pairs());
     output.show_refusal(extended);
 }
 
 /// Inserts copies of the pairs of another map.
-fn extend_by_copies<'a>(map: &mut Map<'a>, other: &Map<'a>, output: &mut Output<'a>) {
+fn extend_by_copies(map: &mut Map, other: &Map, output: &mut Output) {
     let copies = other.iter().map(|(key, value)| (key.copy(), value.copy()));
     output.show_refusal(map.extend(copies));
 }
 
-/// Runs the call of this name that makes a map, and returns whether there is one.
-fn run_to_make<'a>(
-    alloc: Global,
-    name: &str,
-    line: &mut Line<'a>,
-    map: &mut Map<'a>,
-    output: &mut Output<'a>,
-) -> bool {
-    match name {
-        "from_iter" => from_iter(alloc, line, map, output),
-        "from_iter_unhinted" => output.store(map, Map::from_iter(alloc, line.pairs())),
-        "from_iter_too_large" => from_iter_too_large(alloc, line, map, output),
-        "collect" => collect(alloc, line, map, output),
-        _ => return false,
-    }
-    true
-}
-
-/// Runs the call of this name, and returns whether there is one.
-pub fn run<'a>(
-    alloc: Global,
-    name: &str,
-    line: &mut Line<'a>,
-    map: &mut Map<'a>,
-    other: &mut Map<'a>,
-    output: &mut Output<'a>,
-) -> bool {
-    match name {
+/// Runs the call of a line, and returns whether there is one.
+pub fn run(line: &mut Line, map: &mut Map, other: &mut Map, output: &mut Output) -> bool {
+    match line.name() {
         "extend" => output.show_refusal(map.extend(line.pairs())),
         "extend_trait" => extend_trait(line, map, output),
         "extend_refs" => extend_by_copies(map, other, output),
         "extend_drain" => output.show_refusal(map.extend(other.drain())),
         "append" => output.show_refusal(map.append(other)),
-        _ => {
-            if !run_to_make(alloc, name, line, map, output) {
-                return false;
-            }
-        }
+        "from_iter" => from_iter(line, map, output),
+        "from_iter_unhinted" => output.store(map, Map::from_iter(line.alloc, line.pairs())),
+        "from_iter_too_large" => from_iter_too_large(line, map, output),
+        "collect" => collect(line, map, output),
+        _ => return false,
     }
     output.show(map.hasher());
     true

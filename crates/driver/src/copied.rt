@@ -1,120 +1,135 @@
 //! Keys that are `Copy`, and extensions by references to them.
 ghost use Rattle.std.specs.Prelude.{◌==◌};
+ghost use Rattle.std.specs.Cmp.{partial_order_from_own_ties};
 ghost use Rattle.std.specs.Cmp.Rules.{comparing, hashing};
 ghost use Rattle.std.specs.Hash as fed;
-ghost use Rattle.std.specs.Ordering.{on};
+ghost use Rattle.std.specs.Ordering.{on, nat_cmp, as_partial_cmp};
 ghost use Rattle.std.proofs.Common.{rules};
 
 use super::Map;
-use super::counts::{Counts, Event};
+use super::counts::{Counts, Effect};
 use super::hasher::BuildKeyHasher;
 use super::key::write_text;
+use super::line::Line;
 use super::output::Output;
 use linked_hash_map::LinkedHashMap;
-use std::alloc::Global;
+use std::cmp::Ordering;
 use std::fmt;
 use std::hash::{Hash, Hasher};
 
-/// A key of the same text as another, hashed and compared alike. Its drop is not counted.
+/// A text that is compared and hashed by a number. Its drop is not counted.
 #[derive(Clone, Copy)]
-pub struct CopiedKey<'a> {
+pub struct CopiedKey {
     text: [u8; 8],
-    folded: u64,
-    counts: &'a Counts,
+    number: u64,
+    counts: &'static Counts,
 }
 
-impl<'a> CopiedKey<'a> {
-    /// Makes a key of a text, and the number of it in lower case.
-    pub fn new(text: [u8; 8], folded: u64, counts: &'a Counts) -> CopiedKey<'a> {
+impl CopiedKey {
+    /// Makes a key of a text and its number.
+    pub fn new(text: [u8; 8], number: u64, counts: &'static Counts) -> CopiedKey {
         CopiedKey {
             text,
-            folded,
+            number,
             counts,
         }
     }
 }
 
-impl<'a> PartialEq for CopiedKey<'a> {
-    ghost eq = { on (λ key. key.folded) ◌==◌ };
+impl PartialEq for CopiedKey {
+    ghost eq = { on (λ key. key.number) ◌==◌ };
 
     ghost laws = { Prim.search (comparing, rules) };
 
-    fn eq(&self, other: &CopiedKey<'a>) -> bool {
-        self.counts.count(Event::EqKey);
-        self.folded == other.folded
+    fn eq(&self, other: &CopiedKey) -> bool {
+        self.counts.count(Effect::EqKey, 0);
+        self.number == other.number
     }
 }
 
-impl<'a> Eq for CopiedKey<'a> {
+impl Eq for CopiedKey {
     ghost laws = { Prim.search (comparing, rules) };
 }
 
-impl<'a> Hash for CopiedKey<'a> {
-    ghost hash_input = { λ key. fed.u64 key.folded };
+impl Ord for CopiedKey {
+    ghost cmp = { on (λ key. key.number) nat_cmp };
+
+    ghost total = { Prim.search (comparing, rules) };
+
+    ghost matches_partial_cmp = { Prim.search (comparing, rules) };
+
+    ghost matches_eq = { Prim.search (comparing, rules) };
+
+    fn cmp(&self, other: &CopiedKey) -> Ordering {
+        self.counts.count(Effect::CmpKey, 0);
+        self.number.cmp(&other.number)
+    }
+}
+
+impl PartialOrd for CopiedKey {
+    ghost partial_cmp = { as_partial_cmp (on (λ key. key.number) nat_cmp) };
+
+    ghost laws = { partial_order_from_own_ties (Prim.search (comparing, rules))
+        (Prim.search (comparing, rules)) };
+
+    fn partial_cmp(&self, other: &CopiedKey) -> Option<Ordering> {
+        Some(self.cmp(other))
+    }
+}
+
+impl Hash for CopiedKey {
+    ghost hash_input = { λ key. fed.u64 key.number };
 
     ghost respects_eq = { Prim.search (hashing, rules) };
 
     fn hash<H: Hasher>(&self, state: &mut H) {
-        self.counts.count(Event::HashKey);
-        state.write_u64(self.folded);
+        self.counts.count(Effect::HashKey, 0);
+        state.write_u64(self.number);
     }
 }
 
 /// The text alone.
-impl<'a> fmt::Debug for CopiedKey<'a> {
+impl fmt::Debug for CopiedKey {
     fn fmt<W: fmt::Write>(&self, f: &mut fmt::Formatter<W>) -> fmt::Result {
         write_text(self.text, f)
     }
 }
 
 /// A map of keys and values that are `Copy`.
-type Copied<'a> = LinkedHashMap<CopiedKey<'a>, u64, BuildKeyHasher<'a>>;
+type Copied = LinkedHashMap<CopiedKey, u64, BuildKeyHasher>;
 
 /// Makes a map of the same pairs, with a copy of the hasher.
-fn copied<'a>(alloc: Global, map: &Map<'a>, output: &mut Output<'a>) -> Copied<'a> {
-    let mut made = Copied::with_hasher(alloc, map.hasher().copy());
+fn copied(line: &Line, map: &Map, output: &mut Output) -> Copied {
+    let mut made = Copied::with_hasher(line.alloc, map.hasher().copy());
     for (key, value) in map.iter() {
         output.note(made.insert(key.copied(), value.number()));
     }
     made
 }
 
-/// Extends a copy of a map by references to the pairs of a copy of another, and appends it.
-fn extend_by_refs<'a>(alloc: Global, map: &Map<'a>, other: &Map<'a>, output: &mut Output<'a>) {
+/// Extends a copy of a map by references to the pairs of a copy of another, by the trait or by the
+/// map's own call, and appends it.
+fn extend_by_refs(by_trait: bool, line: &Line, map: &Map, other: &Map, output: &mut Output) {
     output.end();
-    let mut map = copied(alloc, map, output);
-    let other = copied(alloc, other, output);
+    let mut map = copied(line, map, output);
+    let other = copied(line, other, output);
     output.begin();
-    if !output.is_given(map.extend_refs(other.iter())) {
-        output.push_str("refused ");
-    }
-    output.show(&map);
-}
-
-/// Does so by the trait.
-fn extend_by_trait<'a>(alloc: Global, map: &Map<'a>, other: &Map<'a>, output: &mut Output<'a>) {
-    output.end();
-    let mut map = copied(alloc, map, output);
-    let other = copied(alloc, other, output);
-    output.begin();
-    let extended = <Copied<'a> as Extend<(&CopiedKey<'a>, &u64)>>::extend(&mut map, other.iter());
-    if !output.is_given(extended) {
+    let is_given = if by_trait {
+        output.is_given(<Copied as Extend<(&CopiedKey, &u64)>>::extend(&mut map, other.iter()))
+    } else {
+        output.is_given(map.extend_refs(other.iter()))
+    };
+    if !is_given {
         output.push_str("refused ");
     }
     output.show(&map);
 }
 
 /// Runs the call of this name, and returns whether there is one.
-pub fn run<'a>(
-    alloc: Global,
-    name: &str,
-    map: &Map<'a>,
-    other: &Map<'a>,
-    output: &mut Output<'a>,
-) -> bool {
-    match name {
-        "extend_copied_refs" => extend_by_refs(alloc, map, other, output),
-        "extend_trait_refs" => extend_by_trait(alloc, map, other, output),
+pub fn run(line: &Line, map: &Map, other: &Map, output: &mut Output) -> bool {
+    match line.name() {
+        "extend_copied_refs" => extend_by_refs(false, line, map, other, output),
+        "extend_trait_refs" => extend_by_refs(true, line, map, other, output),
         _ => return false,
     }
     true

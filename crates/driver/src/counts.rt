@@ -3,18 +3,14 @@
 use std::cell::Cell;
 use std::fmt;
 
-/// What is dropped.
-#[derive(Clone, Copy)]
-pub enum Kind {
-    Key,
-    Value,
-    Hasher,
-    Closure,
-}
-
-/// A call that is counted.
-#[derive(Clone, Copy)]
-pub enum Event {
+/// What is counted: first the drops, of which the serial numbers are summed too.
+#[derive(Clone, Copy, Default)]
+pub enum Effect {
+    #[default]
+    DropKey,
+    DropValue,
+    DropHasher,
+    DropClosure,
     HashKey,
     EqKey,
     EqValue,
@@ -27,56 +23,23 @@ pub enum Event {
     HashValue,
 }
 
-/// How many things of a kind were dropped, and the sum of their serial numbers modulo 2^64.
-#[derive(Drop)]
-struct Drops {
-    count: Cell<u64>,
-    sum: Cell<u64>,
-}
-
-impl Drops {
-    fn new() -> Drops {
-        Drops {
-            count: Cell::new(0),
-            sum: Cell::new(0),
-        }
-    }
-
-    fn add(&self, serial: u64) {
-        increase(&self.count);
-        self.sum.set(self.sum.get().wrapping_add(serial));
-    }
-
-    fn clear(&self) {
-        self.count.set(0);
-        self.sum.set(0);
-    }
-
-    /// Writes both after a name, if anything was dropped.
-    fn write<W: fmt::Write>(&self, name: &str, f: &mut fmt::Formatter<W>) -> fmt::Result {
-        if self.count.get() == 0 {
-            return Ok(());
-        }
-        write!(f, " {name} {}:{}", self.count.get(), self.sum.get())
-    }
-}
-
-/// Adds 1 to a count.
-fn increase(count: &Cell<u64>) {
-    count.set(count.get().wrapping_add(1));
-}
-
-/// Writes a count after a name, if it is not 0.
-fn write_count<W: fmt::Write>(
-    name: &str,
-    count: &Cell<u64>,
-    f: &mut fmt::Formatter<W>,
-) -> fmt::Result {
-    if count.get() == 0 {
-        return Ok(());
-    }
-    write!(f, " {name} {}", count.get())
-}
+/// The name of each effect.
+const NAMES: [&str; 14] = [
+    "drop-keys",
+    "drop-values",
+    "drop-hashers",
+    "drop-closures",
+    "hash-keys",
+    "eq-keys",
+    "eq-values",
+    "cmp-keys",
+    "cmp-values",
+    "clone-keys",
+    "clone-values",
+    "clone-hashers",
+    "build-hashers",
+    "hash-values",
+];
 
 /// The effects of a line, which are counted only while a window is open, and the last serial
 /// number of the run.
@@ -87,20 +50,18 @@ pub struct Counts {
     last_serial: Cell<u64>,
     /// The number of the clone to refuse, 1 for the next, or 0 for none.
     refused_clone: Cell<u64>,
-    keys: Drops,
-    values: Drops,
-    hashers: Drops,
-    closures: Drops,
-    hash_keys: Cell<u64>,
-    eq_keys: Cell<u64>,
-    eq_values: Cell<u64>,
-    cmp_keys: Cell<u64>,
-    cmp_values: Cell<u64>,
-    clone_keys: Cell<u64>,
-    clone_values: Cell<u64>,
-    clone_hashers: Cell<u64>,
-    build_hashers: Cell<u64>,
-    hash_values: Cell<u64>,
+    /// How often each effect was, and of the drops the sum of the serial numbers modulo 2^64.
+    counts: Cell<[u64; 14]>,
+    sums: Cell<[u64; 4]>,
+}
+
+/// Adds to a number of an array, modulo 2^64, if there is one at the place.
+fn add<const N: usize>(numbers: &Cell<[u64; N]>, place: usize, number: u64) {
+    let mut changed = numbers.get();
+    if let Some(found) = changed.get_mut(place) {
+        *found = found.wrapping_add(number);
+    }
+    numbers.set(changed);
 }
 
 impl Counts {
@@ -111,20 +72,8 @@ impl Counts {
             has_effects: Cell::new(false),
             last_serial: Cell::new(0),
             refused_clone: Cell::new(0),
-            keys: Drops::new(),
-            values: Drops::new(),
-            hashers: Drops::new(),
-            closures: Drops::new(),
-            hash_keys: Cell::new(0),
-            eq_keys: Cell::new(0),
-            eq_values: Cell::new(0),
-            cmp_keys: Cell::new(0),
-            cmp_values: Cell::new(0),
-            clone_keys: Cell::new(0),
-            clone_values: Cell::new(0),
-            clone_hashers: Cell::new(0),
-            build_hashers: Cell::new(0),
-            hash_values: Cell::new(0),
+            counts: Cell::new([0; 14]),
+            sums: Cell::new([0; 4]),
         }
     }
 
@@ -145,7 +94,7 @@ impl Counts {
 
     /// Returns the next serial number, the first of which is 1.
     pub fn next_serial(&self) -> u64 {
-        increase(&self.last_serial);
+        self.last_serial.set(self.last_serial.get().wrapping_add(1));
         self.last_serial.get()
     }
 
@@ -167,81 +116,41 @@ impl Counts {
 
     /// Returns how many keys and values the line has dropped so far.
     pub fn dropped(&self) -> u64 {
-        self.keys.count.get().wrapping_add(self.values.count.get())
+        let counts = self.counts.get();
+        counts[0].wrapping_add(counts[1])
     }
 
-    /// Counts a drop, if a window is open.
-    pub fn count_drop(&self, kind: Kind, serial: u64) {
+    /// Counts an effect on what has a serial number, if a window is open.
+    pub fn count(&self, effect: Effect, serial: u64) {
         if self.is_counting() {
             self.has_effects.set(true);
-            match kind {
-                Kind::Key => self.keys.add(serial),
-                Kind::Value => self.values.add(serial),
-                Kind::Hasher => self.hashers.add(serial),
-                Kind::Closure => self.closures.add(serial),
-            }
-        }
-    }
-
-    /// Counts a call, if a window is open.
-    pub fn count(&self, event: Event) {
-        if self.is_counting() {
-            self.has_effects.set(true);
-            increase(self.count_of(event));
-        }
-    }
-
-    fn count_of(&self, event: Event) -> &Cell<u64> {
-        match event {
-            Event::HashKey => &self.hash_keys,
-            Event::EqKey => &self.eq_keys,
-            Event::EqValue => &self.eq_values,
-            Event::CmpKey => &self.cmp_keys,
-            Event::CmpValue => &self.cmp_values,
-            Event::CloneKey => &self.clone_keys,
-            Event::CloneValue => &self.clone_values,
-            Event::CloneHasher => &self.clone_hashers,
-            Event::BuildHasher => &self.build_hashers,
-            Event::HashValue => &self.hash_values,
+            add(&self.counts, effect as usize, 1);
+            add(&self.sums, effect as usize, serial);
         }
     }
 
     /// Begins anew at the effects of a line. The serial numbers go on.
     pub fn clear(&self) {
         self.has_effects.set(false);
-        self.keys.clear();
-        self.values.clear();
-        self.hashers.clear();
-        self.closures.clear();
-        self.hash_keys.set(0);
-        self.eq_keys.set(0);
-        self.eq_values.set(0);
-        self.cmp_keys.set(0);
-        self.cmp_values.set(0);
-        self.clone_keys.set(0);
-        self.clone_values.set(0);
-        self.clone_hashers.set(0);
-        self.build_hashers.set(0);
-        self.hash_values.set(0);
+        self.counts.set([0; 14]);
+        self.sums.set([0; 4]);
     }
 }
 
 /// Each effect that is not 0, after a blank.
 impl fmt::Display for Counts {
     fn fmt<W: fmt::Write>(&self, f: &mut fmt::Formatter<W>) -> fmt::Result {
-        self.keys.write("drop-keys", f)?;
-        self.values.write("drop-values", f)?;
-        self.hashers.write("drop-hashers", f)?;
-        self.closures.write("drop-closures", f)?;
-        write_count("hash-keys", &self.hash_keys, f)?;
-        write_count("eq-keys", &self.eq_keys, f)?;
-        write_count("eq-values", &self.eq_values, f)?;
-        write_count("cmp-keys", &self.cmp_keys, f)?;
-        write_count("cmp-values", &self.cmp_values, f)?;
-        write_count("clone-keys", &self.clone_keys, f)?;
-        write_count("clone-values", &self.clone_values, f)?;
-        write_count("clone-hashers", &self.clone_hashers, f)?;
-        write_count("build-hashers", &self.build_hashers, f)?;
-        write_count("hash-values", &self.hash_values, f)
+        let (counts, sums) = (self.counts.get(), self.sums.get());
+        let mut sums = sums.iter();
+        for (name, count) in NAMES.iter().zip(counts.iter()) {
+            let sum = sums.next();
+            if *count != 0 {
+                write!(f, " {name} {count}")?;
+                if let Some(sum) = sum {
+                    write!(f, ":{sum}")?;
+                }
+            }
+        }
+        Ok(())
     }
 }

@@ -10,54 +10,55 @@ use super::value::{Value, Values};
 use linked_hash_map::{Entry, OccupiedEntry, Refused, VacantEntry};
 use std::mem;
 
-type Occupied<'m, 'a> = OccupiedEntry<'m, Key<'a>, Value<'a>, BuildKeyHasher<'a>>;
+type Occupied<'m> = OccupiedEntry<'m, Key, Value, BuildKeyHasher>;
 
-type Vacant<'m, 'a> = VacantEntry<'m, Key<'a>, Value<'a>, BuildKeyHasher<'a>>;
+type Vacant<'m> = VacantEntry<'m, Key, Value, BuildKeyHasher>;
 
 /// A value that a call lends, if it was given memory.
-pub type Lent<'m, 'a> = Result<&'m mut Value<'a>, Refused<Key<'a>, Value<'a>>>;
+pub type Lent<'m> = Result<&'m mut Value, Refused<Key, Value>>;
 
 /// An edit: its letter, and what it takes.
 #[derive(Drop)]
-pub struct Edit<'a> {
+pub struct Edit {
     pub letter: u8,
-    values: Values<'a>,
-    key: &'a str,
+    values: Values,
+    key: &'static str,
 }
 
-impl<'a> Edit<'a> {
-    /// Makes an edit of no letter, of a word of a key and of the next word as values.
-    pub fn new(key: &'a str, line: &mut Line<'a>) -> Edit<'a> {
+impl Edit {
+    /// Makes an edit of the first letter of a word, of a word of a key and of the next word as
+    /// values.
+    pub fn new(key: &'static str, letters: &str, line: &mut Line) -> Edit {
+        let letter = match letters.as_bytes().first() {
+            Some(byte) => *byte,
+            None => 0,
+        };
         Edit {
-            letter: 0,
+            letter,
             values: line.values(),
             key,
         }
     }
 
     /// Returns the next value.
-    pub fn take(&mut self) -> Value<'a> {
+    pub fn take(&mut self) -> Value {
         self.values.take()
     }
 
     /// Makes a key of the word.
-    fn key(&self) -> Key<'a> {
+    fn key(&self) -> Key {
         self.values.key(self.key)
     }
 }
 
 /// Inserts a value by an entry, and appends the one that was there.
-fn show_replaced<'a>(entry: &mut Occupied<'_, 'a>, value: Value<'a>, output: &mut Output<'a>) {
+fn show_replaced(entry: &mut Occupied, value: Value, output: &mut Output) {
     output.begin();
     output.show(&entry.insert(value));
 }
 
 /// Inserts a value and then 0.
-fn insert_twice<'a>(
-    entry: &mut Occupied<'_, 'a>,
-    values: &mut Values<'a>,
-    output: &mut Output<'a>,
-) {
+fn insert_twice(entry: &mut Occupied, values: &mut Values, output: &mut Output) {
     let value = values.take();
     let zero = values.zero();
     show_replaced(entry, value, output);
@@ -65,9 +66,9 @@ fn insert_twice<'a>(
 }
 
 /// Writes the value of an entry at `w`, inserts one at `i`, or inserts one and then 0 at `t`.
-fn edit_value<'a>(entry: &mut Occupied<'_, 'a>, edit: &mut Edit<'a>, output: &mut Output<'a>) {
+fn edit_value(entry: &mut Occupied, edit: &mut Edit, output: &mut Output) {
     match edit.letter {
-        b'w' => output.write(entry.get_mut(), edit.values.take()),
+        b'w' => output.replace(entry.get_mut(), edit.values.take()),
         b'i' => show_replaced(entry, edit.values.take(), output),
         b't' => insert_twice(entry, &mut edit.values, output),
         _ => {}
@@ -75,14 +76,14 @@ fn edit_value<'a>(entry: &mut Occupied<'_, 'a>, edit: &mut Edit<'a>, output: &mu
 }
 
 /// Replaces the key of an entry.
-fn replace_key<'a>(entry: &mut Occupied<'_, 'a>, key: Key<'a>, output: &mut Output<'a>) {
+fn replace_key(entry: &mut Occupied, key: Key, output: &mut Output) {
     output.begin();
     output.show_key(entry.replace_key(key));
 }
 
 /// Moves the pair of an entry to the back at `b` or to the front at `f`, or replaces its key at
 /// `p`.
-fn edit_place_or_key<'a>(entry: &mut Occupied<'_, 'a>, edit: &Edit<'a>, output: &mut Output<'a>) {
+fn edit_place_or_key(entry: &mut Occupied, edit: &Edit, output: &mut Output) {
     match edit.letter {
         b'b' => entry.move_to_back(),
         b'f' => entry.move_to_front(),
@@ -92,11 +93,7 @@ fn edit_place_or_key<'a>(entry: &mut Occupied<'_, 'a>, edit: &Edit<'a>, output: 
 }
 
 /// Makes an edit in place.
-pub fn edit_in_place<'a>(
-    entry: &mut Occupied<'_, 'a>,
-    edit: &mut Edit<'a>,
-    output: &mut Output<'a>,
-) {
+pub fn edit_in_place(entry: &mut Occupied, edit: &mut Edit, output: &mut Output) {
     edit_value(entry, edit, output);
     edit_place_or_key(entry, edit, output);
 }
@@ -130,7 +127,7 @@ macro_rules! edit_occupied {
 pub(crate) use edit_occupied;
 
 /// Appends a value that was inserted.
-fn show_inserted<'a>(lent: &Lent<'_, 'a>, output: &mut Output<'a>) {
+fn show_inserted(lent: &Lent, output: &mut Output) {
     match lent {
         Ok(lent) => output.show(lent),
         Err(refused) => refused.show(output),
@@ -138,7 +135,7 @@ fn show_inserted<'a>(lent: &Lent<'_, 'a>, output: &mut Output<'a>) {
 }
 
 /// Writes to a value that was inserted.
-fn write_inserted<'a>(lent: &mut Lent<'_, 'a>, value: Value<'a>, output: &mut Output<'a>) {
+fn write_inserted(lent: &mut Lent, value: Value, output: &mut Output) {
     output.end();
     match lent {
         Ok(lent) => **lent = value,
@@ -148,12 +145,7 @@ fn write_inserted<'a>(lent: &mut Lent<'_, 'a>, value: Value<'a>, output: &mut Ou
 
 /// Makes an edit by the entry of a key: at a vacant one an insertion at `i`, one of 0 that is then
 /// written at `m`, at `o` it is forgotten, or none.
-fn edit_by_entry<'a>(
-    map: &mut Map<'a>,
-    key: Key<'a>,
-    edit: &mut Edit<'a>,
-    output: &mut Output<'a>,
-) {
+fn edit_by_entry(map: &mut Map, key: Key, edit: &mut Edit, output: &mut Output) {
     match map.entry(key) {
         Entry::Occupied(mut entry) => {
             edit_occupied!(entry, edit, output);
@@ -177,32 +169,22 @@ fn edit_by_entry<'a>(
 }
 
 /// Makes an edit by the entry of a key.
-fn edit_entry<'a>(map: &mut Map<'a>, line: &mut Line<'a>, output: &mut Output<'a>) {
+fn edit_entry(map: &mut Map, line: &mut Line, output: &mut Output) {
     let word = line.word();
     let key = line.key_of(word);
-    let letter = first_byte(line.word());
-    let mut edit = Edit::new(word, line);
-    edit.letter = letter;
+    let mut edit = Edit::new(word, line.word(), line);
     edit_by_entry(map, key, &mut edit, output);
 }
 
-/// Returns the first byte of a word, or 0 if there is none.
-pub fn first_byte(word: &str) -> u8 {
-    match word.as_bytes().first() {
-        Some(byte) => *byte,
-        None => 0,
-    }
-}
-
 /// Appends the key of an entry, and drops the entry.
-fn show_entry_key<'a>(map: &mut Map<'a>, key: Key<'a>, output: &mut Output<'a>) {
+fn show_entry_key(map: &mut Map, key: Key, output: &mut Output) {
     let entry = map.entry(key);
     output.show(entry.key());
     output.drop_within(entry);
 }
 
 /// Replaces the key of a present entry by another.
-fn replace_entry_key<'a>(map: &mut Map<'a>, line: &mut Line<'a>, output: &mut Output<'a>) {
+fn replace_entry_key(map: &mut Map, line: &mut Line, output: &mut Output) {
     let (key, other) = (line.key(), line.key());
     match map.entry(key) {
         Entry::Occupied(mut entry) => output.show_key(entry.replace_key(other)),
@@ -213,14 +195,9 @@ fn replace_entry_key<'a>(map: &mut Map<'a>, line: &mut Line<'a>, output: &mut Ou
     }
 }
 
-/// Runs the call of this name, and returns whether there is one.
-pub fn run<'a>(
-    name: &str,
-    line: &mut Line<'a>,
-    map: &mut Map<'a>,
-    output: &mut Output<'a>,
-) -> bool {
-    match name {
+/// Runs the call of a line, and returns whether there is one.
+pub fn run(line: &mut Line, map: &mut Map, output: &mut Output) -> bool {
+    match line.name() {
         "entry" => edit_entry(map, line, output),
         "entry_key" => show_entry_key(map, line.key(), output),
         "entry_replace_key" => replace_entry_key(map, line, output),

@@ -7,28 +7,28 @@ use super::line::Line;
 use super::output::Output;
 use super::value::Value;
 use linked_hash_map::Entry;
-use std::alloc::{AllocError, Global};
+use std::alloc::AllocError;
 use std::cell::Cell;
 use std::ops::Range;
 
 /// Makes the pair of a number: its decimal text, and itself as the value.
-pub fn pair<'a>(number: u64, counts: &'a Counts) -> (Key<'a>, Value<'a>) {
+pub fn pair(number: u64, counts: &'static Counts) -> (Key, Value) {
     let key = Key::decimal(number, counts);
     (key, Value::new(number, counts))
 }
 
 /// The pairs of a range of numbers, each of which is made when it is taken.
 #[derive(Drop)]
-pub struct Numbered<'l, 'a> {
+pub struct Numbered<'l> {
     numbers: Range<u64>,
     /// The number that was taken last.
     last: &'l Cell<u64>,
-    counts: &'a Counts,
+    counts: &'static Counts,
 }
 
-impl<'l, 'a> Numbered<'l, 'a> {
+impl<'l> Numbered<'l> {
     /// Begins before the pair of 0, with those of the numbers below a count.
-    pub fn new(count: u64, last: &'l Cell<u64>, counts: &'a Counts) -> Numbered<'l, 'a> {
+    pub fn new(count: u64, last: &'l Cell<u64>, counts: &'static Counts) -> Numbered<'l> {
         Numbered {
             numbers: 0..count,
             last,
@@ -37,14 +37,14 @@ impl<'l, 'a> Numbered<'l, 'a> {
     }
 }
 
-impl<'l, 'a> Iterator for Numbered<'l, 'a> {
-    type Item = (Key<'a>, Value<'a>);
+impl<'l> Iterator for Numbered<'l> {
+    type Item = (Key, Value);
 
     ghost can_next = { λ pairs. ⟦<Range<u64> as Iterator>⟧.can_next pairs.numbers };
 
     ghost remaining = { λ pairs. ⟦<Range<u64> as Iterator>⟧.remaining pairs.numbers };
 
-    fn next(&mut self) -> Option<(Key<'a>, Value<'a>)> {
+    fn next(&mut self) -> Option<(Key, Value)> {
         let number = self.numbers.next()?;
         self.last.set(number);
         Some(pair(number, self.counts))
@@ -52,12 +52,7 @@ impl<'l, 'a> Iterator for Numbered<'l, 'a> {
 }
 
 /// Inserts a pair by the entry of its key, and returns whether there was memory.
-fn put_by_vacant<'a>(
-    map: &mut Map<'a>,
-    key: Key<'a>,
-    value: Value<'a>,
-    output: &mut Output<'a>,
-) -> bool {
+fn put_by_vacant(map: &mut Map, key: Key, value: Value, output: &mut Output) -> bool {
     match map.entry(key) {
         Entry::Occupied(entry) => {
             output.drop_within(entry);
@@ -68,13 +63,7 @@ fn put_by_vacant<'a>(
 }
 
 /// Inserts a pair whose value a closure hands over, and returns whether there was memory.
-fn put_by_closure<'a>(
-    map: &mut Map<'a>,
-    key: Key<'a>,
-    value: Value<'a>,
-    line: &Line<'a>,
-    output: &mut Output<'a>,
-) -> bool {
+fn put_by_closure(map: &mut Map, key: Key, value: Value, line: &Line, output: &mut Output) -> bool {
     let guard = line.guard();
     let make = move || {
         drop(guard);
@@ -83,59 +72,41 @@ fn put_by_closure<'a>(
     output.is_given(map.entry(key).or_insert_with(make))
 }
 
-/// Inserts the pair of a number by the call of this name, and returns whether there was memory.
-fn put<'a>(
-    map: &mut Map<'a>,
-    call: &str,
-    number: u64,
-    line: &Line<'a>,
-    output: &mut Output<'a>,
-) -> bool {
-    let (key, value) = pair(number, line.counts());
-    output.begin();
-    match call {
-        "or_insert" => output.is_given(map.entry(key).or_insert(value)),
-        "or_insert_with" => put_by_closure(map, key, value, line, output),
-        "vacant" => put_by_vacant(map, key, value, output),
-        _ => output.is_given(map.insert(key, value)),
-    }
+/// What can be filled one by one.
+pub trait Fill {
+    /// Puts in what a number makes, by the call of a name, and returns whether there was memory.
+    fn put_number(&mut self, call: &str, number: u64, line: &Line, output: &mut Output) -> bool;
 }
 
-/// Inserts a number with a default value, and returns whether there was memory.
-fn put_default<'a>(
-    map: &mut Map<'a>,
-    number: u64,
-    line: &Line<'a>,
-    output: &mut Output<'a>,
-) -> bool {
-    let key = Key::decimal(number, line.counts());
-    output.begin();
-    output.is_given(map.entry(key).or_default())
-}
-
-/// Inserts the default values of the numbers below a count. Each call is within a window.
-fn fill_by_defaults<'a>(map: &mut Map<'a>, count: u64, line: &Line<'a>, output: &mut Output<'a>) {
-    for number in 0..count {
-        if !put_default(map, number, line, output) {
-            output.show_refused_number(number);
-            return;
+impl Fill for Map {
+    fn put_number(&mut self, call: &str, number: u64, line: &Line, output: &mut Output) -> bool {
+        let key = Key::decimal(number, line.counts());
+        if call == "or_default" {
+            output.begin();
+            return output.is_given(self.entry(key).or_default());
+        }
+        let value = Value::new(number, line.counts());
+        output.begin();
+        match call {
+            "or_insert" => output.is_given(self.entry(key).or_insert(value)),
+            "or_insert_with" => put_by_closure(self, key, value, line, output),
+            "vacant" => put_by_vacant(self, key, value, output),
+            _ => output.is_given(self.insert(key, value)),
         }
     }
-    output.show(&count);
 }
 
-/// Inserts the pairs of the numbers below a count. Each call is within a window.
-fn fill_one_by_one<'a>(
-    map: &mut Map<'a>,
+/// Puts in what the numbers below a count make, up to a refusal. Each call is within a window.
+pub fn fill_one_by_one<F: Fill>(
+    filled: &mut F,
     count: u64,
     call: &str,
-    line: &Line<'a>,
-    output: &mut Output<'a>,
+    line: &Line,
+    output: &mut Output,
 ) {
     for number in 0..count {
-        if !put(map, call, number, line, output) {
-            output.show_refused_number(number);
-            return;
+        if !filled.put_number(call, number, line, output) {
+            return output.show_refused_number(number);
         }
     }
     output.show(&count);
@@ -143,86 +114,66 @@ fn fill_one_by_one<'a>(
 
 /// Takes in the pairs of an iterator by the call of this name, and returns whether there was
 /// memory.
-fn take_in<'a>(
-    alloc: Global,
+fn take_in(
     call: &str,
-    items: Numbered<'_, 'a>,
-    map: &mut Map<'a>,
-    output: &mut Output<'a>,
+    items: Numbered<'_>,
+    line: &Line,
+    map: &mut Map,
+    output: &mut Output,
 ) -> bool {
     match call {
         "extend" => output.is_given(map.extend(items)),
         "collect" => {
-            let made: Result<Map<'a>, AllocError> = items.collect(alloc);
+            let made: Result<Map, AllocError> = items.collect(line.alloc);
             output.is_stored(map, made)
         }
-        _ => output.is_given(<Map<'a> as Extend<(Key<'a>, Value<'a>)>>::extend(map, items)),
+        _ => output.is_given(<Map as Extend<(Key, Value)>>::extend(map, items)),
     }
 }
 
 /// Makes a map of pairs by an iterator that knows how many they are, and returns whether there was
 /// memory.
-fn make<'a>(
-    alloc: Global,
-    numbers: Range<u64>,
-    last: &Cell<u64>,
-    counts: &'a Counts,
-    map: &mut Map<'a>,
-    output: &mut Output<'a>,
-) -> bool {
-    let items = numbers.map(move |number| {
+fn make(count: u64, last: &Cell<u64>, line: &Line, map: &mut Map, output: &mut Output) -> bool {
+    let counts = line.counts();
+    let items = (0..count).map(move |number| {
         last.set(number);
         pair(number, counts)
     });
-    output.is_stored(map, Map::from_iter(alloc, items))
+    output.is_stored(map, Map::from_iter(line.alloc, items))
 }
 
 /// Takes in the pairs of the numbers below a count, by one call.
-fn fill_at_once<'a>(
-    alloc: Global,
-    map: &mut Map<'a>,
-    count: u64,
-    call: &str,
-    line: &Line<'a>,
-    output: &mut Output<'a>,
-) {
-    let counts = line.counts();
+fn fill_at_once(map: &mut Map, count: u64, call: &str, line: &Line, output: &mut Output) {
     let last = Cell::new(0);
     let is_given = if call == "from_iter" {
-        make(alloc, 0..count, &last, counts, map, output)
+        make(count, &last, line, map, output)
     } else {
-        let items = Numbered::new(count, &last, counts);
-        take_in(alloc, call, items, map, output)
+        take_in(
+            call,
+            Numbered::new(count, &last, line.counts()),
+            line,
+            map,
+            output,
+        )
     };
-    if is_given {
-        output.show(&count);
-    } else {
-        output.show_refused_number(last.get());
-    }
+    output.show_filled(is_given, count, last.get());
 }
 
 /// Fills a map by a call, up to a refusal.
-fn fill<'a>(alloc: Global, map: &mut Map<'a>, line: &mut Line<'a>, output: &mut Output<'a>) {
+fn fill(map: &mut Map, line: &mut Line, output: &mut Output) {
     let (count, call) = (line.number(), line.word());
     match call {
         "extend" | "extend_trait" | "collect" | "from_iter" => {
-            fill_at_once(alloc, map, count, call, line, output);
+            fill_at_once(map, count, call, line, output);
         }
-        "or_default" => fill_by_defaults(map, count, line, output),
         _ => fill_one_by_one(map, count, call, line, output),
     }
 }
 
-/// Runs the call of this name, and returns whether there is one.
-pub fn run<'a>(
-    alloc: Global,
-    name: &str,
-    line: &mut Line<'a>,
-    map: &mut Map<'a>,
-    output: &mut Output<'a>,
-) -> bool {
-    match name {
-        "fill" => fill(alloc, map, line, output),
+/// Runs the call of a line, and returns whether there is one.
+pub fn run(line: &mut Line, map: &mut Map, output: &mut Output) -> bool {
+    match line.name() {
+        "fill" => fill(map, line, output),
         "refuse_clone" => line.counts().set_refused_clone(line.number()),
         _ => return false,
     }

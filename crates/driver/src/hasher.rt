@@ -2,9 +2,8 @@
 ghost use Rattle.std.specs.Prelude.{◌≡◌, ◌==◌, ◌+◌, ◌*◌, ◌%◌, fold, get_or, if◌then◌else◌};
 ghost use Rattle.driver.specs.Hashers.{hash_of};
 
-use super::counts::{Counts, Event, Kind};
-use super::key::COPY;
-use std::alloc::AllocError;
+use super::counts::{Counts, Effect};
+use super::identity::Identity;
 use std::fmt;
 use std::hash::{BuildHasher, Hasher};
 
@@ -15,9 +14,10 @@ const MULTIPLIER: u64 = 0x9E37_79B9_7F4A_7C15;
 const HIGHEST_BYTE: u64 = 0x0100_0000_0000_0000;
 
 /// What a hasher makes of the bytes that are written.
-#[derive(Clone, Copy, Debug)]
+#[derive(Clone, Copy, Debug, Default)]
 pub enum Choice {
     /// A hash that differs for most keys.
+    #[default]
     Spread,
     /// The same hash for every key.
     Same,
@@ -93,75 +93,37 @@ fn first_of(bytes: &[u8]) -> u64
 
 /// Makes the hashers of a choice. One that is made by default counts nothing, and its serial number
 /// is 0.
-pub struct BuildKeyHasher<'a> {
+#[derive(Clone, Default, Drop)]
+pub struct BuildKeyHasher {
+    identity: Identity,
     choice: Choice,
-    serial: u64,
-    counts: Option<&'a Counts>,
 }
 
-impl<'a> BuildKeyHasher<'a> {
+impl BuildKeyHasher {
     /// Makes the builder of a choice, with the next serial number.
-    pub fn new(choice: Choice, counts: &'a Counts) -> BuildKeyHasher<'a> {
+    pub fn new(choice: Choice, counts: &'static Counts) -> BuildKeyHasher {
         BuildKeyHasher {
+            identity: Identity::new(counts, Effect::DropHasher),
             choice,
-            serial: counts.next_serial(),
-            counts: Some(counts),
         }
     }
 
     /// Makes a copy, which is not counted as a clone.
-    pub fn copy(&self) -> BuildKeyHasher<'a> {
+    pub fn copy(&self) -> BuildKeyHasher {
         BuildKeyHasher {
+            identity: self.identity.copy(),
             choice: self.choice,
-            serial: self.serial.wrapping_add(COPY),
-            counts: self.counts,
-        }
-    }
-
-    fn count(&self, event: Event) {
-        if let Some(counts) = self.counts {
-            counts.count(event);
-        }
-    }
-
-    fn is_refused(&self) -> bool {
-        match self.counts {
-            Some(counts) => counts.refuses_clone(),
-            None => false,
         }
     }
 }
 
-impl<'a> Drop for BuildKeyHasher<'a> {
-    fn drop(self) {
-        if let Some(counts) = self.counts {
-            counts.count_drop(Kind::Hasher, self.serial);
-        }
-        let BuildKeyHasher {
-            choice: _,
-            serial: _,
-            counts: _,
-        } = self;
-    }
-}
-
-impl<'a> Clone for BuildKeyHasher<'a> {
-    fn clone(&self) -> Result<BuildKeyHasher<'a>, AllocError> {
-        self.count(Event::CloneHasher);
-        if self.is_refused() {
-            return Err(AllocError);
-        }
-        Ok(self.copy())
-    }
-}
-
-impl<'a> BuildHasher for BuildKeyHasher<'a> {
+impl BuildHasher for BuildKeyHasher {
     type Hasher = KeyHasher;
 
     ghost build_hasher = { λ build. record { choice = build.choice; number = 0; first = 0 } };
 
     fn build_hasher(&self) -> KeyHasher {
-        self.count(Event::BuildHasher);
+        self.identity.count(Effect::BuildHasher);
         KeyHasher {
             choice: self.choice,
             number: 0,
@@ -170,19 +132,8 @@ impl<'a> BuildHasher for BuildKeyHasher<'a> {
     }
 }
 
-/// Spreads the keys, and counts nothing.
-impl<'a> Default for BuildKeyHasher<'a> {
-    fn default() -> BuildKeyHasher<'a> {
-        BuildKeyHasher {
-            choice: Choice::Spread,
-            serial: 0,
-            counts: None,
-        }
-    }
-}
-
 /// The choice alone.
-impl<'a> fmt::Debug for BuildKeyHasher<'a> {
+impl fmt::Debug for BuildKeyHasher {
     fn fmt<W: fmt::Write>(&self, f: &mut fmt::Formatter<W>) -> fmt::Result {
         write!(f, "BuildKeyHasher {{ choice: {:?} }}", self.choice)
     }

@@ -8,18 +8,17 @@ use super::refusal::Refusal;
 use std::alloc::Global;
 
 /// Appends a value that is lent, and adds 1 to its number after that, or what is handed back.
-fn show_and_increase<'a>(lent: &mut Lent<'_, 'a>, output: &mut Output<'a>) {
+fn show_and_increase(lent: &mut Lent<'_>, output: &mut Output) {
     match lent {
         Ok(value) => {
             output.show(&**value);
-            let increased = value.increased(1);
-            **value = increased;
+            value.increase(1);
         }
         Err(refused) => refused.show(output),
     }
 }
 
-fn and_modify<'a>(map: &mut Map<'a>, line: &mut Line<'a>, output: &mut Output<'a>) {
+fn and_modify(map: &mut Map, line: &mut Line, output: &mut Output) {
     let (key, value) = (line.key(), line.value());
     let guard = line.guard();
     let zero = line.zero();
@@ -30,7 +29,7 @@ fn and_modify<'a>(map: &mut Map<'a>, line: &mut Line<'a>, output: &mut Output<'a
     show_and_increase(&mut entry.or_insert(zero), output);
 }
 
-fn or_insert_with<'a>(map: &mut Map<'a>, line: &mut Line<'a>, output: &mut Output<'a>) {
+fn or_insert_with(map: &mut Map, line: &mut Line, output: &mut Output) {
     let (key, value) = (line.key(), line.value());
     let guard = line.guard();
     let make = move || {
@@ -40,7 +39,7 @@ fn or_insert_with<'a>(map: &mut Map<'a>, line: &mut Line<'a>, output: &mut Outpu
     show_and_increase(&mut map.entry(key).or_insert_with(make), output);
 }
 
-fn or_insert_with_key<'a>(map: &mut Map<'a>, line: &mut Line<'a>, output: &mut Output<'a>) {
+fn or_insert_with_key(map: &mut Map, line: &mut Line, output: &mut Output) {
     let (key, value) = (line.key(), line.value());
     let guard = line.guard();
     let make = move |_key: &_| {
@@ -56,14 +55,10 @@ fn ask_for_box(alloc: Global) {
 }
 
 /// Inserts what a closure makes that asks for memory too.
-fn or_insert_with_box<'a>(
-    alloc: Global,
-    map: &mut Map<'a>,
-    line: &mut Line<'a>,
-    output: &mut Output<'a>,
-) {
+fn or_insert_with_box(map: &mut Map, line: &mut Line, output: &mut Output) {
     let (key, value) = (line.key(), line.value());
     let guard = line.guard();
+    let alloc = line.alloc;
     let make = move || {
         drop(guard);
         ask_for_box(alloc);
@@ -72,22 +67,16 @@ fn or_insert_with_box<'a>(
     show_and_increase(&mut map.entry(key).or_insert_with(make), output);
 }
 
-/// Runs the call of this name, and returns whether there is one.
-pub fn run<'a>(
-    alloc: Global,
-    name: &str,
-    line: &mut Line<'a>,
-    map: &mut Map<'a>,
-    output: &mut Output<'a>,
-) -> bool {
-    match name {
+/// Runs the call of a line, and returns whether there is one.
+pub fn run(line: &mut Line, map: &mut Map, output: &mut Output) -> bool {
+    match line.name() {
         "or_insert" => show_and_increase(
             &mut map.entry(line.key()).or_insert(line.value()),
             output,
         ),
         "or_insert_with" => or_insert_with(map, line, output),
         "or_insert_with_key" => or_insert_with_key(map, line, output),
-        "or_insert_with_box" => or_insert_with_box(alloc, map, line, output),
+        "or_insert_with_box" => or_insert_with_box(map, line, output),
         "or_default" => show_and_increase(&mut map.entry(line.key()).or_default(), output),
         "and_modify" => and_modify(map, line, output),
         _ => return false,

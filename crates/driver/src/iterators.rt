@@ -7,7 +7,6 @@ use super::making::take;
 use super::output::Output;
 use super::value::Value;
 use linked_hash_map::{IterMut, ValuesMut};
-use std::alloc::Global;
 use std::fmt::Debug;
 use std::mem;
 
@@ -27,7 +26,7 @@ fn step<T, I: DoubleEndedIterator<Item = T>>(items: &mut I, letter: u8) -> Optio
 pub fn iterate<T: Debug + Drop, I: DoubleEndedIterator<Item = T> + ExactSizeIterator>(
     items: &mut I,
     steps: &str,
-    output: &mut Output<'_>,
+    output: &mut Output,
 )
     requires { (items : I) → I.can_next items × I.can_next_back items }
 {
@@ -42,7 +41,7 @@ pub fn iterate<T: Debug + Drop, I: DoubleEndedIterator<Item = T> + ExactSizeIter
 pub fn iterate_and_drop<
     T: Debug + Drop,
     I: DoubleEndedIterator<Item = T> + ExactSizeIterator + Drop,
->(items: I, steps: &str, output: &mut Output<'_>)
+>(items: I, steps: &str, output: &mut Output)
     requires { (items : I) → I.can_next items × I.can_next_back items }
 {
     let mut items = items;
@@ -54,7 +53,7 @@ pub fn iterate_and_drop<
 pub fn iterate_and_clone<
     T: Debug + Drop,
     I: DoubleEndedIterator<Item = T> + ExactSizeIterator + Clone + Drop,
->(items: I, line: &mut Line<'_>, output: &mut Output<'_>)
+>(items: I, line: &mut Line, output: &mut Output)
     requires { (items : I) → I.can_next items × I.can_next_back items }
 {
     let mut items = items;
@@ -70,17 +69,13 @@ pub fn iterate_and_clone<
 }
 
 /// Appends a pair, and writes its value.
-fn write_pair<'a>(key: &Key<'a>, lent: &mut Value<'a>, value: Value<'a>, output: &mut Output<'a>) {
+fn write_pair(key: &Key, lent: &mut Value, value: Value, output: &mut Output) {
     output.show_pair(key, lent);
-    output.write(lent, value);
+    output.replace(lent, value);
 }
 
 /// Iterates by what `iter_mut` returns, and writes each value that is lent.
-pub fn iterate_and_write<'a>(
-    pairs: IterMut<'_, Key<'a>, Value<'a>>,
-    line: &mut Line<'a>,
-    output: &mut Output<'a>,
-) {
+pub fn iterate_and_write(pairs: IterMut<'_, Key, Value>, line: &mut Line, output: &mut Output) {
     let mut pairs = pairs;
     let steps = line.word();
     let mut values = line.values();
@@ -96,16 +91,16 @@ pub fn iterate_and_write<'a>(
 }
 
 /// Appends a value, and writes it.
-fn write_value<'a>(lent: &mut Value<'a>, value: Value<'a>, output: &mut Output<'a>) {
+fn write_value(lent: &mut Value, value: Value, output: &mut Output) {
     output.show(lent);
-    output.write(lent, value);
+    output.replace(lent, value);
 }
 
 /// Iterates by what `values_mut` returns, and writes each value that is lent.
-fn iterate_values_and_write<'a>(
-    lent_values: ValuesMut<'_, Key<'a>, Value<'a>>,
-    line: &mut Line<'a>,
-    output: &mut Output<'a>,
+fn iterate_values_and_write(
+    lent_values: ValuesMut<'_, Key, Value>,
+    line: &mut Line,
+    output: &mut Output,
 ) {
     let mut lent_values = lent_values;
     let steps = line.word();
@@ -122,33 +117,22 @@ fn iterate_values_and_write<'a>(
 }
 
 /// Adds a number to every value in place, in a loop over the map.
-fn add<'a>(map: &mut Map<'a>, number: u64) {
+fn add(map: &mut Map, number: u64) {
     for (_key, value) in map {
         value.increase(number);
     }
 }
 
 /// Appends every pair, in a loop over the map. Each step is within a window.
-fn show_all<'a>(map: &Map<'a>, output: &mut Output<'a>) {
+fn show_all(map: &Map, output: &mut Output) {
     for (key, value) in map {
         output.show_pair(key, value);
         output.begin();
     }
 }
 
-/// Iterates by `drain`, and drops or forgets the iterator.
-fn drain<'a>(map: &mut Map<'a>, line: &mut Line<'a>, output: &mut Output<'a>) {
-    let mut pairs = map.drain();
-    iterate(&mut pairs, line.word(), output);
-    if line.word() == "forget" {
-        mem::forget(pairs);
-    } else {
-        output.drop_within(pairs);
-    }
-}
-
 /// Iterates over a map that is taken, and forgets what is left.
-fn iterate_and_forget<'a>(map: Map<'a>, steps: &str, output: &mut Output<'a>) {
+fn iterate_and_forget(map: Map, steps: &str, output: &mut Output) {
     let mut pairs = map.into_iter();
     iterate(&mut pairs, steps, output);
     mem::forget(pairs);
@@ -158,7 +142,7 @@ fn iterate_and_forget<'a>(map: Map<'a>, steps: &str, output: &mut Output<'a>) {
 pub fn iterate_to_the_end<
     T: Debug + Drop,
     I: DoubleEndedIterator<Item = T> + ExactSizeIterator + Drop,
->(items: I, line: &mut Line<'_>, output: &mut Output<'_>)
+>(items: I, line: &mut Line, output: &mut Output)
     requires { (items : I) → I.can_next items × I.can_next_back items }
 {
     let mut items = items;
@@ -170,42 +154,22 @@ pub fn iterate_to_the_end<
     }
 }
 
-/// Runs the call of this name that takes the map, and returns whether there is one.
-fn run_owned<'a>(
-    alloc: Global,
-    name: &str,
-    line: &mut Line<'a>,
-    map: &mut Map<'a>,
-    output: &mut Output<'a>,
-) -> bool {
-    match name {
-        "into_iter" => iterate_and_clone(take(alloc, map).into_iter(), line, output),
-        "into_iter_forget" => iterate_and_forget(take(alloc, map), line.word(), output),
-        "into_keys" => iterate_to_the_end(take(alloc, map).into_keys(), line, output),
-        "into_values" => iterate_to_the_end(take(alloc, map).into_values(), line, output),
-        _ => return false,
-    }
-    true
-}
-
-/// Runs the call of this name, and returns whether there is one.
-pub fn run<'a>(
-    alloc: Global,
-    name: &str,
-    line: &mut Line<'a>,
-    map: &mut Map<'a>,
-    output: &mut Output<'a>,
-) -> bool {
-    match name {
+/// Runs the call of a line, and returns whether there is one.
+pub fn run(line: &mut Line, map: &mut Map, output: &mut Output) -> bool {
+    match line.name() {
         "iter" => iterate_and_clone(map.iter(), line, output),
         "keys" => iterate_and_clone(map.keys(), line, output),
         "values" => iterate_and_clone(map.values(), line, output),
         "iter_mut" => iterate_and_write(map.iter_mut(), line, output),
         "values_mut" => iterate_values_and_write(map.values_mut(), line, output),
-        "drain" => drain(map, line, output),
+        "drain" => iterate_to_the_end(map.drain(), line, output),
         "loop" => show_all(map, output),
         "loop_mut" => add(map, line.number()),
-        _ => return run_owned(alloc, name, line, map, output),
+        "into_iter" => iterate_and_clone(take(line, map).into_iter(), line, output),
+        "into_iter_forget" => iterate_and_forget(take(line, map), line.word(), output),
+        "into_keys" => iterate_to_the_end(take(line, map).into_keys(), line, output),
+        "into_values" => iterate_to_the_end(take(line, map).into_values(), line, output),
+        _ => return false,
     }
     true
 }

@@ -7,11 +7,7 @@ use std::fmt::Debug;
 
 /// Makes a step for each letter, and appends what each gives and the hint of what is left. Each
 /// step is within a window.
-fn advance<T: Debug + Drop, I: Iterator<Item = T>>(
-    items: &mut I,
-    steps: &str,
-    output: &mut Output<'_>,
-)
+fn advance<T: Debug + Drop, I: Iterator<Item = T>>(items: &mut I, steps: &str, output: &mut Output)
     requires { (items : I) → I.can_next items }
 {
     for _letter in steps.bytes() {
@@ -24,8 +20,8 @@ fn advance<T: Debug + Drop, I: Iterator<Item = T>>(
 /// Iterates, clones the iterator, and iterates by the clone and then by the iterator itself.
 pub fn advance_and_clone<T: Debug + Drop, I: Iterator<Item = T> + Clone + Drop>(
     found: Option<I>,
-    line: &mut Line<'_>,
-    output: &mut Output<'_>,
+    line: &mut Line,
+    output: &mut Output,
 )
     requires { (items : I) → I.can_next items }
 {
@@ -51,9 +47,9 @@ pub fn advance_and_clone<T: Debug + Drop, I: Iterator<Item = T> + Clone + Drop>(
     output.drop_within(items);
 }
 
-/// Runs the call of this name, and returns whether there is one.
-pub fn run<'a>(name: &str, line: &mut Line<'a>, map: &Map<'a>, output: &mut Output<'a>) -> bool {
-    match name {
+/// Runs the call of a line, and returns whether there is one.
+pub fn run(line: &mut Line, map: &Map, output: &mut Output) -> bool {
+    match line.name() {
         "iter_from" => {
             let key = line.key();
             advance_and_clone(map.iter_from(&key), line, output);

@@ -8,71 +8,62 @@ ghost use Rattle.std.proofs.Common.{rules};
 ghost use Rattle.driver.specs.Keys.{same_cmp, same_cmp_partial_order};
 
 use super::copied::CopiedKey;
-use super::counts::{Counts, Event, Kind};
-use super::ordered::OrderedKey;
-use std::alloc::AllocError;
+use super::counts::{Counts, Effect};
+use super::identity::Identity;
 use std::cmp::Ordering;
 use std::fmt;
 use std::hash::{Hash, Hasher};
 
-/// What is added to the serial number of a key or a value to give that of a copy.
-pub const COPY: u64 = 4_294_967_296;
-
 /// The first eight bytes of a text. Two keys are the same if they differ in case alone, so what
 /// a map has stored shows which of them it keeps.
-pub struct Key<'a> {
+#[derive(Clone, Drop)]
+pub struct Key {
+    identity: Identity,
     text: [u8; 8],
     /// The text in lower case, as one number.
     folded: u64,
-    serial: u64,
-    counts: &'a Counts,
+    counts: &'static Counts,
 }
 
-impl<'a> Key<'a> {
+impl Key {
     /// Makes a key of a text, with the next serial number.
-    pub fn new(text: &str, counts: &'a Counts) -> Key<'a> {
+    pub fn new(text: &str, counts: &'static Counts) -> Key {
         let mut bytes = [0; 8];
         for (place, byte) in bytes.iter_mut().zip(text.bytes()) {
             *place = byte;
         }
-        let mut lower = bytes;
+        Key::of_bytes(bytes, counts)
+    }
+
+    fn of_bytes(text: [u8; 8], counts: &'static Counts) -> Key {
+        let mut lower = text;
         for place in lower.iter_mut() {
             *place = place.to_ascii_lowercase();
         }
         Key {
-            text: bytes,
+            identity: Identity::new(counts, Effect::DropKey),
+            text,
             folded: u64::from_le_bytes(lower),
-            serial: counts.next_serial(),
             counts,
         }
     }
 
     /// Makes a key of the decimal text of a number, with the next serial number.
-    pub fn decimal(number: u64, counts: &'a Counts) -> Key<'a> {
-        let text = decimal_text(number);
-        Key {
-            text,
-            folded: u64::from_le_bytes(text),
-            serial: counts.next_serial(),
-            counts,
-        }
+    pub fn decimal(number: u64, counts: &'static Counts) -> Key {
+        Key::of_bytes(decimal_text(number), counts)
     }
 
     /// Makes a key of the same text, with the next serial number.
-    pub fn again(&self) -> Key<'a> {
-        self.with_serial(self.counts.next_serial())
+    pub fn again(&self) -> Key {
+        Key::of_bytes(self.text, self.counts)
     }
 
     /// Makes a copy, which is not counted as a clone.
-    pub fn copy(&self) -> Key<'a> {
-        self.with_serial(self.serial.wrapping_add(COPY))
-    }
-
-    fn with_serial(&self, serial: u64) -> Key<'a> {
+    pub fn copy(&self) -> Key {
         Key {
+            identity: self.identity.copy(),
             text: self.text,
             folded: self.folded,
-            serial,
             counts: self.counts,
         }
     }
@@ -83,18 +74,18 @@ impl<'a> Key<'a> {
     }
 
     /// Returns the text in lower case as a key that is copied.
-    pub fn copied(&self) -> CopiedKey<'a> {
+    pub fn copied(&self) -> CopiedKey {
         CopiedKey::new(self.text, self.folded, self.counts)
     }
 
-    /// Returns the text as a key that is compared as it is.
-    pub fn ordered(&self) -> OrderedKey<'a> {
-        OrderedKey::new(self.number(), self.counts)
+    /// Returns the text as a key that is copied, and compared as it is.
+    pub fn ordered(&self) -> CopiedKey {
+        CopiedKey::new(self.text, self.number(), self.counts)
     }
 
     /// Returns the serial number.
     pub fn serial(&self) -> u64 {
-        self.serial
+        self.identity.serial()
     }
 }
 
@@ -112,51 +103,29 @@ fn decimal_text(number: u64) -> [u8; 8] {
     u64::to_be_bytes(text)
 }
 
-impl<'a> Drop for Key<'a> {
-    fn drop(self) {
-        self.counts.count_drop(Kind::Key, self.serial);
-        let Key {
-            text: _,
-            folded: _,
-            serial: _,
-            counts: _,
-        } = self;
-    }
-}
-
-impl<'a> Clone for Key<'a> {
-    fn clone(&self) -> Result<Key<'a>, AllocError> {
-        self.counts.count(Event::CloneKey);
-        if self.counts.refuses_clone() {
-            return Err(AllocError);
-        }
-        Ok(self.copy())
-    }
-}
-
-impl<'a> PartialEq for Key<'a> {
+impl PartialEq for Key {
     ghost eq = { on (λ key. key.folded) ◌==◌ };
 
     ghost laws = { Prim.search (comparing, rules) };
 
-    fn eq(&self, other: &Key<'a>) -> bool {
-        self.counts.count(Event::EqKey);
+    fn eq(&self, other: &Key) -> bool {
+        self.identity.count(Effect::EqKey);
         self.folded == other.folded
     }
 }
 
-impl<'a> Eq for Key<'a> {
+impl Eq for Key {
     ghost laws = { Prim.search (comparing, rules) };
 }
 
 /// Keys that are not the same have no order.
-impl<'a> PartialOrd for Key<'a> {
+impl PartialOrd for Key {
     ghost partial_cmp = { on (λ key. key.folded) same_cmp };
 
     ghost laws = { on_po (λ key. key.folded) same_cmp_partial_order };
 
-    fn partial_cmp(&self, other: &Key<'a>) -> Option<Ordering> {
-        self.counts.count(Event::CmpKey);
+    fn partial_cmp(&self, other: &Key) -> Option<Ordering> {
+        self.identity.count(Effect::CmpKey);
         if self.folded == other.folded {
             Some(Ordering::Equal)
         } else {
@@ -165,19 +134,19 @@ impl<'a> PartialOrd for Key<'a> {
     }
 }
 
-impl<'a> Hash for Key<'a> {
+impl Hash for Key {
     ghost hash_input = { λ key. fed.u64 key.folded };
 
     ghost respects_eq = { Prim.search (hashing, rules) };
 
     fn hash<H: Hasher>(&self, state: &mut H) {
-        self.counts.count(Event::HashKey);
+        self.identity.count(Effect::HashKey);
         state.write_u64(self.folded);
     }
 }
 
 /// The text alone.
-impl<'a> fmt::Debug for Key<'a> {
+impl fmt::Debug for Key {
     fn fmt<W: fmt::Write>(&self, f: &mut fmt::Formatter<W>) -> fmt::Result {
         write_text(self.text, f)
     }

@@ -1,32 +1,56 @@
 //! The words of a line.
 
-use super::counts::Counts;
-use super::guard::Guard;
+use super::counts::{Counts, Effect};
 use super::hasher::{BuildKeyHasher, Choice};
+use super::identity::Identity;
 use super::key::Key;
 use super::value::{Value, Values};
+use std::alloc::Global;
 use std::mem;
 use std::str::SplitWhitespace;
 
-/// The words of a line that are left. A word that is missing is empty, and one that is no number
-/// is 0. Each key, value and hasher that is made of a word has the next serial number.
+/// The name of a call and the words of its line that are left. A word that is missing is empty, and
+/// one that is no number is 0. Each key, value and hasher that is made of a word has the next serial
+/// number.
 #[derive(Drop)]
-pub struct Line<'a> {
-    words: SplitWhitespace<'a>,
-    counts: &'a Counts,
+pub struct Line {
+    pub alloc: Global,
+    name: &'static str,
+    words: SplitWhitespace<'static>,
+    counts: &'static Counts,
 }
 
-impl<'a> Line<'a> {
-    /// Begins a line.
-    pub fn new(text: &'a str, counts: &'a Counts) -> Line<'a> {
-        Line {
+impl Line {
+    /// Begins a line, whose first word is the name.
+    pub fn new(alloc: Global, text: &'static str, counts: &'static Counts) -> Line {
+        let mut line = Line {
+            alloc,
+            name: "",
             words: text.split_whitespace(),
             counts,
+        };
+        line.name = line.word();
+        line
+    }
+
+    /// Returns the name of the call.
+    pub fn name(&self) -> &'static str {
+        self.name
+    }
+
+    /// Returns whether the name begins with a prefix, and takes it off.
+    pub fn strip_prefix(&mut self, prefix: &str) -> bool {
+        match self.name.strip_prefix(prefix) {
+            Some(name) => {
+                self.name = name;
+                true
+            }
+            None => false,
         }
     }
 
     /// Returns the next word.
-    pub fn word(&mut self) -> &'a str {
+    pub fn word(&mut self) -> &'static str {
         match self.words.next() {
             Some(word) => word,
             None => "",
@@ -34,27 +58,27 @@ impl<'a> Line<'a> {
     }
 
     /// Makes a key of a word.
-    pub fn key_of(&self, word: &str) -> Key<'a> {
+    pub fn key_of(&self, word: &str) -> Key {
         Key::new(word, self.counts)
     }
 
     /// Returns the next word as a key.
-    pub fn key(&mut self) -> Key<'a> {
+    pub fn key(&mut self) -> Key {
         Key::new(self.word(), self.counts)
     }
 
     /// Returns the next word as a value.
-    pub fn value(&mut self) -> Value<'a> {
+    pub fn value(&mut self) -> Value {
         Value::new(self.number(), self.counts)
     }
 
     /// Returns the next word as the values of a call that is made more than once.
-    pub fn values(&mut self) -> Values<'a> {
+    pub fn values(&mut self) -> Values {
         Values::new(self.value(), self.counts)
     }
 
     /// Returns the hasher that the next word names.
-    pub fn hasher(&mut self) -> BuildKeyHasher<'a> {
+    pub fn hasher(&mut self) -> BuildKeyHasher {
         BuildKeyHasher::new(Choice::named(self.word()), self.counts)
     }
 
@@ -66,24 +90,18 @@ impl<'a> Line<'a> {
         }
     }
 
-    /// Returns how many pairs the words that are left make.
-    pub fn pairs_left(&self) -> usize {
-        let words = self.words_left();
-        words / 2 + words % 2
-    }
-
     /// Returns the counts.
-    pub fn counts(&self) -> &'a Counts {
+    pub fn counts(&self) -> &'static Counts {
         self.counts
     }
 
-    /// Makes what a closure owns.
-    pub fn guard(&self) -> Guard<'a> {
-        Guard::new(self.counts)
+    /// Makes what a closure owns, so that its drop is counted.
+    pub fn guard(&self) -> Identity {
+        Identity::new(self.counts, Effect::DropClosure)
     }
 
     /// Makes a value of the number 0.
-    pub fn zero(&self) -> Value<'a> {
+    pub fn zero(&self) -> Value {
         Value::new(0, self.counts)
     }
 
@@ -97,25 +115,24 @@ impl<'a> Line<'a> {
         self.number() as usize
     }
 
-    /// Returns the next word as a number below 1,000.
-    pub fn small_number(&mut self) -> usize {
-        (self.number() % 1000) as usize
-    }
-
-    /// Returns the words that are left as keys.
-    pub fn keys(&mut self) -> Keys<'a> {
-        Keys {
+    /// Takes the words that are left into a line of their own.
+    pub fn rest(&mut self) -> Line {
+        Line {
+            alloc: self.alloc,
+            name: "",
             words: mem::replace(&mut self.words, "".split_whitespace()),
             counts: self.counts,
         }
     }
 
-    /// Returns the words that are left as pairs of a key and a value.
-    pub fn pairs(&mut self) -> Pairs<'a> {
-        Pairs {
-            words: mem::replace(&mut self.words, "".split_whitespace()),
-            counts: self.counts,
-        }
+    /// Takes the words that are left as keys.
+    pub fn keys(&mut self) -> Keys {
+        Keys { line: self.rest() }
+    }
+
+    /// Takes the words that are left as pairs of a key and a value.
+    pub fn pairs(&mut self) -> Pairs {
+        Pairs { line: self.rest() }
     }
 }
 
@@ -129,69 +146,43 @@ fn number_of(word: &str) -> u64 {
 
 /// Words as keys, each of which is made when it is taken.
 #[derive(Drop)]
-pub struct Keys<'a> {
-    words: SplitWhitespace<'a>,
-    counts: &'a Counts,
+pub struct Keys {
+    line: Line,
 }
 
-impl<'a> Keys<'a> {
-    /// Returns the next key, whose word may be missing.
-    pub fn next_key(&mut self) -> Key<'a> {
-        match self.words.next() {
-            Some(word) => Key::new(word, self.counts),
-            None => Key::new("", self.counts),
-        }
-    }
-}
+impl Iterator for Keys {
+    type Item = Key;
 
-impl<'a> Iterator for Keys<'a> {
-    type Item = Key<'a>;
+    ghost can_next = { λ keys. ⟦<SplitWhitespace<'static> as Iterator>⟧.can_next keys.line.words };
 
-    ghost can_next = { λ keys. ⟦<SplitWhitespace<'a> as Iterator>⟧.can_next keys.words };
+    ghost remaining = { λ keys. ⟦<SplitWhitespace<'static> as Iterator>⟧.remaining keys.line.words };
 
-    ghost remaining = { λ keys. ⟦<SplitWhitespace<'a> as Iterator>⟧.remaining keys.words };
-
-    fn next(&mut self) -> Option<Key<'a>> {
-        let word = self.words.next()?;
-        Some(Key::new(word, self.counts))
+    fn next(&mut self) -> Option<Key> {
+        let word = self.line.words.next()?;
+        Some(self.line.key_of(word))
     }
 }
 
 /// Words as pairs, each of which is made when it is taken.
 #[derive(Drop)]
-pub struct Pairs<'a> {
-    words: SplitWhitespace<'a>,
-    counts: &'a Counts,
+pub struct Pairs {
+    line: Line,
 }
 
-impl<'a> Pairs<'a> {
-    /// Returns the next pair, whose words may be missing.
-    pub fn next_pair(&mut self) -> (Key<'a>, Value<'a>) {
-        let key = match self.words.next() {
-            Some(word) => Key::new(word, self.counts),
-            None => Key::new("", self.counts),
-        };
-        let number = match self.words.next() {
+impl Iterator for Pairs {
+    type Item = (Key, Value);
+
+    ghost can_next = { λ pairs. ⟦<SplitWhitespace<'static> as Iterator>⟧.can_next pairs.line.words };
+
+    ghost remaining = { λ pairs. ⟦<SplitWhitespace<'static> as Iterator>⟧.remaining pairs.line.words };
+
+    fn next(&mut self) -> Option<(Key, Value)> {
+        let word = self.line.words.next()?;
+        let key = self.line.key_of(word);
+        let number = match self.line.words.next() {
             Some(word) => number_of(word),
             None => 0,
         };
-        (key, Value::new(number, self.counts))
-    }
-}
-
-impl<'a> Iterator for Pairs<'a> {
-    type Item = (Key<'a>, Value<'a>);
-
-    ghost can_next = { λ pairs. ⟦<SplitWhitespace<'a> as Iterator>⟧.can_next pairs.words };
-
-    ghost remaining = { λ pairs. ⟦<SplitWhitespace<'a> as Iterator>⟧.remaining pairs.words };
-
-    fn next(&mut self) -> Option<(Key<'a>, Value<'a>)> {
-        let key = Key::new(self.words.next()?, self.counts);
-        let number = match self.words.next() {
-            Some(word) => number_of(word),
-            None => 0,
-        };
-        Some((key, Value::new(number, self.counts)))
+        Some((key, Value::new(number, self.line.counts)))
     }
 }

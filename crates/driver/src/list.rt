@@ -1,145 +1,118 @@
-//! The list of a map, a cache or a set, at the end of each line of the output.
+//! The lists of maps, caches, sets and tables, at the end of each line of the output.
+ghost use Rattle.std.specs.Iterator.{IsFinite};
 
 use super::key::Key;
 use super::output::Output;
 use super::value::Value;
-use linked_hash_map::Iter;
 
 /// The longest list that is shown whole.
 pub const SHOWN: usize = 100;
 
-/// Returns what a pair adds to a digest, before its place.
-fn mixed(key: &Key<'_>, value: &Value<'_>) -> u64 {
-    key.number() ^ spread(value.number())
+/// An item of a list.
+pub trait Listed {
+    /// Appends it.
+    fn list(&self, output: &mut Output);
+
+    /// Returns what it adds to a digest, before its place.
+    fn mixed(&self) -> u64;
+}
+
+impl<'m> Listed for &'m Key {
+    fn list(&self, output: &mut Output) {
+        output.list(*self);
+    }
+
+    fn mixed(&self) -> u64 {
+        self.number()
+    }
+}
+
+impl<'m> Listed for (&'m Key, &'m Value) {
+    fn list(&self, output: &mut Output) {
+        output.list_pair(self.0, self.1);
+    }
+
+    fn mixed(&self) -> u64 {
+        self.0.number() ^ spread(self.1.number())
+    }
+}
+
+impl<'m> Listed for &'m (Key, Value) {
+    fn list(&self, output: &mut Output) {
+        (&self.0, &self.1).list(output);
+    }
+
+    fn mixed(&self) -> u64 {
+        (&self.0, &self.1).mixed()
+    }
+}
+
+/// A session: its id, its weight and its payload.
+impl<'m> Listed for (u64, u64, &'m Value) {
+    fn list(&self, output: &mut Output) {
+        output.show_session((" ", ""), self.0, self.1, self.2);
+    }
+
+    fn mixed(&self) -> u64 {
+        self.0 ^ spread(self.1) ^ self.2.number()
+    }
 }
 
 /// Returns a number times an odd number that spreads its bits.
-pub fn spread(number: u64) -> u64 {
+fn spread(number: u64) -> u64 {
     number.wrapping_mul(1_099_511_628_211)
 }
 
 /// The sum of what the items of a list are mixed to, each times its place, which counts from 1.
-#[derive(Clone, Copy)]
+#[derive(Clone, Copy, Default)]
 pub struct Digest {
-    sum: u64,
+    pub sum: u64,
     place: u64,
 }
 
 impl Digest {
-    /// Begins before the first item.
-    pub fn new() -> Digest {
-        Digest { sum: 0, place: 0 }
-    }
-
     /// Adds the next item.
-    pub fn add(&mut self, number: u64) {
+    pub fn add<T: Listed>(&mut self, item: &T) {
         self.place = self.place.wrapping_add(1);
-        self.sum = self.sum.wrapping_add(self.place.wrapping_mul(number));
-    }
-
-    /// Returns the sum.
-    pub fn sum(&self) -> u64 {
-        self.sum
+        self.sum = self.sum.wrapping_add(self.place.wrapping_mul(item.mixed()));
     }
 }
 
-/// Returns a digest of the pairs in order.
-fn digest_of_pairs(pairs: Iter<'_, Key<'_>, Value<'_>>) -> u64 {
-    let mut digest = Digest::new();
-    for (key, value) in pairs {
-        digest.add(mixed(key, value));
-    }
-    digest.sum
-}
-
-/// Returns a digest of the items in order.
-fn digest_of_items(items: linked_hash_set::Iter<'_, Key<'_>>) -> u64 {
-    let mut digest = Digest::new();
+/// Appends the first item, the last and a digest.
+fn list_ends<T: Listed + Copy, I: Iterator<Item = T> + Drop>(items: I, output: &mut Output)
+    requires can { I.can_next items }
+    requires ends { IsFinite (I.remaining items) }
+{
+    let mut digest = Digest::default();
+    let mut last = None;
     for item in items {
-        digest.add(item.number());
+        if last.is_none() {
+            item.list(output);
+        }
+        digest.add(&item);
+        last = Some(item);
     }
-    digest.sum
+    if let Some(last) = last {
+        last.list(output);
+    }
+    output.list(&digest.sum);
 }
 
-/// Appends the pairs in order.
-fn list_all_pairs(pairs: Iter<'_, Key<'_>, Value<'_>>, output: &mut Output<'_>) {
-    for (key, value) in pairs {
-        output.list_pair(key, value);
+/// Appends how many items there are and each in order, or if they are many, the first, the last and
+/// a digest.
+pub fn list<T: Listed + Copy, I: Iterator<Item = T> + Drop>(
+    len: usize,
+    items: I,
+    output: &mut Output,
+)
+    requires can { I.can_next items }
+    requires ends { IsFinite (I.remaining items) }
+{
+    output.list(&len);
+    if len > SHOWN {
+        return list_ends(items, output);
     }
-}
-
-/// Appends the items in order.
-fn list_all_items(items: linked_hash_set::Iter<'_, Key<'_>>, output: &mut Output<'_>) {
     for item in items {
-        output.list(item);
-    }
-}
-
-/// Appends the first and the last pair.
-fn list_end_pairs(pairs: Iter<'_, Key<'_>, Value<'_>>, output: &mut Output<'_>) {
-    let mut pairs = pairs;
-    if let Some((key, value)) = pairs.next() {
-        output.list_pair(key, value);
-    }
-    if let Some((key, value)) = pairs.next_back() {
-        output.list_pair(key, value);
-    }
-}
-
-/// Appends the first and the last item.
-fn list_end_items(items: linked_hash_set::Iter<'_, Key<'_>>, output: &mut Output<'_>) {
-    let mut items = items;
-    if let Some(item) = items.next() {
-        output.list(item);
-    }
-    if let Some(item) = items.next_back() {
-        output.list(item);
-    }
-}
-
-/// Appends the pairs in order, or if they are many, the first, the last and a digest.
-pub fn list_pairs(pairs: Iter<'_, Key<'_>, Value<'_>>, output: &mut Output<'_>) {
-    let len = pairs.len();
-    output.push_str("|");
-    output.list(&len);
-    if len <= SHOWN {
-        list_all_pairs(pairs, output);
-    } else if let Ok(ends) = pairs.clone() {
-        list_end_pairs(ends, output);
-        output.list(&digest_of_pairs(pairs));
-    }
-}
-
-/// Returns a digest of the pairs of a slice in order.
-fn digest_of_slice(pairs: &[(Key<'_>, Value<'_>)]) -> u64 {
-    let mut digest = Digest::new();
-    for pair in pairs {
-        digest.add(mixed(&pair.0, &pair.1));
-    }
-    digest.sum
-}
-
-/// Appends how many pairs a slice has, the first, the last and a digest.
-pub fn list_ends(pairs: &[(Key<'_>, Value<'_>)], output: &mut Output<'_>) {
-    output.list(&pairs.len());
-    if let Some(pair) = pairs.first() {
-        output.list_pair(&pair.0, &pair.1);
-    }
-    if let Some(pair) = pairs.last() {
-        output.list_pair(&pair.0, &pair.1);
-    }
-    output.list(&digest_of_slice(pairs));
-}
-
-/// Appends the items in order, or if they are many, the first, the last and a digest.
-pub fn list_items(items: linked_hash_set::Iter<'_, Key<'_>>, output: &mut Output<'_>) {
-    let len = items.len();
-    output.push_str("|");
-    output.list(&len);
-    if len <= SHOWN {
-        list_all_items(items, output);
-    } else if let Ok(ends) = items.clone() {
-        list_end_items(ends, output);
-        output.list(&digest_of_items(items));
+        item.list(output);
     }
 }

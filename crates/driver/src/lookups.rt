@@ -7,7 +7,7 @@ use super::output::Output;
 use super::value::Value;
 
 /// Reads by index, if the key is present.
-fn index<'a>(map: &Map<'a>, key: &Key<'a>, output: &mut Output<'a>) {
+fn index(map: &Map, key: &Key, output: &mut Output) {
     output.end();
     if map.contains_key(key) {
         output.begin();
@@ -18,13 +18,13 @@ fn index<'a>(map: &Map<'a>, key: &Key<'a>, output: &mut Output<'a>) {
 }
 
 /// Writes by index, if the key is present.
-fn index_mut<'a>(map: &mut Map<'a>, line: &mut Line<'a>, output: &mut Output<'a>) {
+fn index_mut(map: &mut Map, line: &mut Line, output: &mut Output) {
     let key = line.key();
     let value = line.value();
     output.end();
     if map.contains_key(&key) {
         output.begin();
-        output.write(&mut map[&key], value);
+        output.replace(&mut map[&key], value);
         output.push_str("written ");
     } else {
         output.push_str("absent ");
@@ -32,50 +32,29 @@ fn index_mut<'a>(map: &mut Map<'a>, line: &mut Line<'a>, output: &mut Output<'a>
 }
 
 /// Appends a value that is lent, and writes another, if there is one.
-pub fn write_lent<'a>(lent: Option<&mut Value<'a>>, value: Value<'a>, output: &mut Output<'a>) {
+pub fn write_lent(lent: Option<&mut Value>, value: Value, output: &mut Output) {
     match lent {
         Some(lent) => {
             output.show(lent);
-            output.write(lent, value);
+            output.replace(lent, value);
         }
         None => output.push_str("absent "),
     }
 }
 
-/// Runs the call of this name by a key that reads, and returns whether there is one.
-fn run_by_key<'a>(name: &str, line: &mut Line<'a>, map: &Map<'a>, output: &mut Output<'a>) -> bool {
-    match name {
+/// Runs the call of a line, and returns whether there is one.
+pub fn run(line: &mut Line, map: &mut Map, output: &mut Output) -> bool {
+    match line.name() {
         "get" => output.show(&map.get(&line.key())),
         "get_key_value" => output.show(&map.get_key_value(&line.key())),
         "get_counted" => output.show(&map.get_counted(&line.key())),
         "contains_key" => output.show(&map.contains_key(&line.key())),
         "index" => index(map, &line.key(), output),
-        _ => return false,
-    }
-    true
-}
-
-/// Runs the call of this name that writes one value, and returns whether there is one.
-fn run_by_write<'a>(
-    name: &str,
-    line: &mut Line<'a>,
-    map: &mut Map<'a>,
-    output: &mut Output<'a>,
-) -> bool {
-    match name {
         "index_mut" => index_mut(map, line, output),
         "get_mut" => write_lent(map.get_mut(&line.key()), line.value(), output),
         "get_refresh" => write_lent(map.get_refresh(&line.key()), line.value(), output),
         "front_mut" => write_lent(map.front_mut(), line.value(), output),
         "back_mut" => write_lent(map.back_mut(), line.value(), output),
-        _ => return false,
-    }
-    true
-}
-
-/// Runs the call of this name that takes no word, and returns whether there is one.
-fn run_on_all<'a>(name: &str, map: &Map<'a>, output: &mut Output<'a>) -> bool {
-    match name {
         "front" => output.show(&map.front()),
         "back" => output.show(&map.back()),
         "len" => output.show_two(&map.len(), &map.is_empty()),
@@ -83,16 +62,4 @@ fn run_on_all<'a>(name: &str, map: &Map<'a>, output: &mut Output<'a>) -> bool {
         _ => return false,
     }
     true
-}
-
-/// Runs the call of this name, and returns whether there is one.
-pub fn run<'a>(
-    name: &str,
-    line: &mut Line<'a>,
-    map: &mut Map<'a>,
-    output: &mut Output<'a>,
-) -> bool {
-    run_by_key(name, line, map, output)
-        || run_by_write(name, line, map, output)
-        || run_on_all(name, map, output)
 }

@@ -23,8 +23,8 @@ mod copied;
 mod counts;
 mod entries;
 mod fills;
-mod guard;
 mod hasher;
+mod identity;
 mod insertions;
 mod iterators;
 mod iterators_from;
@@ -35,14 +35,12 @@ mod lookups;
 mod making;
 mod marks;
 mod order;
-mod ordered;
 mod output;
 mod pair_lists;
 mod refusal;
 mod refused_texts;
 mod replays;
 mod retaining;
-mod session_lists;
 mod sessions;
 mod set_fills;
 mod set_making;
@@ -72,24 +70,24 @@ use stop::Stop;
 use value::Value;
 
 /// The maps that the lines speak of.
-type Map<'a> = LinkedHashMap<Key<'a>, Value<'a>, BuildKeyHasher<'a>>;
+type Map = LinkedHashMap<Key, Value, BuildKeyHasher>;
 
 /// What the lines speak of: two maps, two caches, two sets and two tables of sessions.
 #[derive(Drop)]
-struct All<'a> {
-    map_a: Map<'a>,
-    map_b: Map<'a>,
-    cache_a: Cache<'a>,
-    cache_b: Cache<'a>,
-    set_a: Set<'a>,
-    set_b: Set<'a>,
-    table_a: Table<'a>,
-    table_b: Table<'a>,
+struct All {
+    map_a: Map,
+    map_b: Map,
+    cache_a: Cache,
+    cache_b: Cache,
+    set_a: Set,
+    set_b: Set,
+    table_a: Table,
+    table_b: Table,
 }
 
-impl<'a> All<'a> {
+impl All {
     /// Makes them, all empty.
-    fn new(alloc: Global) -> All<'a> {
+    fn new(alloc: Global) -> All {
         All {
             map_a: Map::with_hasher(alloc, BuildKeyHasher::default()),
             map_b: Map::with_hasher(alloc, BuildKeyHasher::default()),
@@ -103,119 +101,87 @@ impl<'a> All<'a> {
     }
 }
 
-/// Runs the call of this name that goes by an entry, and returns whether there is one.
-fn run_on_entries<'a>(
-    alloc: Global,
-    name: &str,
-    line: &mut Line<'a>,
-    map: &mut Map<'a>,
-    output: &mut Output<'a>,
-) -> bool {
-    entries::run(name, line, map, output)
-        || insertions::run(alloc, name, line, map, output)
-        || visits::run(name, line, map, output)
+/// Runs the call of a line that is of one map and not of its order, and returns whether there is
+/// one.
+fn run_on_one(line: &mut Line, map: &mut Map, output: &mut Output) -> bool {
+    match line.name() {
+        "retain" => retaining::retain(map, line, output),
+        "replay" => replays::replay_all(line, map, output),
+        "pair_lists" => pair_lists::show_calls(line, map, output),
+        "refused_texts" => refused_texts::show_all(line, output),
+        _ => {
+            return entries::run(line, map, output)
+                || insertions::run(line, map, output)
+                || visits::run(line, map, output)
+                || iterators::run(line, map, output)
+                || iterators_from::run(line, map, output)
+                || sorts::run(line, map, output)
+                || fills::run(line, map, output);
+        }
+    }
+    true
 }
 
-/// Runs the call of this name that makes many steps, and returns whether there is one.
-fn run_on_many<'a>(
-    alloc: Global,
-    name: &str,
-    line: &mut Line<'a>,
-    map: &mut Map<'a>,
-    output: &mut Output<'a>,
-) -> bool {
-    retaining::run(name, line, map, output)
-        || replays::run(alloc, name, line, map, output)
-        || fills::run(alloc, name, line, map, output)
-        || pair_lists::run(alloc, name, line, map, output)
-        || refused_texts::run(name, line, output)
-}
-
-/// Runs the call of this name on `map` and, if it takes two, on `other` too, appends what it
-/// returns and the list of `map`, and returns whether there is such a call.
-fn run_on_map<'a>(
-    alloc: Global,
-    name: &str,
-    line: &mut Line<'a>,
-    map: &mut Map<'a>,
-    other: &mut Map<'a>,
-    output: &mut Output<'a>,
-) -> bool {
-    let is_known = lookups::run(name, line, map, output)
-        || changes::run(alloc, name, line, map, output)
-        || order::run(name, line, map, output)
-        || making::run(alloc, name, line, map, other, output)
-        || collecting::run(alloc, name, line, map, other, output)
-        || copied::run(alloc, name, map, other, output)
-        || run_on_entries(alloc, name, line, map, output)
-        || iterators::run(alloc, name, line, map, output)
-        || iterators_from::run(name, line, map, output)
-        || sorts::run(alloc, name, line, map, output)
-        || comparisons::run(alloc, name, line, map, other, output)
-        || run_on_many(alloc, name, line, map, output);
+/// Runs the call of a line on `map` and, if it takes two, on `other` too, appends what it returns
+/// and the list of `map`, and returns whether there is such a call.
+fn run_on_map(line: &mut Line, map: &mut Map, other: &mut Map, output: &mut Output) -> bool {
+    let is_known = lookups::run(line, map, output)
+        || changes::run(line, map, output)
+        || order::run(line, map, output)
+        || making::run(line, map, other, output)
+        || collecting::run(line, map, other, output)
+        || copied::run(line, map, other, output)
+        || comparisons::run(line, map, other, output)
+        || run_on_one(line, map, output);
     if is_known {
-        list::list_pairs(map.iter(), output);
+        output.push_str("|");
+        list::list(map.len(), map.iter(), output);
     }
     is_known
 }
 
-/// Returns the name of a call of a set behind `set_`. `set_mode` is a call of a map.
-fn name_of_set_call(name: &str) -> Option<&str> {
-    if name == "set_mode" {
-        None
-    } else {
-        name.strip_prefix("set_")
-    }
-}
-
 /// Runs the call of a line on what it names, and returns whether there is such a call. The first
-/// window is open when the call begins.
-fn run_call<'a>(
-    alloc: Global,
-    line: &mut Line<'a>,
-    all: &mut All<'a>,
-    output: &mut Output<'a>,
-) -> bool {
-    let name = line.word();
+/// window is open when the call begins. `set_mode` is a call of a map.
+fn run_call(line: &mut Line, all: &mut All, output: &mut Output) -> bool {
     let is_b = line.word() == "b";
     output.begin();
-    if let Some(name) = name.strip_prefix("cache_") {
+    if line.strip_prefix("cache_") {
         if is_b {
-            caches::run(alloc, name, line, &mut all.cache_b, &all.cache_a, output)
+            caches::run(line, &mut all.cache_b, &all.cache_a, output)
         } else {
-            caches::run(alloc, name, line, &mut all.cache_a, &all.cache_b, output)
+            caches::run(line, &mut all.cache_a, &all.cache_b, output)
         }
-    } else if let Some(name) = name_of_set_call(name) {
+    } else if line.name() != "set_mode" && line.strip_prefix("set_") {
         if is_b {
-            sets::run(alloc, name, line, &mut all.set_b, &mut all.set_a, output)
+            sets::run(line, &mut all.set_b, &mut all.set_a, output)
         } else {
-            sets::run(alloc, name, line, &mut all.set_a, &mut all.set_b, output)
+            sets::run(line, &mut all.set_a, &mut all.set_b, output)
         }
-    } else if let Some(name) = name.strip_prefix("sessions_") {
+    } else if line.strip_prefix("sessions_") {
         if is_b {
-            sessions::run(alloc, name, line, &mut all.table_b, output)
+            sessions::run(line, &mut all.table_b, output)
         } else {
-            sessions::run(alloc, name, line, &mut all.table_a, output)
+            sessions::run(line, &mut all.table_a, output)
         }
     } else if is_b {
-        run_on_map(alloc, name, line, &mut all.map_b, &mut all.map_a, output)
+        run_on_map(line, &mut all.map_b, &mut all.map_a, output)
     } else {
-        run_on_map(alloc, name, line, &mut all.map_a, &mut all.map_b, output)
+        run_on_map(line, &mut all.map_a, &mut all.map_b, output)
     }
 }
 
 /// Runs the lines on new maps, caches, sets and tables, and returns the whole text of the output.
 /// For a line that is no call that is `unknown`. A line that begins with `#` makes everything anew.
-fn respond_counting<'a>(alloc: Global, lines: &'a str, counts: &'a Counts) -> Result<String, Stop> {
-    let mut output: Output<'a> = Output::new(alloc, counts);
-    let mut all: All<'a> = All::new(alloc);
+fn respond(alloc: Global, lines: &'static str, counts: &'static Counts) -> Result<String, Stop> {
+    let mut output = Output::new(alloc, counts);
+    let mut all = All::new(alloc);
     for text in lines.lines() {
         output.begin_line();
         if text.starts_with('#') {
             all = All::new(alloc);
             output.push_str(text);
             output.push_str("\n");
-        } else if run_call(alloc, &mut Line::new(text, counts), &mut all, &mut output) {
+        } else if run_call(&mut Line::new(alloc, text, counts), &mut all, &mut output) {
             output.end_line();
         } else {
             output.push_str("unknown\n");
@@ -224,16 +190,19 @@ fn respond_counting<'a>(alloc: Global, lines: &'a str, counts: &'a Counts) -> Re
     output.finish()
 }
 
-/// Runs the lines with new counts, and returns the whole text of the output.
-fn respond(alloc: Global, lines: &str) -> Result<String, Stop> {
-    let counts = Counts::new();
-    respond_counting(alloc, lines, &counts)
+/// Moves a value to memory that is never freed, so a key that refers to it names no lifetime.
+fn leak<T: Drop + 'static>(alloc: Global, value: T) -> Result<&'static T, Stop> {
+    match Box::new(alloc, value) {
+        Ok(made) => Ok(Box::leak(made)),
+        Err(_refused) => Err(Stop::OutOfMemory),
+    }
 }
 
 /// Reads all lines, runs them and writes the output.
 fn run<R: Read + Drop, W: Write>(alloc: Global, input: R, writer: &mut W) -> Result<(), Stop> {
-    let lines = io::read_to_string(alloc, input)?;
-    let text = respond(alloc, lines.as_str())?;
+    let counts = leak(alloc, Counts::new())?;
+    let lines = leak(alloc, io::read_to_string(alloc, input)?)?;
+    let text = respond(alloc, lines.as_str(), counts)?;
     writer.write_all(text.as_bytes())?;
     writer.flush()?;
     Ok(())

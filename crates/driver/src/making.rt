@@ -4,51 +4,36 @@ use super::Map;
 use super::hasher::BuildKeyHasher;
 use super::line::Line;
 use super::output::Output;
-use std::alloc::Global;
 use std::default::{Emptied, MadeWith};
 use std::mem;
 
-/// Makes an empty map, with the hasher that the next word names.
-fn with_hasher<'a>(alloc: Global, line: &mut Line<'a>, map: &mut Map<'a>, output: &mut Output<'a>) {
-    output.replace(map, Map::with_hasher(alloc, line.hasher()));
-}
-
-/// Makes an empty map, with that hasher and the capacity after it.
-fn with_capacity<'a>(
-    alloc: Global,
-    line: &mut Line<'a>,
-    map: &mut Map<'a>,
-    output: &mut Output<'a>,
-) {
+/// Makes an empty map, with the hasher that the next word names and the capacity after it.
+fn with_capacity(line: &mut Line, map: &mut Map, output: &mut Output) {
     let hasher = line.hasher();
     let capacity = line.size();
-    output.store(map, Map::with_capacity_and_hasher(alloc, capacity, hasher));
+    output.store(
+        map,
+        Map::with_capacity_and_hasher(line.alloc, capacity, hasher),
+    );
 }
 
 /// Makes an empty map with the default hasher.
-fn with_default_hasher<'a>(alloc: Global, map: &mut Map<'a>, output: &mut Output<'a>) {
-    output.replace(map, Map::with_hasher(alloc, BuildKeyHasher::default()));
+pub fn empty(line: &Line) -> Map {
+    Map::with_hasher(line.alloc, BuildKeyHasher::default())
 }
 
 /// Takes a map, and leaves an empty one with the default hasher in its place.
-pub fn take<'a>(alloc: Global, map: &mut Map<'a>) -> Map<'a> {
-    mem::replace(map, Map::with_hasher(alloc, BuildKeyHasher::default()))
+pub fn take(line: &Line, map: &mut Map) -> Map {
+    mem::replace(map, empty(line))
 }
 
-/// Runs the call of this name, and returns whether there is one.
-pub fn run<'a>(
-    alloc: Global,
-    name: &str,
-    line: &mut Line<'a>,
-    map: &mut Map<'a>,
-    other: &mut Map<'a>,
-    output: &mut Output<'a>,
-) -> bool {
-    match name {
-        "with_hasher" => with_hasher(alloc, line, map, output),
-        "with_capacity" => with_capacity(alloc, line, map, output),
-        "default" => with_default_hasher(alloc, map, output),
-        "made_with" => output.replace(map, MadeWith::made_with(alloc)),
+/// Runs the call of a line, and returns whether there is one.
+pub fn run(line: &mut Line, map: &mut Map, other: &mut Map, output: &mut Output) -> bool {
+    match line.name() {
+        "with_hasher" => output.replace(map, Map::with_hasher(line.alloc, line.hasher())),
+        "with_capacity" => with_capacity(line, map, output),
+        "default" => output.replace(map, empty(line)),
+        "made_with" => output.replace(map, MadeWith::made_with(line.alloc)),
         "emptied" => output.store(map, Emptied::emptied(other)),
         "clone" => output.store(map, other.clone()),
         "swap" => mem::swap(map, other),

@@ -6,7 +6,7 @@ use super::output::Output;
 use linked_hash_map::Mode;
 
 /// Moves pairs from the front to the back, if there are so many.
-fn rotate_left<'a>(map: &mut Map<'a>, count: usize, output: &mut Output<'a>) {
+fn rotate_left(map: &mut Map, count: usize, output: &mut Output) {
     if count <= map.len() {
         map.rotate_left(count);
     } else {
@@ -23,32 +23,19 @@ pub fn mode_named(name: &str) -> Mode {
     }
 }
 
-/// Runs the call of this name that reads a number or the mode, and returns whether there is one.
-fn run_to_read<'a>(name: &str, map: &Map<'a>, output: &mut Output<'a>) -> bool {
-    match name {
-        "capacity" => output.show(&map.capacity()),
-        "rechained" => output.show(&map.rechained()),
-        "mode" => output.show(&map.mode()),
-        _ => return false,
-    }
-    true
-}
-
-/// Runs the call of this name, and returns whether there is one.
-pub fn run<'a>(
-    name: &str,
-    line: &mut Line<'a>,
-    map: &mut Map<'a>,
-    output: &mut Output<'a>,
-) -> bool {
-    match name {
+/// Runs the call of a line, and returns whether there is one.
+pub fn run(line: &mut Line, map: &mut Map, output: &mut Output) -> bool {
+    match line.name() {
         "move_to_back" => output.show(&map.move_to_back(&line.key())),
         "move_to_front" => output.show(&map.move_to_front(&line.key())),
         "move_before" => output.show(&map.move_before(&line.key(), &line.key())),
         "move_after" => output.show(&map.move_after(&line.key(), &line.key())),
         "rotate_left" => rotate_left(map, line.size(), output),
         "set_mode" => map.set_mode(mode_named(line.word())),
-        _ => return run_to_read(name, map, output),
+        "capacity" => output.show(&map.capacity()),
+        "rechained" => output.show(&map.rechained()),
+        "mode" => output.show(&map.mode()),
+        _ => return false,
     }
     true
 }

@@ -17,18 +17,27 @@ use std::fmt::{Debug, Display};
 /// How many bytes of the output are reserved at the begin of a line.
 const LONGEST_LINE: usize = 65_536;
 
+/// Closes the window, and appends a text.
+macro_rules! append {
+    ($output:expr, $($text:tt)+) => {
+        $output.end();
+        let written = write!($output.text, $($text)+);
+        $output.note(written);
+    };
+}
+
 /// The text of the output, which is not written if it was itself refused memory.
 #[derive(Drop)]
-pub struct Output<'a> {
+pub struct Output {
     text: String,
     alloc: Global,
-    counts: &'a Counts,
+    counts: &'static Counts,
     is_out_of_memory: bool,
 }
 
-impl<'a> Output<'a> {
+impl Output {
     /// Makes an empty output.
-    pub fn new(alloc: Global, counts: &'a Counts) -> Output<'a> {
+    pub fn new(alloc: Global, counts: &'static Counts) -> Output {
         Output {
             text: String::new(alloc),
             alloc,
@@ -117,9 +126,7 @@ impl<'a> Output<'a> {
 
     /// Appends the debug text of an item.
     pub fn show<T: Debug>(&mut self, item: &T) {
-        self.end();
-        let written = write!(self.text, "{item:?} ");
-        self.note(written);
+        append!(self, "{item:?} ");
     }
 
     /// Appends the debug texts of two items.
@@ -141,95 +148,79 @@ impl<'a> Output<'a> {
     }
 
     /// Appends a pair.
-    pub fn show_pair(&mut self, key: &Key<'_>, value: &Value<'_>) {
-        self.end();
-        let written = write!(self.text, "{key:?}={value:?} ");
-        self.note(written);
+    pub fn show_pair(&mut self, key: &Key, value: &Value) {
+        append!(self, "{key:?}={value:?} ");
     }
 
     /// Appends what a call returned, as that of a call that may be refused.
     pub fn show_ok<T: Debug>(&mut self, item: &T) {
-        self.end();
-        let written = write!(self.text, "Ok({item:?}) ");
-        self.note(written);
+        append!(self, "Ok({item:?}) ");
     }
 
     /// Appends a key that a call handed out, or the given one if it handed that back.
-    pub fn show_key(&mut self, returned: Result<Key<'_>, Key<'_>>) {
-        self.end();
+    pub fn show_key(&mut self, returned: Result<Key, Key>) {
         let (name, key) = match returned {
             Ok(key) => ("Ok", key),
             Err(key) => ("Err", key),
         };
         let serial = key.serial();
-        let written = write!(self.text, "{name}({key:?} #{serial}) ");
-        self.note(written);
+        append!(self, "{name}({key:?} #{serial}) ");
     }
 
     /// Appends that the call of a number was refused.
     pub fn show_refused_number(&mut self, number: u64) {
-        self.end();
-        let written = write!(self.text, "refused {number} ");
-        self.note(written);
+        append!(self, "refused {number} ");
     }
 
     /// Appends the text of an item.
     pub fn show_text<T: Display>(&mut self, item: &T) {
-        self.end();
-        let written = write!(self.text, "{item} ");
-        self.note(written);
+        append!(self, "{item} ");
     }
 
     /// Appends the length and the capacity of a vector.
     pub fn show_size(&mut self, len: usize, capacity: usize) {
-        self.end();
-        let written = write!(self.text, "{len}/{capacity} ");
-        self.note(written);
+        append!(self, "{len}/{capacity} ");
     }
 
     /// Appends a pair that a refused call handed back.
-    pub fn show_refused_pair(&mut self, key: &Key<'_>, value: &Value<'_>) {
-        self.end();
+    pub fn show_refused_pair(&mut self, key: &Key, value: &Value) {
         let (first, second) = (key.serial(), value.serial());
-        let written = write!(self.text, "refused {key:?}={value:?} #{first} #{second} ");
-        self.note(written);
+        append!(self, "refused {key:?}={value:?} #{first} #{second} ");
     }
 
     /// Appends an item with its serial number.
     pub fn show_numbered<T: Debug>(&mut self, item: &T, serial: u64) {
-        self.end();
-        let written = write!(self.text, "{item:?} #{serial} ");
-        self.note(written);
+        append!(self, "{item:?} #{serial} ");
     }
 
     /// Appends a pair that a call sent away.
-    pub fn show_gone_pair(&mut self, key: &Key<'_>, value: &Value<'_>) {
-        self.end();
+    pub fn show_gone_pair(&mut self, key: &Key, value: &Value) {
         let (first, second) = (key.serial(), value.serial());
-        let written = write!(self.text, "Some({key:?}={value:?} #{first} #{second}) ");
-        self.note(written);
+        append!(self, "Some({key:?}={value:?} #{first} #{second}) ");
     }
 
-    /// Appends a key that a refused call handed back.
-    pub fn show_refused_item(&mut self, item: &Key<'_>) {
-        self.end();
-        let serial = item.serial();
-        let written = write!(self.text, "refused {item:?} #{serial} ");
-        self.note(written);
+    /// Appends how many things a call put in, or the number whose call was refused.
+    pub fn show_filled(&mut self, is_given: bool, count: u64, number: u64) {
+        if is_given {
+            self.show(&count);
+        } else {
+            self.show_refused_number(number);
+        }
     }
 
     /// Appends the debug text of an item of a list.
     pub fn list<T: Debug>(&mut self, item: &T) {
-        self.end();
-        let written = write!(self.text, " {item:?}");
-        self.note(written);
+        append!(self, " {item:?}");
     }
 
     /// Appends a pair of a list.
-    pub fn list_pair(&mut self, key: &Key<'_>, value: &Value<'_>) {
-        self.end();
-        let written = write!(self.text, " {key:?}:{value:?}");
-        self.note(written);
+    pub fn list_pair(&mut self, key: &Key, value: &Value) {
+        append!(self, " {key:?}:{value:?}");
+    }
+
+    /// Appends a session, between two texts.
+    pub fn show_session(&mut self, between: (&str, &str), id: u64, weight: u64, payload: &Value) {
+        append!(self, "{}{id}:{weight}:{payload:?}{}", between.0, between.1);
     }
 
     /// Appends what a call returned, or what it handed back.
@@ -281,15 +272,9 @@ impl<'a> Output<'a> {
         }
     }
 
-    /// Stores what a call returned.
+    /// Stores what a call returned, or writes to what it lent.
     pub fn replace<T: Drop>(&mut self, place: &mut T, made: T) {
         self.end();
         *place = made;
-    }
-
-    /// Writes to a value that a call lent.
-    pub fn write<'v>(&mut self, lent: &mut Value<'v>, value: Value<'v>) {
-        self.end();
-        *lent = value;
     }
 }

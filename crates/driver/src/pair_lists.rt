@@ -6,14 +6,13 @@ use super::line::Line;
 use super::output::Output;
 use super::value::Value;
 use linked_hash_map::replay::PairList;
-use std::alloc::Global;
 
 /// The lists that the lines speak of.
-type Pairs<'a> = PairList<Key<'a>, Value<'a>>;
+type Pairs = PairList<Key, Value>;
 
 /// Makes a list of the words of a line.
-fn list_of_words<'a>(alloc: Global, line: &mut Line<'a>, output: &mut Output<'a>) -> Pairs<'a> {
-    let mut pairs = Vec::new(alloc);
+fn list_of_words(line: &mut Line, output: &mut Output) -> Pairs {
+    let mut pairs = Vec::new(line.alloc);
     for pair in line.pairs() {
         output.note(pairs.push(pair));
     }
@@ -21,8 +20,8 @@ fn list_of_words<'a>(alloc: Global, line: &mut Line<'a>, output: &mut Output<'a>
 }
 
 /// Makes a list of copies of the pairs of a map.
-fn list_of_copies<'a>(alloc: Global, map: &Map<'a>, output: &mut Output<'a>) -> Pairs<'a> {
-    let mut pairs = Vec::new(alloc);
+fn list_of_copies(line: &Line, map: &Map, output: &mut Output) -> Pairs {
+    let mut pairs = Vec::new(line.alloc);
     for (key, value) in map.iter() {
         output.note(pairs.push((key.copy(), value.copy())));
     }
@@ -30,7 +29,7 @@ fn list_of_copies<'a>(alloc: Global, map: &Map<'a>, output: &mut Output<'a>) -> 
 }
 
 /// Appends what a list has. Each call is within a window.
-fn show_list<'a>(list: &Pairs<'a>, output: &mut Output<'a>) {
+fn show_list(list: &Pairs, output: &mut Output) {
     output.begin();
     output.show(&list.len());
     output.begin();
@@ -40,7 +39,7 @@ fn show_list<'a>(list: &Pairs<'a>, output: &mut Output<'a>) {
 }
 
 /// Appends whether two lists are equal. Each comparison is within a window.
-fn show_equal<'a>(list: &Pairs<'a>, other: &Pairs<'a>, output: &mut Output<'a>) {
+fn show_equal(list: &Pairs, other: &Pairs, output: &mut Output) {
     output.begin();
     output.show(&(*list == *other));
     output.begin();
@@ -48,34 +47,19 @@ fn show_equal<'a>(list: &Pairs<'a>, other: &Pairs<'a>, output: &mut Output<'a>) 
 }
 
 /// Turns a list into a vector and back, twice.
-fn convert<'a>(list: Pairs<'a>) -> Pairs<'a> {
+fn convert(list: Pairs) -> Pairs {
     let list = Pairs::from(list.into_vec());
     PairList::from_vec(Vec::from(list))
 }
 
-/// Makes two lists, and makes each call of a list.
-fn show_calls<'a>(alloc: Global, map: &Map<'a>, line: &mut Line<'a>, output: &mut Output<'a>) {
+/// Makes a list of the words of a line and one of a map, and makes each call of a list.
+pub fn show_calls(line: &mut Line, map: &Map, output: &mut Output) {
     output.end();
-    let list = list_of_words(alloc, line, output);
-    let other = list_of_copies(alloc, map, output);
+    let list = list_of_words(line, output);
+    let other = list_of_copies(line, map, output);
     show_list(&list, output);
     show_equal(&list, &other, output);
     output.begin();
     let converted = convert(list);
     output.drop_within(converted);
-}
-
-/// Runs the call of this name, and returns whether there is one.
-pub fn run<'a>(
-    alloc: Global,
-    name: &str,
-    line: &mut Line<'a>,
-    map: &Map<'a>,
-    output: &mut Output<'a>,
-) -> bool {
-    if name == "pair_lists" {
-        show_calls(alloc, map, line, output);
-        return true;
-    }
-    false
 }

@@ -9,50 +9,51 @@ use std::alloc::AllocError;
 /// The error of a call that was refused memory.
 pub trait Refusal {
     /// Appends what it hands back, with its serial numbers.
-    fn show(&self, output: &mut Output<'_>);
+    fn show(&self, output: &mut Output);
 }
 
-impl<'a> Refusal for Refused<Key<'a>, Value<'a>> {
-    fn show(&self, output: &mut Output<'_>) {
+impl Refusal for Refused<Key, Value> {
+    fn show(&self, output: &mut Output) {
         output.show_refused_pair(&self.key, &self.value);
     }
 }
 
 impl Refusal for Refused<u64, u64> {
-    fn show(&self, output: &mut Output<'_>) {
+    fn show(&self, output: &mut Output) {
         output.push_str("refused ");
     }
 }
 
-impl<'a> Refusal for linked_hash_set::Refused<Key<'a>> {
-    fn show(&self, output: &mut Output<'_>) {
-        output.show_refused_item(&self.item);
+impl Refusal for linked_hash_set::Refused<Key> {
+    fn show(&self, output: &mut Output) {
+        output.push_str("refused ");
+        output.show_numbered(&self.item, self.item.serial());
     }
 }
 
 impl Refusal for linked_hash_set::Refused<u64> {
-    fn show(&self, output: &mut Output<'_>) {
+    fn show(&self, output: &mut Output) {
         output.push_str("refused ");
     }
 }
 
 /// Says which of the two reasons it is.
 impl Refusal for ReserveError {
-    fn show(&self, output: &mut Output<'_>) {
+    fn show(&self, output: &mut Output) {
         output.push_str("refused ");
         output.show(self);
     }
 }
 
 impl Refusal for NoRoom {
-    fn show(&self, output: &mut Output<'_>) {
+    fn show(&self, output: &mut Output) {
         output.push_str("refused ");
         output.show(self);
     }
 }
 
 impl Refusal for AllocError {
-    fn show(&self, output: &mut Output<'_>) {
+    fn show(&self, output: &mut Output) {
         output.push_str("refused ");
     }
 }

@@ -10,10 +10,10 @@ use std::alloc::AllocError;
 use std::io;
 
 /// A pair that was handed back.
-type Pair<'a> = Refused<Key<'a>, Value<'a>>;
+type Pair = Refused<Key, Value>;
 
 /// Makes the error of a pair of the same words.
-fn again<'a>(refused: &Pair<'a>, counts: &'a Counts) -> Pair<'a> {
+fn again(refused: &Pair, counts: &'static Counts) -> Pair {
     let key = refused.key.again();
     Refused {
         key,
@@ -22,12 +22,12 @@ fn again<'a>(refused: &Pair<'a>, counts: &'a Counts) -> Pair<'a> {
 }
 
 /// Appends the kind of an error, which was made within a window.
-pub fn show_kind(error: io::Error, output: &mut Output<'_>) {
+pub fn show_kind(error: io::Error, output: &mut Output) {
     output.show(&error.kind());
 }
 
 /// Appends the text of an error of a pair, and what it is turned into.
-fn show_refused<'a>(line: &mut Line<'a>, output: &mut Output<'a>) {
+fn show_refused(line: &mut Line, output: &mut Output) {
     let first = Refused {
         key: line.key(),
         value: line.value(),
@@ -42,7 +42,7 @@ fn show_refused<'a>(line: &mut Line<'a>, output: &mut Output<'a>) {
 }
 
 /// Appends the text of an error of a reservation, and what it is turned into.
-pub fn show_reserve_errors(output: &mut Output<'_>) {
+pub fn show_reserve_errors(output: &mut Output) {
     output.show_text(&ReserveError::TooLarge);
     show_kind(io::Error::from(ReserveError::TooLarge), output);
     output.show(&AllocError::from(ReserveError::TooLarge));
@@ -52,19 +52,15 @@ pub fn show_reserve_errors(output: &mut Output<'_>) {
 }
 
 /// Appends the text of the error of a shrinking, and what it is turned into.
-pub fn show_no_room(output: &mut Output<'_>) {
+pub fn show_no_room(output: &mut Output) {
     output.show_text(&NoRoom);
     show_kind(io::Error::from(NoRoom), output);
     output.show(&AllocError::from(NoRoom));
 }
 
-/// Runs the call of this name, and returns whether there is one.
-pub fn run<'a>(name: &str, line: &mut Line<'a>, output: &mut Output<'a>) -> bool {
-    if name == "refused_texts" {
-        show_refused(line, output);
-        show_no_room(output);
-        show_reserve_errors(output);
-        return true;
-    }
-    false
+/// Appends the texts of all errors of a map, and what they are turned into.
+pub fn show_all(line: &mut Line, output: &mut Output) {
+    show_refused(line, output);
+    show_no_room(output);
+    show_reserve_errors(output);
 }

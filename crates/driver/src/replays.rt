@@ -3,68 +3,37 @@
 use super::Map;
 use super::key::Key;
 use super::line::Line;
-use super::list::{SHOWN, list_ends};
+use super::list::{SHOWN, list};
 use super::order::mode_named;
 use super::output::Output;
 use super::value::Value;
 use linked_hash_map::replay::{Answer, PairList, Reply, replay};
-use std::alloc::Global;
 
 /// A command of the words of a line.
-type Command<'a> = linked_hash_map::replay::Command<Key<'a>, Value<'a>>;
-
-/// Reads the command of this name that takes a pair.
-fn command_by_pair<'a>(name: &str, line: &mut Line<'a>) -> Option<Command<'a>> {
-    match name {
-        "insert" => Some(Command::Insert(line.key(), line.value())),
-        "write" => Some(Command::Write(line.key(), line.value())),
-        "orinsert" => Some(Command::OrInsert(line.key(), line.value())),
-        "entryinsert" => Some(Command::EntryInsert(line.key(), line.value())),
-        _ => None,
-    }
-}
-
-/// Reads the command of this name that takes a key.
-fn command_by_key<'a>(name: &str, line: &mut Line<'a>) -> Option<Command<'a>> {
-    match name {
-        "refresh" => Some(Command::Refresh(line.key())),
-        "remove" => Some(Command::Remove(line.key())),
-        "entryremove" => Some(Command::EntryRemove(line.key())),
-        _ => command_by_pair(name, line),
-    }
-}
+type Command = linked_hash_map::replay::Command<Key, Value>;
 
 /// Reads a number of pairs, and as many of them.
-fn list_of_pairs<'a>(
-    alloc: Global,
-    line: &mut Line<'a>,
-    output: &mut Output<'a>,
-) -> PairList<Key<'a>, Value<'a>> {
-    let mut pairs = Vec::new(alloc);
+fn list_of_pairs(line: &mut Line, output: &mut Output) -> PairList<Key, Value> {
+    let mut pairs = Vec::new(line.alloc);
     for _ in 0..line.number() {
         output.note(pairs.push((line.key(), line.value())));
     }
     PairList::from_vec(pairs)
 }
 
-/// Reads the command of this name, if there is one.
-fn command<'a>(
-    alloc: Global,
-    name: &str,
-    line: &mut Line<'a>,
-    output: &mut Output<'a>,
-) -> Option<Command<'a>> {
-    match name {
+/// Reads the next command, which is none if its name is not known.
+fn next_command(line: &mut Line, output: &mut Output) -> Option<Command> {
+    match line.word() {
+        "insert" => Some(Command::Insert(line.key(), line.value())),
+        "write" => Some(Command::Write(line.key(), line.value())),
+        "orinsert" => Some(Command::OrInsert(line.key(), line.value())),
+        "entryinsert" => Some(Command::EntryInsert(line.key(), line.value())),
+        "refresh" => Some(Command::Refresh(line.key())),
+        "remove" => Some(Command::Remove(line.key())),
+        "entryremove" => Some(Command::EntryRemove(line.key())),
         "reserve" => Some(Command::Reserve(line.size())),
         "setmode" => Some(Command::SetMode(mode_named(line.word()))),
-        "extend" => Some(Command::Extend(list_of_pairs(alloc, line, output))),
-        _ => command_by_key(name, line),
-    }
-}
-
-/// Returns the command of this name that takes nothing, if there is one.
-fn bare_command<'a>(name: &str) -> Option<Command<'a>> {
-    match name {
+        "extend" => Some(Command::Extend(list_of_pairs(line, output))),
         "popfront" => Some(Command::PopFront),
         "popback" => Some(Command::PopBack),
         "clear" => Some(Command::Clear),
@@ -74,52 +43,35 @@ fn bare_command<'a>(name: &str) -> Option<Command<'a>> {
     }
 }
 
-/// Reads the next command, which is none if its name is not known.
-fn next_command<'a>(
-    alloc: Global,
-    line: &mut Line<'a>,
-    output: &mut Output<'a>,
-) -> Option<Command<'a>> {
-    let name = line.word();
-    match bare_command(name) {
-        Some(command) => Some(command),
-        None => command(alloc, name, line, output),
-    }
-}
-
 /// Reads all commands of a line.
-fn commands<'a>(alloc: Global, line: &mut Line<'a>, output: &mut Output<'a>) -> Vec<Command<'a>> {
-    let mut commands = Vec::new(alloc);
+fn commands(line: &mut Line, output: &mut Output) -> Vec<Command> {
+    let mut commands = Vec::new(line.alloc);
     for _ in 0..line.words_left() {
-        if let Some(command) = next_command(alloc, line, output) {
+        if let Some(command) = next_command(line, output) {
             output.note(commands.push(command));
         }
     }
     commands
 }
 
-/// Returns whether an answer has so many pairs that not all are shown.
-fn has_many_pairs<'a>(answer: &Answer<Key<'a>, Value<'a>>) -> bool {
+/// Appends the ends of the list that an answer has, if not all of it is shown, and returns whether
+/// that is so.
+fn show_ends(answer: &Answer<Key, Value>, output: &mut Output) -> bool {
     match answer {
-        Answer::Pairs(list) => list.len() > SHOWN,
+        Answer::Pairs(pairs) if pairs.len() > SHOWN => {
+            output.push_str("Pairs");
+            list(pairs.len(), pairs.as_slice().iter(), output);
+            output.push_str(" ");
+            true
+        }
         _ => false,
     }
 }
 
-/// Appends the ends of the list that an answer has, and the length and the capacity of the map.
-fn show_ends<'a>(reply: &Reply<Key<'a>, Value<'a>>, output: &mut Output<'a>) {
-    if let Answer::Pairs(list) = &reply.answer {
-        output.push_str("Pairs");
-        list_ends(list.as_slice(), output);
-        output.push_str(" ");
-        output.show_size(reply.len, reply.capacity);
-    }
-}
-
 /// Appends a reply, and of a list that it has the length and the capacity.
-fn show_reply<'a>(reply: Reply<Key<'a>, Value<'a>>, output: &mut Output<'a>) {
-    if has_many_pairs(&reply.answer) {
-        show_ends(&reply, output);
+fn show_reply(reply: Reply<Key, Value>, output: &mut Output) {
+    if show_ends(&reply.answer, output) {
+        output.show_size(reply.len, reply.capacity);
     } else {
         output.show(&reply);
     }
@@ -127,7 +79,7 @@ fn show_reply<'a>(reply: Reply<Key<'a>, Value<'a>>, output: &mut Output<'a>) {
 }
 
 /// Appends the length and the capacity of the list that an answer has.
-fn show_list_size<'a>(answer: Answer<Key<'a>, Value<'a>>, output: &mut Output<'a>) {
+fn show_list_size(answer: Answer<Key, Value>, output: &mut Output) {
     match answer {
         Answer::Pairs(list) => {
             let pairs = list.into_vec();
@@ -138,38 +90,18 @@ fn show_list_size<'a>(answer: Answer<Key<'a>, Value<'a>>, output: &mut Output<'a
     }
 }
 
-/// Appends how long the list of replies is, and each of them.
-fn show_replies<'a>(replies: Vec<Reply<Key<'a>, Value<'a>>>, output: &mut Output<'a>) {
+/// Runs the commands of a line, and appends how long the list of replies is, and each of them.
+pub fn replay_all(line: &mut Line, map: &mut Map, output: &mut Output) {
+    output.end();
+    let commands = commands(line, output);
+    output.begin();
+    let returned = replay(map, commands);
+    output.end();
+    let Ok(replies) = returned else {
+        return output.push_str("refused ");
+    };
     output.show_size(replies.len(), replies.capacity());
     for reply in replies {
         show_reply(reply, output);
     }
-}
-
-/// Runs the commands of a line.
-fn replay_all<'a>(alloc: Global, map: &mut Map<'a>, line: &mut Line<'a>, output: &mut Output<'a>) {
-    output.end();
-    let commands = commands(alloc, line, output);
-    output.begin();
-    let returned = replay(map, commands);
-    output.end();
-    match returned {
-        Ok(replies) => show_replies(replies, output),
-        Err(_commands) => output.push_str("refused "),
-    }
-}
-
-/// Runs the call of this name, and returns whether there is one.
-pub fn run<'a>(
-    alloc: Global,
-    name: &str,
-    line: &mut Line<'a>,
-    map: &mut Map<'a>,
-    output: &mut Output<'a>,
-) -> bool {
-    if name == "replay" {
-        replay_all(alloc, map, line, output);
-        return true;
-    }
-    false
 }

@@ -10,15 +10,15 @@ use std::cell::Cell;
 /// How often a closure was called, and how many keys and values the line had dropped at the last
 /// call.
 #[derive(Drop)]
-pub struct Calls<'a> {
+pub struct Calls {
     calls: Cell<u64>,
     dropped: Cell<u64>,
-    counts: &'a Counts,
+    counts: &'static Counts,
 }
 
-impl<'a> Calls<'a> {
+impl Calls {
     /// Begins before the first call.
-    pub fn new(counts: &'a Counts) -> Calls<'a> {
+    pub fn new(counts: &'static Counts) -> Calls {
         Calls {
             calls: Cell::new(0),
             dropped: Cell::new(0),
@@ -34,13 +34,13 @@ impl<'a> Calls<'a> {
     }
 
     /// Appends both numbers.
-    pub fn show(&self, output: &mut Output<'_>) {
+    pub fn show(&self, output: &mut Output) {
         output.show_two(&self.calls.get(), &self.dropped.get());
     }
 }
 
 /// Returns whether a value is not a number modulo 7, and then adds to it.
-pub fn keep_and_increase(value: &mut Value<'_>, number: u64, by: u64) -> bool {
+pub fn keep_and_increase(value: &mut Value, number: u64, by: u64) -> bool {
     if value.number() % 7 == number % 7 {
         return false;
     }
@@ -49,7 +49,7 @@ pub fn keep_and_increase(value: &mut Value<'_>, number: u64, by: u64) -> bool {
 }
 
 /// Keeps the pairs whose values are not a number modulo 7, and adds the number of the call to each.
-fn retain<'a>(map: &mut Map<'a>, line: &mut Line<'a>, output: &mut Output<'a>) {
+pub fn retain(map: &mut Map, line: &mut Line, output: &mut Output) {
     let number = line.number();
     let guard = line.guard();
     let calls = Calls::new(line.counts());
@@ -59,18 +59,4 @@ fn retain<'a>(map: &mut Map<'a>, line: &mut Line<'a>, output: &mut Output<'a>) {
         keep_and_increase(value, number, noted.note())
     });
     calls.show(output);
-}
-
-/// Runs the call of this name, and returns whether there is one.
-pub fn run<'a>(
-    name: &str,
-    line: &mut Line<'a>,
-    map: &mut Map<'a>,
-    output: &mut Output<'a>,
-) -> bool {
-    if name == "retain" {
-        retain(map, line, output);
-        return true;
-    }
-    false
 }

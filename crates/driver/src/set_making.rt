@@ -6,43 +6,36 @@ use super::output::Output;
 use super::set_fills;
 use super::sets::Set;
 use linked_hash_set::{LinkedHashSet, ReserveError};
-use std::alloc::{AllocError, Global};
+use std::alloc::AllocError;
 use std::default::{Emptied, MadeWith};
 use std::mem;
 
-/// Makes an empty set, with the hasher that the next word names.
-fn with_hasher<'a>(alloc: Global, line: &mut Line<'a>, set: &mut Set<'a>, output: &mut Output<'a>) {
-    output.replace(set, Set::with_hasher(alloc, line.hasher()));
-}
-
-/// Makes an empty set, with that hasher and the capacity after it.
-fn with_capacity<'a>(
-    alloc: Global,
-    line: &mut Line<'a>,
-    set: &mut Set<'a>,
-    output: &mut Output<'a>,
-) {
+/// Makes an empty set, with the hasher that the next word names and the capacity after it.
+fn with_capacity(line: &mut Line, set: &mut Set, output: &mut Output) {
     let hasher = line.hasher();
     let capacity = line.size();
-    output.store(set, Set::with_capacity_and_hasher(alloc, capacity, hasher));
+    output.store(
+        set,
+        Set::with_capacity_and_hasher(line.alloc, capacity, hasher),
+    );
 }
 
 /// Makes a set of the words, by an iterator that knows how many they are.
-fn from_iter<'a>(alloc: Global, line: &mut Line<'a>, set: &mut Set<'a>, output: &mut Output<'a>) {
+fn from_iter(line: &mut Line, set: &mut Set, output: &mut Output) {
     let count = line.words_left();
-    let mut keys = line.keys();
-    let items = (0..count).map(move |_| keys.next_key());
-    output.store(set, Set::from_iter(alloc, items));
+    let mut rest = line.rest();
+    let items = (0..count).map(move |_| rest.key());
+    output.store(set, Set::from_iter(line.alloc, items));
 }
 
 /// Makes a set of the words by `collect`.
-fn collect<'a>(alloc: Global, line: &mut Line<'a>, set: &mut Set<'a>, output: &mut Output<'a>) {
-    let made: Result<Set<'a>, AllocError> = line.keys().collect(alloc);
+fn collect(line: &mut Line, set: &mut Set, output: &mut Output) {
+    let made: Result<Set, AllocError> = line.keys().collect(line.alloc);
     output.store(set, made);
 }
 
 /// Inserts copies of the items of another set. Each insertion is within a window.
-fn extend_by_copies<'a>(set: &mut Set<'a>, other: &Set<'a>, output: &mut Output<'a>) {
+fn extend_by_copies(set: &mut Set, other: &Set, output: &mut Output) {
     for item in other {
         output.begin();
         output.show_refusal(set.insert(item.copy()));
@@ -50,22 +43,17 @@ fn extend_by_copies<'a>(set: &mut Set<'a>, other: &Set<'a>, output: &mut Output<
 }
 
 /// Inserts a number twice, and appends the text of the set. Only the first insertion is counted.
-fn insert_twice<'a>(set: &mut LinkedHashSet<u64>, number: u64, output: &mut Output<'a>) {
+fn insert_twice(set: &mut LinkedHashSet<u64>, number: u64, output: &mut Output) {
     output.show_result(set.insert(number));
     output.show_result(set.insert(number));
     output.show(set);
 }
 
-/// Makes a set with the default hasher and inserts a number twice.
-fn show_new<'a>(alloc: Global, number: u64, output: &mut Output<'a>) {
-    insert_twice(&mut LinkedHashSet::new(alloc), number, output);
-}
-
 /// Does so with a set of a capacity, and appends the capacity too.
-fn show_new_with_capacity<'a>(alloc: Global, line: &mut Line<'a>, output: &mut Output<'a>) {
+fn show_new_with_capacity(line: &mut Line, output: &mut Output) {
     let (capacity, number) = (line.size(), line.number());
     let made: Result<LinkedHashSet<u64>, ReserveError> = LinkedHashSet::with_capacity(
-        alloc, capacity,
+        line.alloc, capacity,
     );
     match made {
         Ok(mut set) => {
@@ -77,81 +65,37 @@ fn show_new_with_capacity<'a>(alloc: Global, line: &mut Line<'a>, output: &mut O
 }
 
 /// Drops a set within a window, and leaves a new one in its place.
-fn drop_set<'a>(alloc: Global, set: &mut Set<'a>, output: &mut Output<'a>) {
-    let taken = mem::replace(set, Set::with_hasher(alloc, BuildKeyHasher::default()));
-    output.drop_within(taken);
+fn drop_set(line: &Line, set: &mut Set, output: &mut Output) {
+    let empty = Set::with_hasher(line.alloc, BuildKeyHasher::default());
+    output.drop_within(mem::replace(set, empty));
 }
 
-/// Runs the call of this name that makes a set of nothing, and returns whether there is one.
-fn make<'a>(
-    alloc: Global,
-    name: &str,
-    line: &mut Line<'a>,
-    set: &mut Set<'a>,
-    other: &Set<'a>,
-    output: &mut Output<'a>,
-) -> bool {
-    match name {
-        "new" => show_new(alloc, line.number(), output),
-        "new_with_capacity" => show_new_with_capacity(alloc, line, output),
-        "with_hasher" => with_hasher(alloc, line, set, output),
-        "with_capacity" => with_capacity(alloc, line, set, output),
+/// Runs the call of a line that leaves the hasher to be shown, and returns whether there is one.
+fn make(line: &mut Line, set: &mut Set, other: &Set, output: &mut Output) -> bool {
+    match line.name() {
+        "new" => insert_twice(&mut LinkedHashSet::new(line.alloc), line.number(), output),
+        "new_with_capacity" => show_new_with_capacity(line, output),
+        "with_hasher" => output.replace(set, Set::with_hasher(line.alloc, line.hasher())),
+        "with_capacity" => with_capacity(line, set, output),
         "emptied" => output.store(set, Emptied::emptied(other)),
-        "made_with" => output.replace(set, MadeWith::made_with(alloc)),
-        _ => return false,
-    }
-    true
-}
-
-/// Runs the call of this name that takes items in, and returns whether there is one.
-fn take_in<'a>(
-    alloc: Global,
-    name: &str,
-    line: &mut Line<'a>,
-    set: &mut Set<'a>,
-    other: &Set<'a>,
-    output: &mut Output<'a>,
-) -> bool {
-    match name {
-        "from_iter" => from_iter(alloc, line, set, output),
-        "collect" => collect(alloc, line, set, output),
+        "made_with" => output.replace(set, MadeWith::made_with(line.alloc)),
+        "from_iter" => from_iter(line, set, output),
+        "collect" => collect(line, set, output),
         "extend" => output.show_refusal(set.extend(line.keys())),
         "extend_refs" => extend_by_copies(set, other, output),
         "clone" => output.store(set, other.clone()),
         _ => return false,
     }
+    output.show(set.hasher());
     true
 }
 
-/// Runs the call of this name, appends the hasher, and returns whether there is such a call.
-pub fn run<'a>(
-    alloc: Global,
-    name: &str,
-    line: &mut Line<'a>,
-    set: &mut Set<'a>,
-    other: &Set<'a>,
-    output: &mut Output<'a>,
-) -> bool {
-    let is_known = make(alloc, name, line, set, other, output)
-        || take_in(alloc, name, line, set, other, output);
-    if is_known {
-        output.show(set.hasher());
-    }
-    is_known
-}
-
-/// Runs the call of this name that fills a set or drops it, and returns whether there is one.
-pub fn run_on_whole<'a>(
-    alloc: Global,
-    name: &str,
-    line: &mut Line<'a>,
-    set: &mut Set<'a>,
-    output: &mut Output<'a>,
-) -> bool {
-    match name {
-        "fill" => set_fills::fill(alloc, set, line, output),
-        "drop" => drop_set(alloc, set, output),
-        _ => return false,
+/// Runs the call of a line, and returns whether there is one.
+pub fn run(line: &mut Line, set: &mut Set, other: &Set, output: &mut Output) -> bool {
+    match line.name() {
+        "fill" => set_fills::fill(set, line, output),
+        "drop" => drop_set(line, set, output),
+        _ => return make(line, set, other, output),
     }
     true
 }

@@ -12,7 +12,7 @@ use std::hash::BuildHasher;
 fn step_through<T: Debug + Drop, I: Iterator<Item = T>>(
     items: &mut I,
     steps: &str,
-    output: &mut Output<'_>,
+    output: &mut Output,
 )
     requires { (items : I) → I.can_next items }
 {
@@ -27,7 +27,7 @@ fn step_and_clone<T: Debug + Drop, I: Iterator<Item = T> + Clone + Drop>(
     items: I,
     first: &str,
     steps: &str,
-    output: &mut Output<'_>,
+    output: &mut Output,
 )
     requires { (items : I) → I.can_next items }
 {
@@ -49,8 +49,8 @@ fn step_and_clone<T: Debug + Drop, I: Iterator<Item = T> + Clone + Drop>(
 /// Appends all items, or makes the steps of the words, if there are any.
 fn iterate<T: Debug + Drop, I: Iterator<Item = T> + Clone + Drop>(
     items: I,
-    line: &mut Line<'_>,
-    output: &mut Output<'_>,
+    line: &mut Line,
+    output: &mut Output,
 )
     requires can { (items : I) → I.can_next items }
     requires ends { IsFinite (I.remaining items) }
@@ -64,46 +64,25 @@ fn iterate<T: Debug + Drop, I: Iterator<Item = T> + Clone + Drop>(
 }
 
 /// Appends whether two sets are equal. Each comparison is within a window.
-fn show_equal<'a>(set: &Set<'a>, other: &Set<'a>, output: &mut Output<'a>) {
+fn show_equal(set: &Set, other: &Set, output: &mut Output) {
     output.show(&(*set == *other));
     output.begin();
     output.show(&(*set != *other));
 }
 
-/// Appends the hash that a hasher which is not counted gives a set.
-fn show_hash<'a>(set: &Set<'a>, output: &mut Output<'a>) {
-    let hasher = BuildKeyHasher::default();
-    output.show(&hasher.hash_one(set));
-}
-
-/// Runs the call of this name that compares two sets or hashes one, and returns whether there is
-/// one.
-fn compare<'a>(name: &str, set: &Set<'a>, other: &Set<'a>, output: &mut Output<'a>) -> bool {
-    match name {
-        "is_subset" => output.show(&set.is_subset(other)),
-        "is_superset" => output.show(&set.is_superset(other)),
-        "is_disjoint" => output.show(&set.is_disjoint(other)),
-        "eq" => show_equal(set, other, output),
-        "hash" => show_hash(set, output),
-        _ => return false,
-    }
-    true
-}
-
-/// Runs the call of this name on two sets, and returns whether there is one.
-pub fn run<'a>(
-    name: &str,
-    line: &mut Line<'a>,
-    set: &Set<'a>,
-    other: &Set<'a>,
-    output: &mut Output<'a>,
-) -> bool {
-    match name {
+/// Runs the call of a line, and returns whether there is one.
+pub fn run(line: &mut Line, set: &Set, other: &Set, output: &mut Output) -> bool {
+    match line.name() {
         "difference" => iterate(set.difference(other), line, output),
         "symmetric_difference" => iterate(set.symmetric_difference(other), line, output),
         "intersection" => iterate(set.intersection(other), line, output),
         "union" => iterate(set.union(other), line, output),
-        _ => return compare(name, set, other, output),
+        "is_subset" => output.show(&set.is_subset(other)),
+        "is_superset" => output.show(&set.is_superset(other)),
+        "is_disjoint" => output.show(&set.is_disjoint(other)),
+        "eq" => show_equal(set, other, output),
+        "hash" => output.show(&BuildKeyHasher::default().hash_one(set)),
+        _ => return false,
     }
     true
 }

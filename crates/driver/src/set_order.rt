@@ -1,17 +1,16 @@
 //! Calls of a set by the place of its items.
 
+use super::copied::CopiedKey;
 use super::iterators_from::advance_and_clone;
 use super::line::Line;
-use super::ordered::OrderedKey;
 use super::output::Output;
 use super::retaining::Calls;
 use super::sets::Set;
 use super::sorts::compare;
 use linked_hash_set::LinkedHashSet;
-use std::alloc::Global;
 
 /// Sorts by the texts as numbers modulo 7, compared as a word says.
-fn sort_by<'a>(set: &mut Set<'a>, line: &mut Line<'a>, output: &mut Output<'a>) {
+fn sort_by(set: &mut Set, line: &mut Line, output: &mut Output) {
     let word = line.word();
     let guard = line.guard();
     let calls = Calls::new(line.counts());
@@ -24,9 +23,9 @@ fn sort_by<'a>(set: &mut Set<'a>, line: &mut Line<'a>, output: &mut Output<'a>) 
 }
 
 /// Sorts a set of the same items that are compared as they are, and appends it.
-fn sort<'a>(alloc: Global, set: &Set<'a>, output: &mut Output<'a>) {
+fn sort(line: &Line, set: &Set, output: &mut Output) {
     output.end();
-    let mut sorted: LinkedHashSet<OrderedKey<'a>> = LinkedHashSet::new(alloc);
+    let mut sorted: LinkedHashSet<CopiedKey> = LinkedHashSet::new(line.alloc);
     for item in set {
         output.note(sorted.insert(item.ordered()));
     }
@@ -35,26 +34,16 @@ fn sort<'a>(alloc: Global, set: &Set<'a>, output: &mut Output<'a>) {
     output.show(&sorted);
 }
 
-/// Runs the call of this name that sorts a set or turns it round, and returns whether there is one.
-fn run_on_all<'a>(
-    alloc: Global,
-    name: &str,
-    line: &mut Line<'a>,
-    set: &mut Set<'a>,
-    output: &mut Output<'a>,
-) -> bool {
-    match name {
+/// Runs the call of a line, and returns whether there is one.
+pub fn run(line: &mut Line, set: &mut Set, other: &mut Set, output: &mut Output) -> bool {
+    match line.name() {
+        "append" => output.show_refusal(set.append(other)),
+        "insert_front" => output.show_result(set.insert_front(line.key())),
+        "move_before" => output.show(&set.move_before(&line.key(), &line.key())),
+        "move_after" => output.show(&set.move_after(&line.key(), &line.key())),
         "sort_by" => sort_by(set, line, output),
-        "sort" => sort(alloc, set, output),
+        "sort" => sort(line, set, output),
         "reverse" => set.reverse(),
-        _ => return false,
-    }
-    true
-}
-
-/// Runs the call of this name that iterates from an item on, and returns whether there is one.
-fn iterate<'a>(name: &str, line: &mut Line<'a>, set: &Set<'a>, output: &mut Output<'a>) -> bool {
-    match name {
         "iter_from" => {
             let item = line.key();
             advance_and_clone(set.iter_from(&item), line, output);
@@ -64,25 +53,6 @@ fn iterate<'a>(name: &str, line: &mut Line<'a>, set: &Set<'a>, output: &mut Outp
             advance_and_clone(set.iter_back_from(&item), line, output);
         }
         _ => return false,
-    }
-    true
-}
-
-/// Runs the call of this name, and returns whether there is one.
-pub fn run<'a>(
-    alloc: Global,
-    name: &str,
-    line: &mut Line<'a>,
-    set: &mut Set<'a>,
-    other: &mut Set<'a>,
-    output: &mut Output<'a>,
-) -> bool {
-    match name {
-        "append" => output.show_refusal(set.append(other)),
-        "insert_front" => output.show_result(set.insert_front(line.key())),
-        "move_before" => output.show(&set.move_before(&line.key(), &line.key())),
-        "move_after" => output.show(&set.move_after(&line.key(), &line.key())),
-        _ => return run_on_all(alloc, name, line, set, output) || iterate(name, line, set, output),
     }
     true
 }

@@ -8,7 +8,7 @@ use std::alloc::AllocError;
 use std::io;
 
 /// Appends the text of an error of an item, and what it is turned into.
-fn show_refused<'a>(line: &mut Line<'a>, output: &mut Output<'a>) {
+fn show_refused(line: &mut Line, output: &mut Output) {
     let first = Refused { item: line.key() };
     let second = Refused {
         item: first.item.again(),
@@ -24,7 +24,7 @@ fn show_refused<'a>(line: &mut Line<'a>, output: &mut Output<'a>) {
 }
 
 /// Appends the texts of all errors, and what they are turned into.
-pub fn show_all<'a>(line: &mut Line<'a>, output: &mut Output<'a>) {
+pub fn show_all(line: &mut Line, output: &mut Output) {
     show_refused(line, output);
     show_no_room(output);
     show_reserve_errors(output);

@@ -4,18 +4,17 @@ use super::hasher::BuildKeyHasher;
 use super::iterators::{iterate_and_clone, iterate_to_the_end};
 use super::key::Key;
 use super::line::Line;
-use super::list::list_items;
+use super::list::list;
 use super::output::Output;
 use super::retaining::Calls;
 use super::{set_making, set_operations, set_order, set_refused_texts};
 use linked_hash_set::LinkedHashSet;
-use std::alloc::Global;
 
 /// The sets that the lines speak of.
-pub type Set<'a> = LinkedHashSet<Key<'a>, BuildKeyHasher<'a>>;
+pub type Set = LinkedHashSet<Key, BuildKeyHasher>;
 
 /// Inserts an item that a closure makes anew, if it is absent.
-fn get_or_insert_with<'a>(set: &mut Set<'a>, line: &mut Line<'a>, output: &mut Output<'a>) {
+fn get_or_insert_with(set: &mut Set, line: &mut Line, output: &mut Output) {
     let item = line.key();
     let guard = line.guard();
     let returned = set.get_or_insert_with(&item, move |item| {
@@ -25,46 +24,8 @@ fn get_or_insert_with<'a>(set: &mut Set<'a>, line: &mut Line<'a>, output: &mut O
     output.show_result(returned);
 }
 
-/// Runs the call of this name that inserts or looks up one item, and returns whether there is one.
-fn run_by_item<'a>(
-    name: &str,
-    line: &mut Line<'a>,
-    set: &mut Set<'a>,
-    output: &mut Output<'a>,
-) -> bool {
-    match name {
-        "insert" => output.show_result(set.insert(line.key())),
-        "insert_if_absent" => output.show_result(set.insert_if_absent(line.key())),
-        "replace" => output.show_result(set.replace(line.key())),
-        "get_or_insert" => output.show_result(set.get_or_insert(line.key())),
-        "get_or_insert_with" => get_or_insert_with(set, line, output),
-        _ => return look_up(name, line, set, output),
-    }
-    true
-}
-
-/// Runs the call of this name that looks up one item, and returns whether there is one.
-fn look_up<'a>(
-    name: &str,
-    line: &mut Line<'a>,
-    set: &mut Set<'a>,
-    output: &mut Output<'a>,
-) -> bool {
-    match name {
-        "contains" => output.show(&set.contains(&line.key())),
-        "get" => output.show(&set.get(&line.key())),
-        "take" => output.show(&set.take(&line.key())),
-        "remove" => output.show(&set.remove(&line.key())),
-        "to_front" => output.show(&set.to_front(&line.key())),
-        "refresh" => output.show(&set.refresh(&line.key())),
-        "to_back" => output.show(&set.to_back(&line.key())),
-        _ => return false,
-    }
-    true
-}
-
 /// Keeps the items whose texts, as numbers, are not the given number modulo 7.
-fn retain<'a>(set: &mut Set<'a>, line: &mut Line<'a>, output: &mut Output<'a>) {
+fn retain(set: &mut Set, line: &mut Line, output: &mut Output) {
     let number = line.number();
     let guard = line.guard();
     let calls = Calls::new(line.counts());
@@ -78,7 +39,7 @@ fn retain<'a>(set: &mut Set<'a>, line: &mut Line<'a>, output: &mut Output<'a>) {
 }
 
 /// Appends every item, in a loop over the set. Each step is within a window.
-fn show_all<'a>(set: &Set<'a>, output: &mut Output<'a>) {
+fn show_all(set: &Set, output: &mut Output) {
     for item in set {
         output.show(item);
         output.begin();
@@ -86,22 +47,37 @@ fn show_all<'a>(set: &Set<'a>, output: &mut Output<'a>) {
 }
 
 /// Iterates over a clone that is taken.
-fn into_iter<'a>(set: &Set<'a>, line: &mut Line<'a>, output: &mut Output<'a>) {
+fn into_iter(set: &Set, line: &mut Line, output: &mut Output) {
     match set.clone() {
         Ok(copy) => iterate_to_the_end(copy.into_iter(), line, output),
         Err(refused) => output.show_refused(refused),
     }
 }
 
-/// Runs the call of this name at an end of a set, or on all of its items, and returns whether there
-/// is one.
-fn run_on_items<'a>(
-    name: &str,
-    line: &mut Line<'a>,
-    set: &mut Set<'a>,
-    output: &mut Output<'a>,
-) -> bool {
-    match name {
+/// Runs the call of a line by one item, and returns whether there is one.
+fn run_by_item(line: &mut Line, set: &mut Set, output: &mut Output) -> bool {
+    match line.name() {
+        "insert" => output.show_result(set.insert(line.key())),
+        "insert_if_absent" => output.show_result(set.insert_if_absent(line.key())),
+        "replace" => output.show_result(set.replace(line.key())),
+        "get_or_insert" => output.show_result(set.get_or_insert(line.key())),
+        "get_or_insert_with" => get_or_insert_with(set, line, output),
+        "contains" => output.show(&set.contains(&line.key())),
+        "get" => output.show(&set.get(&line.key())),
+        "take" => output.show(&set.take(&line.key())),
+        "remove" => output.show(&set.remove(&line.key())),
+        "to_front" => output.show(&set.to_front(&line.key())),
+        "refresh" => output.show(&set.refresh(&line.key())),
+        "to_back" => output.show(&set.to_back(&line.key())),
+        _ => return false,
+    }
+    true
+}
+
+/// Runs the call of a line at an end of a set or on all of its items, and returns whether there is
+/// one.
+fn run_on_all(line: &mut Line, set: &mut Set, output: &mut Output) -> bool {
+    match line.name() {
         "front" => output.show(&set.front()),
         "back" => output.show(&set.back()),
         "pop_front" => output.show(&set.pop_front()),
@@ -112,19 +88,6 @@ fn run_on_items<'a>(
         "drain" => iterate_to_the_end(set.drain(), line, output),
         "into_iter" => into_iter(set, line, output),
         "loop" => show_all(set, output),
-        _ => return false,
-    }
-    true
-}
-
-/// Runs the call of this name on a whole set, and returns whether there is one.
-fn run_on_all<'a>(
-    name: &str,
-    line: &mut Line<'a>,
-    set: &mut Set<'a>,
-    output: &mut Output<'a>,
-) -> bool {
-    match name {
         "len" => output.show_two(&set.len(), &set.is_empty()),
         "capacity" => output.show(&set.capacity()),
         "reserve" => output.show_refusal(set.reserve(line.size())),
@@ -137,25 +100,17 @@ fn run_on_all<'a>(
     true
 }
 
-/// Runs the call of this name, appends what it returns and the list, and returns whether there is
-/// such a call.
-pub fn run<'a>(
-    alloc: Global,
-    name: &str,
-    line: &mut Line<'a>,
-    set: &mut Set<'a>,
-    other: &mut Set<'a>,
-    output: &mut Output<'a>,
-) -> bool {
-    let is_known = set_making::run(alloc, name, line, set, other, output)
-        || run_by_item(name, line, set, output)
-        || run_on_items(name, line, set, output)
-        || run_on_all(name, line, set, output)
-        || set_making::run_on_whole(alloc, name, line, set, output)
-        || set_order::run(alloc, name, line, set, other, output)
-        || set_operations::run(name, line, set, other, output);
+/// Runs the call of a line, appends what it returns and the list, and returns whether there is such
+/// a call.
+pub fn run(line: &mut Line, set: &mut Set, other: &mut Set, output: &mut Output) -> bool {
+    let is_known = set_making::run(line, set, other, output)
+        || run_by_item(line, set, output)
+        || run_on_all(line, set, output)
+        || set_order::run(line, set, other, output)
+        || set_operations::run(line, set, other, output);
     if is_known {
-        list_items(set.iter(), output);
+        output.push_str("|");
+        list(set.len(), set.iter(), output);
     }
     is_known
 }

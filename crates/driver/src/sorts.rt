@@ -5,7 +5,6 @@ use super::comparisons::ordered;
 use super::line::Line;
 use super::output::Output;
 use super::retaining::Calls;
-use std::alloc::Global;
 use std::cmp::Ordering;
 
 /// Compares two numbers as a word says: `less` and `turn` are no orders.
@@ -19,7 +18,7 @@ pub fn compare(word: &str, call: u64, number: u64, other: u64) -> Ordering {
 }
 
 /// Sorts by the values, compared as a word says.
-fn sort_by<'a>(map: &mut Map<'a>, line: &mut Line<'a>, output: &mut Output<'a>) {
+fn sort_by(map: &mut Map, line: &mut Line, output: &mut Output) {
     let word = line.word();
     let guard = line.guard();
     let calls = Calls::new(line.counts());
@@ -32,7 +31,7 @@ fn sort_by<'a>(map: &mut Map<'a>, line: &mut Line<'a>, output: &mut Output<'a>) 
 }
 
 /// Sorts by copies of the values, which the call drops.
-fn sort_by_key<'a>(map: &mut Map<'a>, line: &mut Line<'a>, output: &mut Output<'a>) {
+fn sort_by_key(map: &mut Map, line: &mut Line, output: &mut Output) {
     let guard = line.guard();
     let calls = Calls::new(line.counts());
     let noted = &calls;
@@ -45,26 +44,20 @@ fn sort_by_key<'a>(map: &mut Map<'a>, line: &mut Line<'a>, output: &mut Output<'
 }
 
 /// Sorts a map of the same pairs whose keys are compared as they are, and appends it.
-fn sort_keys<'a>(alloc: Global, map: &Map<'a>, output: &mut Output<'a>) {
+fn sort_keys(line: &Line, map: &Map, output: &mut Output) {
     output.end();
-    let mut map = ordered(alloc, map, output);
+    let mut map = ordered(line, map, output);
     output.begin();
     map.sort_keys();
     output.show(&map);
 }
 
-/// Runs the call of this name, and returns whether there is one.
-pub fn run<'a>(
-    alloc: Global,
-    name: &str,
-    line: &mut Line<'a>,
-    map: &mut Map<'a>,
-    output: &mut Output<'a>,
-) -> bool {
-    match name {
+/// Runs the call of a line, and returns whether there is one.
+pub fn run(line: &mut Line, map: &mut Map, output: &mut Output) -> bool {
+    match line.name() {
         "sort_by" => sort_by(map, line, output),
         "sort_by_key" => sort_by_key(map, line, output),
-        "sort_keys" => sort_keys(alloc, map, output),
+        "sort_keys" => sort_keys(line, map, output),
         "reverse" => map.reverse(),
         _ => return false,
     }

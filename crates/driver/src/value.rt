@@ -6,36 +6,34 @@ ghost use Rattle.std.specs.Hash as fed;
 ghost use Rattle.std.specs.Ordering.{on, nat_cmp, as_partial_cmp};
 ghost use Rattle.std.proofs.Common.{rules};
 
-use super::counts::{Counts, Event, Kind};
-use super::key::{COPY, Key};
-use std::alloc::AllocError;
+use super::counts::{Counts, Effect};
+use super::identity::Identity;
+use super::key::Key;
 use std::cmp::Ordering;
 use std::fmt;
 use std::hash::{Hash, Hasher};
 
 /// A number. One that is made by default counts nothing, and its serial number is 0.
-pub struct Value<'a> {
+#[derive(Clone, Default, Drop)]
+pub struct Value {
+    identity: Identity,
     number: u64,
-    serial: u64,
-    counts: Option<&'a Counts>,
 }
 
-impl<'a> Value<'a> {
+impl Value {
     /// Makes a value, with the next serial number.
-    pub fn new(number: u64, counts: &'a Counts) -> Value<'a> {
+    pub fn new(number: u64, counts: &'static Counts) -> Value {
         Value {
+            identity: Identity::new(counts, Effect::DropValue),
             number,
-            serial: counts.next_serial(),
-            counts: Some(counts),
         }
     }
 
     /// Makes a copy, which is not counted as a clone.
-    pub fn copy(&self) -> Value<'a> {
+    pub fn copy(&self) -> Value {
         Value {
+            identity: self.identity.copy(),
             number: self.number,
-            serial: self.serial.wrapping_add(COPY),
-            counts: self.counts,
         }
     }
 
@@ -46,87 +44,31 @@ impl<'a> Value<'a> {
 
     /// Returns the serial number.
     pub fn serial(&self) -> u64 {
-        self.serial
-    }
-
-    /// Returns this value with a number that is greater, modulo 2^64.
-    pub fn increased(&self, by: u64) -> Value<'a> {
-        Value {
-            number: self.number.wrapping_add(by),
-            serial: self.serial,
-            counts: self.counts,
-        }
+        self.identity.serial()
     }
 
     /// Adds to the number in place, modulo 2^64.
     pub fn increase(&mut self, by: u64) {
         self.number = self.number.wrapping_add(by);
     }
-
-    fn count(&self, event: Event) {
-        if let Some(counts) = self.counts {
-            counts.count(event);
-        }
-    }
-
-    fn is_refused(&self) -> bool {
-        match self.counts {
-            Some(counts) => counts.refuses_clone(),
-            None => false,
-        }
-    }
 }
 
-impl<'a> Drop for Value<'a> {
-    fn drop(self) {
-        if let Some(counts) = self.counts {
-            counts.count_drop(Kind::Value, self.serial);
-        }
-        let Value {
-            number: _,
-            serial: _,
-            counts: _,
-        } = self;
-    }
-}
-
-impl<'a> Clone for Value<'a> {
-    fn clone(&self) -> Result<Value<'a>, AllocError> {
-        self.count(Event::CloneValue);
-        if self.is_refused() {
-            return Err(AllocError);
-        }
-        Ok(self.copy())
-    }
-}
-
-/// The number 0, which counts nothing.
-impl<'a> Default for Value<'a> {
-    fn default() -> Value<'a> {
-        Value {
-            number: 0,
-            serial: 0,
-            counts: None,
-        }
-    }
-}
-
-impl<'a> PartialEq for Value<'a> {
+impl PartialEq for Value {
     ghost eq = { on (λ value. value.number) ◌==◌ };
 
     ghost laws = { Prim.search (comparing, rules) };
 
-    fn eq(&self, other: &Value<'a>) -> bool {
-        self.count(Event::EqValue);
+    fn eq(&self, other: &Value) -> bool {
+        self.identity.count(Effect::EqValue);
         self.number == other.number
     }
 }
 
-impl<'a> Eq for Value<'a> {
+impl Eq for Value {
     ghost laws = { Prim.search (comparing, rules) };
 }
 
-impl<'a> Ord for Value<'a> {
+impl Ord for Value {
     ghost cmp = { on (λ value. value.number) nat_cmp };
 
     ghost total = { Prim.search (comparing, rules) };
@@ -135,36 +77,36 @@ impl<'a> Ord for Value<'a> {
 
     ghost matches_eq = { Prim.search (comparing, rules) };
 
-    fn cmp(&self, other: &Value<'a>) -> Ordering {
-        self.count(Event::CmpValue);
+    fn cmp(&self, other: &Value) -> Ordering {
+        self.identity.count(Effect::CmpValue);
         self.number.cmp(&other.number)
     }
 }
 
-impl<'a> PartialOrd for Value<'a> {
+impl PartialOrd for Value {
     ghost partial_cmp = { as_partial_cmp (on (λ value. value.number) nat_cmp) };
 
     ghost laws = { partial_order_from_own_ties (Prim.search (comparing, rules))
         (Prim.search (comparing, rules)) };
 
-    fn partial_cmp(&self, other: &Value<'a>) -> Option<Ordering> {
+    fn partial_cmp(&self, other: &Value) -> Option<Ordering> {
         Some(self.cmp(other))
     }
 }
 
-impl<'a> Hash for Value<'a> {
+impl Hash for Value {
     ghost hash_input = { λ value. fed.u64 value.number };
 
     ghost respects_eq = { Prim.search (hashing, rules) };
 
     fn hash<H: Hasher>(&self, state: &mut H) {
-        self.count(Event::HashValue);
+        self.identity.count(Effect::HashValue);
         state.write_u64(self.number);
     }
 }
 
 /// The number alone.
-impl<'a> fmt::Debug for Value<'a> {
+impl fmt::Debug for Value {
     fn fmt<W: fmt::Write>(&self, f: &mut fmt::Formatter<W>) -> fmt::Result {
         write!(f, "{}", self.number)
     }
@@ -173,15 +115,15 @@ impl<'a> fmt::Debug for Value<'a> {
 /// The values of one word, for a call that is made more than once: first the value that the word
 /// made, and then further ones of the same number.
 #[derive(Drop)]
-pub struct Values<'a> {
+pub struct Values {
     number: u64,
-    first: Option<Value<'a>>,
-    counts: &'a Counts,
+    first: Option<Value>,
+    counts: &'static Counts,
 }
 
-impl<'a> Values<'a> {
+impl Values {
     /// Begins with a value.
-    pub fn new(first: Value<'a>, counts: &'a Counts) -> Values<'a> {
+    pub fn new(first: Value, counts: &'static Counts) -> Values {
         Values {
             number: first.number,
             first: Some(first),
@@ -190,7 +132,7 @@ impl<'a> Values<'a> {
     }
 
     /// Returns the first value, or else one with the next serial number.
-    pub fn take(&mut self) -> Value<'a> {
+    pub fn take(&mut self) -> Value {
         match self.first.take() {
             Some(value) => value,
             None => Value::new(self.number, self.counts),
@@ -198,12 +140,12 @@ impl<'a> Values<'a> {
     }
 
     /// Makes a key of a word, with the next serial number.
-    pub fn key(&self, word: &str) -> Key<'a> {
+    pub fn key(&self, word: &str) -> Key {
         Key::new(word, self.counts)
     }
 
     /// Makes a value of the number 0, with the next serial number.
-    pub fn zero(&self) -> Value<'a> {
+    pub fn zero(&self) -> Value {
         Value::new(0, self.counts)
     }
 }

@@ -1,7 +1,7 @@
 //! Visits of the pairs, one entry after the other.
 
 use super::Map;
-use super::entries::{Edit, edit_in_place, edit_occupied, first_byte};
+use super::entries::{Edit, edit_in_place, edit_occupied};
 use super::hasher::BuildKeyHasher;
 use super::key::Key;
 use super::line::Line;
@@ -11,10 +11,10 @@ use linked_hash_map::Entries;
 use std::mem;
 
 /// Makes an edit by the next entry of a cursor.
-fn edit_next<'a>(
-    entries: &mut Entries<'_, Key<'a>, Value<'a>, BuildKeyHasher<'a>>,
-    edit: &mut Edit<'a>,
-    output: &mut Output<'a>,
+fn edit_next(
+    entries: &mut Entries<Key, Value, BuildKeyHasher>,
+    edit: &mut Edit,
+    output: &mut Output,
 ) {
     output.begin();
     let Some(mut entry) = entries.next() else {
@@ -26,9 +26,9 @@ fn edit_next<'a>(
 
 /// Makes an edit by each entry of a cursor, up to the end of the word, and drops or forgets the
 /// cursor.
-fn edit_each<'a>(map: &mut Map<'a>, line: &mut Line<'a>, output: &mut Output<'a>) {
+fn edit_each(map: &mut Map, line: &mut Line, output: &mut Output) {
     let edits = line.word();
-    let mut edit = Edit::new("", line);
+    let mut edit = Edit::new("", edits, line);
     let mut entries = map.entries();
     for letter in edits.bytes() {
         output.show(&entries.remaining());
@@ -45,9 +45,7 @@ fn edit_each<'a>(map: &mut Map<'a>, line: &mut Line<'a>, output: &mut Output<'a>
 /// Makes an edit by an entry, if there is one.
 macro_rules! edit_if_some {
     ($entry:expr, $line:ident, $output:ident) => {
-        let letter = first_byte($line.word());
-        let mut edit = Edit::new("", $line);
-        edit.letter = letter;
+        let mut edit = Edit::new("", $line.word(), $line);
         let Some(mut entry) = $entry else {
             $output.push_str("end ");
             return;
@@ -57,33 +55,28 @@ macro_rules! edit_if_some {
 }
 
 /// Makes an edit by the next entry of a visit.
-fn edit_next_entry<'a>(map: &mut Map<'a>, line: &mut Line<'a>, output: &mut Output<'a>) {
+fn edit_next_entry(map: &mut Map, line: &mut Line, output: &mut Output) {
     edit_if_some!(map.next_entry(), line, output);
 }
 
 /// Makes an edit by the entry of the front pair.
-fn edit_front<'a>(map: &mut Map<'a>, line: &mut Line<'a>, output: &mut Output<'a>) {
+fn edit_front(map: &mut Map, line: &mut Line, output: &mut Output) {
     edit_if_some!(map.front_entry(), line, output);
 }
 
 /// Makes an edit by the entry of the back pair.
-fn edit_back<'a>(map: &mut Map<'a>, line: &mut Line<'a>, output: &mut Output<'a>) {
+fn edit_back(map: &mut Map, line: &mut Line, output: &mut Output) {
     edit_if_some!(map.back_entry(), line, output);
 }
 
 /// Begins a visit.
-fn visit<'a>(map: &mut Map<'a>) {
+fn visit(map: &mut Map) {
     let _map = map.visit();
 }
 
-/// Runs the call of this name, and returns whether there is one.
-pub fn run<'a>(
-    name: &str,
-    line: &mut Line<'a>,
-    map: &mut Map<'a>,
-    output: &mut Output<'a>,
-) -> bool {
-    match name {
+/// Runs the call of a line, and returns whether there is one.
+pub fn run(line: &mut Line, map: &mut Map, output: &mut Output) -> bool {
+    match line.name() {
         "entries" => edit_each(map, line, output),
         "visit" => visit(map),
         "next_entry" => edit_next_entry(map, line, output),
