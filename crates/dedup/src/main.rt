@@ -14,13 +14,13 @@ ghost use Rattle.dedup_lines.specs.Arguments.{AreWrong, AskHelp, SayKeep, texts}
 ghost use Rattle.dedup_lines.specs.Help.{help_text};
 ghost use Rattle.dedup_lines.specs.Kept.{kept_lines};
 ghost use Rattle.dedup_lines.specs.Lines.{lines_of, text_of};
-ghost use Rattle.dedup_lines.specs.Stop.{status_of, StopsOutput, Tells, TellsStatus};
+ghost use Rattle.dedup_lines.specs.Stop.{run_status, StopsOutput, Tells, TellsRun, TellsStatus};
 ghost use Rattle.dedup_lines.specs.declared.keep.Keep.{Keep};
 
 #[cfg(test)]
 mod tests;
 
-use dedup_lines::keep::{Keep, ask_help};
+use dedup_lines::keep::{Keep, ask_help, wrong_word};
 use dedup_lines::stop::Stop;
 use dedup_lines::{filter, help, lines};
 use std::alloc::Global;
@@ -49,32 +49,76 @@ fn write_output<S: BuildHasher + Drop, R: BufRead, W: Write>(
     lines::flush(output)
 }
 
-/// Tells why the run stopped, and flushes.
-fn write_fault<F: Write>(faults: &mut F, stop: &Stop) -> io::Result<()>
-    ensures { OnOk result (Tells stop.now (F.contents faults.old) (F.contents faults.new)) }
+/// Writes the help if the arguments ask for it, or else the lines that they say. Only the lines need
+/// a random seed.
+fn write_asked<N: RandomSource, R: BufRead, W: Write>(
+    alloc: Global,
+    random: &N,
+    arguments: &[String],
+    input: &mut R,
+    output: &mut W,
+) -> Result<(), Stop>
+    ensures written { OnOk result ((AskHelp (texts arguments.now)
+        × Appends (W.contents output.old) (W.contents output.new) help_text)
+        ⊎ IfSome (R.remaining input.old) (λ bytes.
+        (keep : Keep) × (SayKeep (texts arguments.now) keep
+        × Appends (W.contents output.old) (W.contents output.new)
+        (text_of (kept_lines keep (lines_of bytes)))))) }
+    ensures wrong { (run_status result ≡ 2) ↔ AreWrong (texts arguments.now) }
+    ensures silent { run_status result ≡ 2
+        → Keeps (W.contents output.old) (W.contents output.new) }
 {
-    stop.tell(faults)?;
+    if ask_help(arguments) {
+        return help::write_help(output);
+    }
+    match Keep::from_arguments(arguments) {
+        Some(keep) => write_output(alloc, seed(random)?, keep, input, output),
+        None => Err(Stop::WrongArguments),
+    }
+}
+
+/// Tells why the run stopped, and flushes.
+fn write_fault<F: Write>(faults: &mut F, stop: &Stop, word: &[u8]) -> io::Result<()>
+    ensures { OnOk result
+        (Tells stop.now word.now (F.contents faults.old) (F.contents faults.new)) }
+{
+    stop.tell(word, faults)?;
     faults.flush()
 }
 
-/// Returns the status of a run that stopped, and tells why. How that went is returned too.
-fn report<F: Write>(faults: &mut F, stop: &Stop) -> (u8, io::Result<()>)
-    ensures status { result.0 ≡ status_of stop.now }
-    ensures told { OnOk result.1 (Tells stop.now (F.contents faults.old) (F.contents faults.new)) }
+/// Returns the status of a run, and tells why it stopped if it did, with a word of wrong arguments.
+/// How that went is returned too.
+fn report<F: Write>(faults: &mut F, written: &Result<(), Stop>, word: &[u8]) -> (u8, io::Result<()>)
+    ensures status { result.0 ≡ run_status written.now }
+    ensures told { OnOk result.1
+        (TellsRun written.now word.now (F.contents faults.old) (F.contents faults.new)) }
+    ensures no_fault { result.0 ≡ 0 → Keeps (F.contents faults.old) (F.contents faults.new) }
 {
-    (stop.status(), write_fault(faults, stop))
+    match written {
+        Ok(()) => (0, Ok(())),
+        Err(stop) => (stop.status(), write_fault(faults, stop, word)),
+    }
 }
 
-/// Does what [`run`] does, and returns too how telling a fault went.
-fn run_and_report<S: BuildHasher + Drop, R: BufRead, W: Write, F: Write>(
+/// Writes the lines of `input` that the arguments say to `output`, or the help if they ask for it.
+/// The lines are hashed with a seed of `random`, and the output does not depend on it. Returns the
+/// exit status of the program, and how telling a fault went.
+///
+/// The status is 0 for a run, 2 if the arguments are wrong, 3 if memory is refused, and 4 if
+/// reading, writing or the seed fails. A status other than 0 is explained by a line on `faults`,
+/// except at a closed pipe. If it is 3 or 4, the output may be written, all of it or a part.
+pub fn run<N: RandomSource, R: BufRead, W: Write, F: Write>(
     alloc: Global,
-    hasher: S,
+    random: &N,
     arguments: &[String],
     input: &mut R,
     output: &mut W,
     faults: &mut F,
 ) -> (u8, io::Result<()>)
     ensures statuses { (result.0 ≡ 0) ⊎ (result.0 ≡ 2) ⊎ (result.0 ≡ 3) ⊎ (result.0 ≡ 4) }
+
+    // What is written is the help, if the arguments ask for it, or the lines of the input that they
+    // say, and nothing is told on `faults`.
     ensures done { result.0 ≡ 0 → (AskHelp (texts arguments.now)
         × Appends (W.contents output.old) (W.contents output.new) help_text)
         ⊎ IfSome (R.remaining input.old) (λ bytes.
@@ -84,61 +128,19 @@ fn run_and_report<S: BuildHasher + Drop, R: BufRead, W: Write, F: Write>(
     ensures no_fault { result.0 ≡ 0 → Keeps (F.contents faults.old) (F.contents faults.new) }
     ensures explained { result.0 ≢ 0 → OnOk result.1
         (TellsStatus result.0 (F.contents faults.old) (F.contents faults.new)) }
+
+    // The status is 2 exactly if the arguments are wrong, and then nothing is written.
     ensures wrong { (result.0 ≡ 2) ↔ AreWrong (texts arguments.now) }
     ensures silent { result.0 ≡ 2 → Keeps (W.contents output.old) (W.contents output.new) }
 {
-    let written = if ask_help(arguments) {
-        help::write_help(output)
-    } else {
-        match Keep::from_arguments(arguments) {
-            Some(keep) => write_output(alloc, hasher, keep, input, output),
-            None => Err(Stop::WrongArguments),
-        }
-    };
-    match written {
-        Ok(()) => (0, Ok(())),
-        Err(stop) => report(faults, &stop),
-    }
-}
-
-/// Writes the lines of `input` that the arguments say to `output`, or the help if they ask for it.
-/// The lines are hashed by `hasher`, and the output does not depend on it. Returns the exit status
-/// of the program.
-///
-/// The status is 0 for a run, 2 if the arguments are wrong, 3 if memory is refused, and 4 if
-/// reading or writing fails. A status other than 0 is explained by a line on `faults`, except at a
-/// closed pipe. If it is 3 or 4, a part of the output may be written.
-pub fn run<S: BuildHasher + Drop, R: BufRead, W: Write, F: Write>(
-    alloc: Global,
-    hasher: S,
-    arguments: &[String],
-    input: &mut R,
-    output: &mut W,
-    faults: &mut F,
-) -> u8
-    ensures statuses { (result ≡ 0) ⊎ (result ≡ 2) ⊎ (result ≡ 3) ⊎ (result ≡ 4) }
-
-    // What is written is the help, if the arguments ask for it, or the lines of the input that they
-    // say, and nothing is told on `faults`.
-    ensures done { result ≡ 0 → (AskHelp (texts arguments.now)
-        × Appends (W.contents output.old) (W.contents output.new) help_text)
-        ⊎ IfSome (R.remaining input.old) (λ bytes.
-        (keep : Keep) × (SayKeep (texts arguments.now) keep
-        × Appends (W.contents output.old) (W.contents output.new)
-        (text_of (kept_lines keep (lines_of bytes))))) }
-    ensures no_fault { result ≡ 0 → Keeps (F.contents faults.old) (F.contents faults.new) }
-
-    // The status is 2 exactly if the arguments are wrong, and then nothing is written.
-    ensures wrong { (result ≡ 2) ↔ AreWrong (texts arguments.now) }
-    ensures silent { result ≡ 2 → Keeps (W.contents output.old) (W.contents output.new) }
-{
-    run_and_report(alloc, hasher, arguments, input, output, faults).0
+    let written = write_asked(alloc, random, arguments, input, output);
+    report(faults, &written, wrong_word(arguments))
 }
 
 /// Writes lines of `input` as [`run`] does, and appends what it writes to `output` and `faults`.
-pub fn run_in_memory<S: BuildHasher + Drop>(
+pub fn run_in_memory<N: RandomSource>(
     alloc: Global,
-    hasher: S,
+    random: &N,
     arguments: &[String],
     input: &[u8],
     output: &mut Vec<u8>,
@@ -154,12 +156,14 @@ pub fn run_in_memory<S: BuildHasher + Drop>(
     ensures silent { result ≡ 2 → output.new.items ≡ output.old.items }
 {
     let mut rest = input;
-    run(alloc, hasher, arguments, &mut rest, output, faults)
+    run(alloc, random, arguments, &mut rest, output, faults).0
 }
 
 /// Returns a build hasher with a random seed.
-fn seed(rt: &impl RandomSource) -> Result<RandomState, Stop> {
-    match RandomState::new(rt) {
+fn seed<N: RandomSource>(random: &N) -> Result<RandomState, Stop>
+    ensures { IfErr result (λ stop. stop ≢ Stop.WrongArguments) }
+{
+    match RandomState::new(random) {
         Ok(hasher) => Ok(hasher),
         Err(error) => Err(Stop::of_seed(error.kind())),
     }
@@ -174,7 +178,7 @@ fn arguments(rt: &HostRuntime) -> Result<Vec<String>, Stop> {
     }
 }
 
-/// Runs from standard input to standard output, each with a buffer, and with a random seed.
+/// Runs from standard input to standard output, each with a buffer.
 fn run_buffered(rt: &HostRuntime) -> Result<u8, Stop> {
     let arguments = arguments(rt)?;
     let Ok(mut input) = BufReader::with_capacity(rt.alloc(), BUFFER_LEN, rt.stdin()) else {
@@ -183,19 +187,22 @@ fn run_buffered(rt: &HostRuntime) -> Result<u8, Stop> {
     let Ok(mut output) = BufWriter::with_capacity(rt.alloc(), BUFFER_LEN, rt.stdout()) else {
         return Err(Stop::OutOfMemory);
     };
-    Ok(run(
-        rt.alloc(),
-        seed(rt)?,
-        arguments.as_slice(),
-        &mut input,
-        &mut output,
-        &mut rt.stderr(),
-    ))
+    Ok(
+        run(
+            rt.alloc(),
+            rt,
+            arguments.as_slice(),
+            &mut input,
+            &mut output,
+            &mut rt.stderr(),
+        )
+        .0,
+    )
 }
 
 fn main(rt: HostRuntime) -> ExitCode {
     ExitCode::from(match run_buffered(&rt) {
         Ok(status) => status,
-        Err(stop) => report(&mut rt.stderr(), &stop).0,
+        Err(stop) => report(&mut rt.stderr(), &Err(stop), b"not UTF-8").0,
     })
 }

@@ -18,11 +18,15 @@ module _ {A E : Type 0} where
   OnOk-kept (Ok value) old now next bytes written kept = Appends-keeps old now next bytes written kept
   OnOk-kept (Err error) old now next bytes written kept = tt
 
-  -- the start, the cause and the line feed
-  pub OnOk-TellsCause : (result : Result A E) (start cause : List ℕ) (old first second new : Option (List ℕ)) → Appends old first start
-      → Appends first second cause → OnOk result (Appends second new (10 ∷ [])) → OnOk result (TellsCause start old new)
-  OnOk-TellsCause (Ok value) start cause old first second new starts ends feeds = (
-    cause,
-    Appends-append old second new (start ++ cause) (10 ∷ []) (Appends-append old first second start cause starts ends) feeds,
-  )
-  OnOk-TellsCause (Err error) start cause old first second new starts ends feeds = tt
+  -- three slices, one after the other
+  pub OnOk-Appends : (result : Result A E) (start middle end : List ℕ) (old first second new : Option (List ℕ)) → Appends old first start
+      → Appends first second middle → OnOk result (Appends second new end) → OnOk result (Appends old new (start ++ middle ++ end))
+  OnOk-Appends (Ok value) start middle end old first second new starts goes_on ends =
+      Appends-append old second new (start ++ middle) end (Appends-append old first second start middle starts goes_on) ends
+  OnOk-Appends (Err error) start middle end old first second new starts goes_on ends = tt
+
+  -- a line with a cause
+  pub OnOk-TellsCause : (result : Result A E) (start cause : List ℕ) (old new : Option (List ℕ))
+      → OnOk result (Appends old new (start ++ cause ++ 10 ∷ [])) → OnOk result (TellsCause start old new)
+  OnOk-TellsCause (Ok value) start cause old new written = (cause, written)
+  OnOk-TellsCause (Err error) start cause old new written = tt

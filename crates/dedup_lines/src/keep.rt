@@ -40,3 +40,17 @@ pub fn ask_help(arguments: &[String]) -> bool
         _ => false,
     }
 }
+
+/// Returns the word of wrong arguments that is not as the usage line has it, the first one, or the
+/// last word if one is missing.
+pub fn wrong_word(arguments: &[String]) -> &[u8] {
+    match arguments {
+        [option, size, word, ..]
+            if option.as_str() == "--window" && size.parse::<usize>().is_ok() => { word.as_bytes() }
+        [option, word, ..] if ["--last", "--window", "--help"].contains(&option.as_str()) => {
+            word.as_bytes()
+        }
+        [word, ..] => word.as_bytes(),
+        [] => b"",
+    }
+}

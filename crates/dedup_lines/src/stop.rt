@@ -1,6 +1,7 @@
 //! Why a run stops before all of its output is written.
 
-ghost use Rattle.std.specs.Prelude.{◌≡◌, ◌≢◌, OnOk};
+ghost use Rattle.std.specs.Prelude.{◌≡◌, ◌≢◌, ◌++◌, OnOk};
+ghost use Rattle.std.specs.Io.KnownBytes.{Appends};
 ghost use Rattle.dedup_lines.specs.declared.stop.Stop.TheVariants.{OutOfMemory};
 ghost use Rattle.dedup_lines.specs.Stop.{status_of, Tells, TellsCause};
 
@@ -74,12 +75,14 @@ impl Stop {
         }
     }
 
-    /// Writes a line that says why the run stopped. A closed pipe is not told.
-    pub fn tell<F: Write>(&self, faults: &mut F) -> io::Result<()>
-        ensures { OnOk result (Tells self.now (F.contents faults.old) (F.contents faults.new)) }
+    /// Writes a line that says why the run stopped. At wrong arguments it names this word of them,
+    /// and a closed pipe is not told.
+    pub fn tell<F: Write>(&self, word: &[u8], faults: &mut F) -> io::Result<()>
+        ensures { OnOk result
+            (Tells self.now word.now (F.contents faults.old) (F.contents faults.new)) }
     {
         match self {
-            Stop::WrongArguments => faults.write_all(WRONG_ARGUMENTS),
+            Stop::WrongArguments => write_parts(faults, b"dedup: wrong arguments: ", word, USAGE),
             Stop::OutOfMemory => faults.write_all(b"dedup: out of memory\n"),
             Stop::SeedFailed(kind) => tell_cause(faults, b"dedup: no random seed: ", *kind),
             Stop::InputFailed(kind) => tell_cause(faults, b"dedup: input failed: ", *kind),
@@ -89,7 +92,17 @@ impl Stop {
     }
 }
 
-const WRONG_ARGUMENTS: &[u8] = b"dedup: wrong arguments; usage: dedup [--last | --window N]\n";
+const USAGE: &[u8] = b"; usage: dedup [--last | --window N | --help] < FILE\n";
+
+/// Writes three slices of bytes, one after the other.
+fn write_parts<F: Write>(faults: &mut F, start: &[u8], middle: &[u8], end: &[u8]) -> io::Result<()>
+    ensures { OnOk result (Appends (F.contents faults.old) (F.contents faults.new)
+        (start.now ++ middle.now ++ end.now)) }
+{
+    faults.write_all(start)?;
+    faults.write_all(middle)?;
+    faults.write_all(end)
+}
 
 /// The room for the text of a cause.
 const CAUSE_LEN: usize = 64;
@@ -103,9 +116,7 @@ fn tell_cause<F: Write>(faults: &mut F, start: &[u8], kind: ErrorKind) -> io::Re
     let mut rest = buffer.as_mut_slice();
     write!(rest, "{kind}")?;
     let len = CAUSE_LEN.saturating_sub(rest.len());
-    faults.write_all(start)?;
-    faults.write_all(&buffer[..len])?;
-    faults.write_all(b"\n")
+    write_parts(faults, start, &buffer[..len], b"\n")
 }
 
 impl From<AllocError> for Stop {

@@ -1,15 +1,14 @@
 //! Readers and writers that fail.
 
+use super::runs::HELP;
 use super::support::checks::{check_eq, given};
+use super::support::numbers::{NUMBERS, Numbers};
 use super::support::streams::{NEVER, Output, Source};
 use super::support::words::arguments;
-use crate::{report, run, seed};
-use linked_hash_set::DefaultHashBuilder;
+use crate::run;
 use std::alloc::Global;
-use std::io;
 use std::io::{BufReader, ErrorKind};
 use std::process::Abort;
-use std::random::RandomSource;
 
 /// The input of each run. A reader with a buffer of four bytes gives it in three reads, and the
 /// fourth finds its end.
@@ -31,9 +30,9 @@ fn check_read(
     let mut input = given!(rt; BufReader::with_capacity(alloc, BUFFER_LEN, source));
     let mut output = Output::new(alloc, NEVER, ErrorKind::Other);
     let mut faults = Output::new(alloc, NEVER, ErrorKind::Other);
-    let status = run(
+    let (status, _told) = run(
         alloc,
-        DefaultHashBuilder::new(),
+        &NUMBERS,
         words.as_slice(),
         &mut input,
         &mut output,
@@ -138,9 +137,9 @@ fn check_write(
     let mut input = INPUT;
     let mut output = Output::new(alloc, failing.0, failing.1);
     let mut faults = Output::new(alloc, NEVER, ErrorKind::Other);
-    let status = run(
+    let (status, _told) = run(
         alloc,
-        DefaultHashBuilder::new(),
+        &NUMBERS,
         words.as_slice(),
         &mut input,
         &mut output,
@@ -217,9 +216,9 @@ fn check_fault(rt: &impl Abort, alloc: Global, fails_at: usize) {
     let mut input = INPUT;
     let mut output = Output::new(alloc, NEVER, ErrorKind::Other);
     let mut faults = Output::new(alloc, fails_at, ErrorKind::Other);
-    let status = run(
+    let (status, _told) = run(
         alloc,
-        DefaultHashBuilder::new(),
+        &NUMBERS,
         words.as_slice(),
         &mut input,
         &mut output,
@@ -234,41 +233,54 @@ fn faults_that_fail_change_no_status(rt: HostRuntime) {
     check_fault(&rt, rt.alloc(), 2);
 }
 
-/// The system, if it gives no random numbers.
-#[derive(Drop)]
-struct NoNumbers {
+/// Checks the status, the output and the fault of a run that gets no random numbers.
+fn check_seed(
+    rt: &impl Abort,
+    alloc: Global,
+    words: &[&str],
     kind: ErrorKind,
-}
-
-impl RandomSource for NoNumbers {
-    fn fill_bytes(&self, _buf: &mut [u8]) -> io::Result<()> {
-        Err(io::Error::from(self.kind))
-    }
-}
-
-/// Checks the status and the fault of a program that gets no random numbers.
-fn check_seed(rt: &impl Abort, alloc: Global, kind: ErrorKind, wanted: (u8, &[u8])) {
-    let mut faults = Vec::new(alloc);
-    let status = match seed(&NoNumbers { kind }) {
-        Ok(_) => 0,
-        Err(stop) => report(&mut faults, &stop).0,
-    };
-    check_eq!(rt; (status, faults.as_slice()), wanted);
+    wanted: (u8, &[u8], &[u8]),
+) {
+    let words = given!(rt; arguments(alloc, words));
+    let random = Numbers { fails: Some(kind) };
+    let mut input = INPUT;
+    let mut output = Output::new(alloc, NEVER, ErrorKind::Other);
+    let mut faults = Output::new(alloc, NEVER, ErrorKind::Other);
+    let (status, _told) = run(
+        alloc,
+        &random,
+        words.as_slice(),
+        &mut input,
+        &mut output,
+        &mut faults,
+    );
+    check_eq!(rt; (status, output.bytes.as_slice(), faults.bytes.as_slice()), wanted);
 }
 
 #[test]
 fn seeds_that_fail(rt: HostRuntime) {
     let alloc = rt.alloc();
+    let told = b"dedup: no random seed: unsupported\n";
+    check_seed(&rt, alloc, &[], ErrorKind::Unsupported, (4, b"", told));
     check_seed(
         &rt,
         alloc,
-        ErrorKind::Unsupported,
-        (4, b"dedup: no random seed: unsupported\n"),
-    );
-    check_seed(
-        &rt,
-        alloc,
+        &["--last"],
         ErrorKind::OutOfMemory,
-        (3, b"dedup: out of memory\n"),
+        (3, b"", b"dedup: out of memory\n"),
     );
+}
+
+#[test]
+fn help_and_wrong_arguments_need_no_seed(rt: HostRuntime) {
+    let alloc = rt.alloc();
+    let told = b"dedup: wrong arguments: -h; usage: dedup [--last | --window N | --help] < FILE\n";
+    check_seed(
+        &rt,
+        alloc,
+        &["--help"],
+        ErrorKind::Unsupported,
+        (0, HELP, b""),
+    );
+    check_seed(&rt, alloc, &["-h"], ErrorKind::Unsupported, (2, b"", told));
 }

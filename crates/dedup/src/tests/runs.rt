@@ -2,12 +2,12 @@
 
 use super::support::checks::{check_eq, given};
 use super::support::hashers::BuildCounted;
+use super::support::numbers::NUMBERS;
 use super::support::words::arguments;
-use crate::run_in_memory;
-use linked_hash_set::DefaultHashBuilder;
+use crate::{run_in_memory, write_output};
+use dedup_lines::keep::Keep;
 use std::alloc::Global;
 use std::cell::Cell;
-use std::hash::{BuildHasher, BuildHasherDefault, DefaultHasher};
 use std::process::Abort;
 
 /// Arguments, an input, and the output of the run.
@@ -51,13 +51,13 @@ const RUNS: [Run; 20] = [
 ];
 
 /// Checks a run: its status, its output and that it tells no fault.
-fn check_run<S: BuildHasher + Drop>(rt: &impl Abort, alloc: Global, hasher: S, wanted: Run) {
+fn check_run(rt: &impl Abort, alloc: Global, wanted: Run) {
     let words = given!(rt; arguments(alloc, wanted.0));
     let mut output = Vec::new(alloc);
     let mut faults = Vec::new(alloc);
     let status = run_in_memory(
         alloc,
-        hasher,
+        &NUMBERS,
         words.as_slice(),
         wanted.1,
         &mut output,
@@ -66,16 +66,10 @@ fn check_run<S: BuildHasher + Drop>(rt: &impl Abort, alloc: Global, hasher: S, w
     check_eq!(rt; (output.as_slice(), status, faults.len()), (wanted.2, 0, 0));
 }
 
-/// Checks each run, by two hashers.
+/// Checks each run.
 fn check_runs(rt: &impl Abort, alloc: Global) {
     for wanted in RUNS {
-        check_run(rt, alloc, DefaultHashBuilder::new(), wanted);
-        check_run(
-            rt,
-            alloc,
-            BuildHasherDefault::<DefaultHasher>::new(),
-            wanted,
-        );
+        check_run(rt, alloc, wanted);
     }
 }
 
@@ -85,32 +79,30 @@ fn runs(rt: HostRuntime) {
 }
 
 /// Checks how often a run over five lines makes a hasher.
-fn check_hashers(rt: &impl Abort, alloc: Global, words: &[&str], wanted: usize) {
-    let words = given!(rt; arguments(alloc, words));
+fn check_hashers(rt: &impl Abort, alloc: Global, keep: Keep, wanted: usize) {
     let built = Cell::new(0);
+    let mut input = b"a\nb\na\nb\nb\n".as_slice();
     let mut output = Vec::new(alloc);
-    let mut faults = Vec::new(alloc);
-    let status = run_in_memory(
+    let written = write_output(
         alloc,
         BuildCounted { built: &built },
-        words.as_slice(),
-        b"a\nb\na\nb\nb\n",
+        keep,
+        &mut input,
         &mut output,
-        &mut faults,
     );
-    check_eq!(rt; (status, built.get()), (0, wanted));
+    check_eq!(rt; (written, built.get()), (Ok(()), wanted));
 }
 
 #[test]
 fn lines_are_hashed_once_and_new_lines_twice(rt: HostRuntime) {
     // A line is looked up, and a new one is inserted: two are new, and in the window four.
-    check_hashers(&rt, rt.alloc(), &[], 7);
-    check_hashers(&rt, rt.alloc(), &["--last"], 7);
-    check_hashers(&rt, rt.alloc(), &["--window", "1"], 9);
+    check_hashers(&rt, rt.alloc(), Keep::First, 7);
+    check_hashers(&rt, rt.alloc(), Keep::Last, 7);
+    check_hashers(&rt, rt.alloc(), Keep::Window(1), 9);
 }
 
 /// What `--help` prints.
-const HELP: &[u8] = b"\
+pub const HELP: &[u8] = b"\
 dedup prints each line of standard input once, at its first appearance.
 --last: prints each line once, at its last appearance.
 --window N: prints each line that is not among the last N distinct lines before it.
@@ -118,54 +110,55 @@ dedup prints each line of standard input once, at its first appearance.
 
 #[test]
 fn help(rt: HostRuntime) {
-    check_run(
-        &rt,
-        rt.alloc(),
-        DefaultHashBuilder::new(),
-        (&["--help"], b"a\n", HELP),
-    );
+    check_run(&rt, rt.alloc(), (&["--help"], b"a\n", HELP));
 }
 
-/// Arguments that are wrong.
-const WRONG: [&[&str]; 15] = [
-    &["--help", "--help"],
-    &["--help", "--last"],
-    &["-h"],
-    &["--first"],
-    &["--last", "--last"],
-    &["--last", "2"],
-    &["--window"],
-    &["--window", ""],
-    &["--window", "x"],
-    &["--window", "-1"],
-    &["--window", "2 "],
-    &["--window", "18446744073709551616"],
-    &["--window", "2", "--last"],
-    &["last"],
-    &[""],
+/// Arguments that are wrong, and the word that is told.
+const WRONG: [(&[&str], &str); 17] = [
+    (&["--help", "--help"], "--help"),
+    (&["--help", "--last"], "--last"),
+    (&["-h"], "-h"),
+    (&["--first", "--last"], "--first"),
+    (&["--last", "--last"], "--last"),
+    (&["--last", "2"], "2"),
+    (&["--last", "--window", "2"], "--window"),
+    (&["--window"], "--window"),
+    (&["--window", ""], ""),
+    (&["--window", "x"], "x"),
+    (&["--window", "-1"], "-1"),
+    (&["--window", "2 "], "2 "),
+    (
+        &["--window", "18446744073709551616"],
+        "18446744073709551616",
+    ),
+    (&["--window", "2", "--last"], "--last"),
+    (&["--window", "x", "--last"], "x"),
+    (&["last"], "last"),
+    (&[""], ""),
 ];
 
 /// Checks that wrong arguments are told, and that nothing is written.
-fn check_wrong(rt: &impl Abort, alloc: Global, words: &[&str]) {
+fn check_wrong(rt: &impl Abort, alloc: Global, words: &[&str], word: &str) {
     let words = given!(rt; arguments(alloc, words));
     let mut output = Vec::new(alloc);
     let mut faults = Vec::new(alloc);
     let status = run_in_memory(
         alloc,
-        DefaultHashBuilder::new(),
+        &NUMBERS,
         words.as_slice(),
         b"a\n",
         &mut output,
         &mut faults,
     );
-    let told = b"dedup: wrong arguments; usage: dedup [--last | --window N]\n".as_slice();
-    check_eq!(rt; (faults.as_slice(), status, output.len()), (told, 2, 0));
+    let usage = "usage: dedup [--last | --window N | --help] < FILE";
+    let told = given!(rt; format!(in alloc; "dedup: wrong arguments: {word}; {usage}\n"));
+    check_eq!(rt; (faults.as_slice(), status, output.len()), (told.as_bytes(), 2, 0));
 }
 
 /// Checks all wrong arguments.
 fn check_each_wrong(rt: &impl Abort, alloc: Global) {
-    for words in WRONG {
-        check_wrong(rt, alloc, words);
+    for (words, word) in WRONG {
+        check_wrong(rt, alloc, words, word);
     }
 }
 

@@ -1,6 +1,8 @@
-//! What the modules of tests share: checks, arguments, hashers, readers and writers.
+//! What the modules of tests share: checks, arguments, hashers, random numbers, readers and
+//! writers.
 
 pub mod checks;
 pub mod hashers;
+pub mod numbers;
 pub mod streams;
 pub mod words;

@@ -3,6 +3,5 @@ use Rattle.dedup_lines.proofs.stop.tell_cause.Goals as goal
 
 pub returns : goal.returns
 returns g c =
-    OnOk-TellsCause c.write_all-3.result c.args.start.now _ (g.F.Write.contents c.args.faults.now)
-    (g.F.Write.contents c.write_all.new.self) (g.F.Write.contents c.write_all-2.new.self) (g.F.Write.contents c.write_all-3.new.self)
-    c.in_ok-write_all.ensures.bytes c.in_ok-write_all-2.ensures.bytes c.write_all-3.ensures.bytes
+    OnOk-TellsCause c.write_parts.result c.args.start.now _ (g.F.Write.contents c.args.faults.now)
+    (g.F.Write.contents c.write_parts.new.faults) c.write_parts.ensures
