@@ -3,6 +3,7 @@ use Rattle.std.specs.Prelude.{◌≡◌, Bool, IsTrue, List, [], length}
 use Rattle.std.specs.List.{AllZip}
 use Rattle.linked_hash_map.specs.declared.map.Mode.TheVariants.{Touch}
 use Rattle.linked_hash_map.specs.LinkedMap.{LinkedMap}
+use Rattle.linked_hash_map.specs.Cursor.{to_visit}
 use Rattle.linked_hash_map.specs.Inserts.{insert_each}
 use Rattle.linked_hash_map.specs.Validity.{IsValid}
 
@@ -12,7 +13,7 @@ abbrev pub AreClones : {K V : Type 0} → (K → K → Type 0) → (V → V → 
 AreClones IsKeyClone IsValueClone = AllZip (λ p q. IsKeyClone p.0 q.0 × IsValueClone p.1 q.1)
 
 -- a map n has clones of the pairs of a map m, inserted in order, room for as many, a clone of the
--- hasher, and its mode
+-- hasher, its mode, and nothing left to be visited
 pub record IsClone {K V S : Type 0} (eq : K → K → Bool) (IsKeyClone : K → K → Type 0)
     (IsValueClone : V → V → Type 0) (IsHasherClone : S → S → Type 0) (m n : LinkedMap K V S) : Type
     0 where
@@ -22,6 +23,7 @@ pub record IsClone {K V S : Type 0} (eq : K → K → Bool) (IsKeyClone : K → 
   pub rechained : n.rechained ≡ 0
   pub hasher : IsHasherClone m.hasher n.hasher
   pub mode : n.mode ≡ m.mode
+  pub visit : to_visit n ≡ []
   pub valid : IsValid eq n
   -- if a clone of a key is the same key, its list is the clones in order
   pub in_order : ((k clone : K) → IsKeyClone k clone → IsTrue (eq k clone))

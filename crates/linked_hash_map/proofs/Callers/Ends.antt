@@ -10,9 +10,9 @@ use Rattle.std.proofs.lemmas.List.{map-append, take-map, take_all, length-map}
 use Rattle.std.proofs.lemmas.List.Elements.{filter-append}
 use Rattle.linked_hash_map.specs.declared.map.Mode.{Mode}
 use Rattle.linked_hash_map.specs.declared.map.Mode.TheVariants.{Touch, Keep}
-use Rattle.linked_hash_map.specs.Pairs.{first, key_or, find, value_at, without, to_back_as_is, to_front, set_value, put}
+use Rattle.linked_hash_map.specs.Pairs.{first, last, key_or, find, value_at, without, to_back_as_is, to_front, set_value, put}
 use Rattle.linked_hash_map.proofs.Callers.Keys.{keys_of-without}
-use Rattle.linked_hash_map.proofs.Callers.Lookups.{eq-stored, find-put}
+use Rattle.linked_hash_map.proofs.Callers.Lookups.{eq-stored, find-put, last-append}
 
 module _ {A K V : Type 0} (eq : A → K → Bool) where
   keys_of-found : (pairs : List (K × V)) (k : A)
@@ -87,3 +87,12 @@ first-to_front {K = K} {V} eq pairs k there = by_pair (find eq pairs k) there
     by_pair : (o : Option (K × V)) → IsSome o → first (option_to_list o ++ without eq pairs k) ≡ o
     by_pair None none = absurd (true≢false (sym none))
     by_pair (Some pair) there = refl
+
+-- and so is the last one
+pub last-to_back_as_is : {A K V : Type 0} (eq : A → K → Bool) (pairs : List (K × V)) (k : A) → IsSome (find eq pairs k)
+    → last (to_back_as_is eq pairs k) ≡ find eq pairs k
+last-to_back_as_is {K = K} {V} eq pairs k there = by_pair (find eq pairs k) there
+  where
+    by_pair : (o : Option (K × V)) → IsSome o → last (without eq pairs k ++ option_to_list o) ≡ o
+    by_pair None none = absurd (true≢false (sym none))
+    by_pair (Some pair) there = last-append (without eq pairs k) pair

@@ -1,6 +1,6 @@
 -- Clones of pairs, inserted one after another.
 use Rattle.std.proofs.Common.{◌≡◌, ℕ, map, ◌+◌, ◌≤◌, Bool, true, false, IsTrue, List, [], ◌∷◌, ◌++◌, length, append_assoc, append-nil, max}
-use Rattle.std.proofs.Common.{refl, sym, ap, ◌∙◌, subst, arith, length-append}
+use Rattle.std.proofs.Common.{Option, Some, None, OnSome, IfNone, refl, sym, ap, ◌∙◌, subst, arith, length-append}
 use Rattle.std.specs.List.{AllZip, AllByRecursion, IsDistinct}
 use Rattle.std.specs.Map.{keys_of}
 use Rattle.std.specs.Cmp.{IsEquivalence}
@@ -10,11 +10,13 @@ use Rattle.linked_hash_map.specs.Changes.{KeepsSettings}
 use Rattle.linked_hash_map.specs.declared.map.Mode.TheVariants.{Touch}
 use Rattle.linked_hash_map.specs.LinkedMap.{LinkedMap}
 use Rattle.linked_hash_map.specs.Pairs.{to_back, put}
+use Rattle.linked_hash_map.specs.Cursor.{to_visit}
 use Rattle.linked_hash_map.specs.Inserts.{insert_each}
 use Rattle.linked_hash_map.specs.Validity.{IsValid}
 use Rattle.linked_hash_map.specs.Counts.{rechained_raised}
 use Rattle.linked_hash_map.specs.Clones.{AreClones, IsClone}
 use Rattle.linked_hash_map.proofs.pairs.Inserts.{insert_each-last, insert_each-distinct, length-put_most}
+use Rattle.linked_hash_map.proofs.pairs.ExtendSteps.{to_visit-none}
 use Rattle.linked_hash_map.proofs.pairs.RehashCounts.{rechained_raised-same}
 use Rattle.lhm_ring.specs.Ring.{IsTripleClone}
 
@@ -60,6 +62,7 @@ pub record HasCloned {K V S : Type 0} (eq : K → K → Bool) (IsKeyClone : K �
   pub rechained : n.rechained ≡ 0
   pub hasher : IsHasherClone m.hasher n.hasher
   pub mode : n.mode ≡ Touch
+  pub visit : to_visit n ≡ []
 
 module _ {K V S : Type 0} {eq : K → K → Bool} {IsKeyClone : K → K → Type 0}
     {IsValueClone : V → V → Type 0} {IsHasherClone : S → S → Type 0} where
@@ -68,7 +71,7 @@ module _ {K V S : Type 0} {eq : K → K → Bool} {IsKeyClone : K → K → Type
       → n.pairs ≡ [] → n.capacity ≡ length m.pairs → n.rechained ≡ 0
       → IsHasherClone m.hasher n.hasher → n.mode ≡ Touch
       → HasCloned eq IsKeyClone IsValueClone IsHasherClone m others n
-  HasCloned-none all empty room uncounted of_hasher touch =
+  HasCloned-none {n = n} all empty room uncounted of_hasher touch =
       record {
         first = [];
         clones = [];
@@ -79,6 +82,7 @@ module _ {K V S : Type 0} {eq : K → K → Bool} {IsKeyClone : K → K → Type
         rechained = uncounted;
         hasher = of_hasher;
         mode = touch;
+        visit = to_visit-none n empty;
       }
 
   -- one more clone is inserted; there are then no more pairs than are cloned
@@ -89,10 +93,11 @@ module _ {K V S : Type 0} {eq : K → K → Bool} {IsKeyClone : K → K → Type
       → after.capacity ≡ max before.capacity (length after.pairs)
       → after.rechained
       ≡ rechained_raised before.rechained (length before.pairs) before.capacity after.capacity
-      → KeepsSettings before after
+      → KeepsSettings before after → (old : Option V) → OnSome old (to_visit after ≡ [])
+      → IfNone old (to_visit after ≡ to_visit before)
       → HasCloned eq IsKeyClone IsValueClone IsHasherClone m others after
   HasCloned-put {m} {before} {after} {these} {others} so_far {pair} next {k} {v} of_key of_value
-      went_in raised counted same =
+      went_in raised counted same old ends stands =
       let put = went_in ∙ ap (λ mode. put eq mode before.pairs k v) so_far.mode in
       let inserted_is = ap length so_far.inserted in
       let bound = length-insert_each eq [] so_far.clones in
@@ -115,7 +120,12 @@ module _ {K V S : Type 0} {eq : K → K → Bool} {IsKeyClone : K → K → Type
             ∙ so_far.rechained;
         hasher = subst (IsHasherClone m.hasher) (sym same.hasher) so_far.hasher;
         mode = same.mode ∙ so_far.mode;
+        visit = by_old old ends stands;
       }
+    where
+      by_old : (old : Option V) → OnSome old (to_visit after ≡ []) → IfNone old (to_visit after ≡ to_visit before) → to_visit after ≡ []
+      by_old None ends stands = stands ∙ so_far.visit
+      by_old (Some v) ends stands = ends
 
 module _ {K V : Type 0} {eq : K → K → Bool} (laws : IsEquivalence eq) {IsKeyClone : K → K → Type 0}
     (IsValueClone : V → V → Type 0)
@@ -167,6 +177,7 @@ module _ {K V S : Type 0} {eq : K → K → Bool} (laws : IsEquivalence eq)
         rechained = ap (λ l. l.rechained) set ∙ all.rechained;
         hasher = subst (IsHasherClone m.hasher) (sym (ap (λ l. l.hasher) set)) all.hasher;
         mode = ap (λ l. l.mode) set;
+        visit = ap to_visit set ∙ all.visit;
         valid = valid;
         in_order = in_order;
         same_pairs = λ keys values. entries_from_clone IsKeyClone IsValueClone keys values m.pairs left.pairs

@@ -142,16 +142,19 @@ ExtendsWith-shown {eq = eq} {old} {new} shows items are pairs capacity rechained
       valid = valid;
     })
 
--- a map without pairs has none to visit, and neither has it once items went in
+-- a map without pairs has none to visit
+pub to_visit-none : {K V S : Type 0} (m : LinkedMap K V S) → m.pairs ≡ [] → to_visit m ≡ []
+to_visit-none m none =
+    ap (λ pairs. take m.cursor.unvisited (drop m.cursor.bookmark (keys_of pairs))) none
+    ∙ ap (take m.cursor.unvisited) (drop-nil m.cursor.bookmark) ∙ take-nil m.cursor.unvisited
+
+-- and neither has it once items went in
 pub to_visit-LeavesVisit : {K V S : Type 0} {old new : LinkedMap K V S} {n : ℕ} → old.pairs ≡ []
     → length new.pairs ≤ length old.pairs + n → LeavesVisit n old new → to_visit new ≡ []
 to_visit-LeavesVisit {old = old} {new} {n} none most visit = by_length (eq-or-lt_of_le most)
   where
     by_length : (length new.pairs ≡ length old.pairs + n) ⊎ (length new.pairs < length old.pairs + n) → to_visit new ≡ []
-    by_length (inl longer) =
-        visit.stands longer
-        ∙ ap (λ pairs. take old.cursor.unvisited (drop old.cursor.bookmark (keys_of pairs))) none
-        ∙ ap (take old.cursor.unvisited) (drop-nil old.cursor.bookmark) ∙ take-nil old.cursor.unvisited
+    by_length (inl longer) = visit.stands longer ∙ to_visit-none old none
     by_length (inr shorter) = visit.ended shorter
 
 -- the items went into a new map

@@ -1,5 +1,5 @@
 -- The pair that an occupied entry stands for.
-use Rattle.std.proofs.Common.{◌≡◌, ◌<◌, Bool, true, List, length, slice_get, Some, is_some, option_map, sym, ap, ◌∙◌, subst}
+use Rattle.std.proofs.Common.{◌≡◌, ◌<◌, Bool, true, List, length, slice_get, Some, is_some, option_map, refl, sym, ap, ◌∙◌, subst}
 use Rattle.std.proofs.Math.Bridge.{le_prop}
 use Rattle.std.proofs.lemmas.Option.{slice_get-map}
 use Rattle.std.specs.Cmp.{IsEquivalence}
@@ -10,11 +10,13 @@ use Rattle.std.specs.declared.hash.BuildHasher as builder
 use Rattle.std.specs.List.{IsDistinct}
 use Rattle.std.specs.Map.{keys_of}
 use Rattle.lhm_ring.proofs.lists.Options.{Some-injective}
-use Rattle.linked_hash_map.specs.Pairs.{find, value_at}
+use Rattle.linked_hash_map.specs.Pairs.{find, value_at, set_value}
 use Rattle.linked_hash_map.specs.Indexes.{IsIndex, set_value_at}
 use Rattle.linked_hash_map.specs.Cursor.{IsOutside, IsOutside-prop}
 use Rattle.linked_hash_map.specs.Entry.{occupied_pair, occupied_key, with_occupied_value, occupied_value}
+use Rattle.linked_hash_map.specs.Updates.{Updates}
 use Rattle.linked_hash_map.specs.declared.entry.OccupiedEntry.{OccupiedEntry}
+use Rattle.linked_hash_map.proofs.Callers.Updates.{Updates-set_value}
 use Rattle.linked_hash_map.proofs.pairs.Indexes.{slice_get-pair_at, slice_get-set_value_at, is_some-at, value_at-slice_get}
 
 module _ {K V S H : Type 0} {g : eq.Ghosts K} {h : hash.Ghosts K} {b : builder.Ghosts S H}
@@ -73,3 +75,12 @@ value_at-occupied o {eq} laws distinct same =
     ap (λ ps. value_at eq ps (occupied_key o)) (sym same)
     ∙ value_at-slice_get laws (subst (λ ps. IsDistinct eq (keys_of ps)) (sym same) distinct) (IsIndex-occupied o laws)
     ∙ ap (option_map (λ pair. pair.1)) (slice_get-occupied o)
+
+-- and once a value is written there, that value
+pub Updates-occupied : {K V S H : Type 0} {g : eq.Ghosts K} {h : hash.Ghosts K}
+    {b : builder.Ghosts S H} {w : hasher.Ghosts H} (o : OccupiedEntry K V S H g h b w)
+    {eq : K → K → Bool} {pairs : List (K × V)} → IsEquivalence eq → o.map.now.pairs ≡ pairs → (v : V)
+    → Updates eq pairs (set_value eq pairs (occupied_key o) v) (occupied_key o) (Some v)
+Updates-occupied o {eq} {pairs} laws same v =
+    Updates-set_value laws pairs _ (occupied_key o)
+    (subst (λ ps. is_some (find eq ps (occupied_key o)) ≡ true) same (is_some-occupied o laws)) v refl

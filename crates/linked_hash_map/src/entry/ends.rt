@@ -1,9 +1,10 @@
 //! The entries of the pairs at the ends.
-ghost use Rattle.std.specs.Prelude.{◌≡◌, option_map, IfSome};
+ghost use Rattle.std.specs.Prelude.{◌≡◌, option_map, Some, None, IfSome};
 ghost use Rattle.std.specs.Borrow.{sem};
-ghost use Rattle.linked_hash_map.specs.Pairs.{first, last};
+ghost use Rattle.linked_hash_map.specs.Pairs.{first, last, without, set_value};
 ghost use Rattle.linked_hash_map.specs.Cursor.{without_cursor};
 ghost use Rattle.linked_hash_map.specs.Changes.{Keeps};
+ghost use Rattle.linked_hash_map.specs.Updates.{Updates};
 ghost use Rattle.linked_hash_map.specs.Validity.{IsValid};
 ghost use Rattle.linked_hash_map.specs.Entry.{occupied_map_ref, occupied_map, occupied_key, occupied_value};
 ghost use Rattle.linked_hash_map.specs.CursorLends.{lends_next_entry};
@@ -38,6 +39,12 @@ impl<K: Eq + Hash, V, S: BuildHasher> LinkedHashMap<K, V, S> {
         ensures ends_visit { IfSome result (λ entry.
             occupied_map entry ≡ without_cursor self.old) }
         ensures valid { IsValid K.eq self.old }
+
+        // Laws of the map once the entry writes or removes its value, for the proofs of callers.
+        ensures updates { (v : V) → IfSome result (λ entry. Updates K.eq self.old.pairs
+            (set_value K.eq self.old.pairs (occupied_key entry) v) (occupied_key entry) (Some v)) }
+        ensures removes { IfSome result (λ entry. Updates K.eq self.old.pairs
+            (without K.eq self.old.pairs (occupied_key entry)) (occupied_key entry) None) }
     {
         if self.seek_front() {
             Some(OccupiedEntry { map: self })
@@ -71,6 +78,12 @@ impl<K: Eq + Hash, V, S: BuildHasher> LinkedHashMap<K, V, S> {
         ensures ends_visit { IfSome result (λ entry.
             occupied_map entry ≡ without_cursor self.old) }
         ensures valid { IsValid K.eq self.old }
+
+        // Laws of the map once the entry writes or removes its value, for the proofs of callers.
+        ensures updates { (v : V) → IfSome result (λ entry. Updates K.eq self.old.pairs
+            (set_value K.eq self.old.pairs (occupied_key entry) v) (occupied_key entry) (Some v)) }
+        ensures removes { IfSome result (λ entry. Updates K.eq self.old.pairs
+            (without K.eq self.old.pairs (occupied_key entry)) (occupied_key entry) None) }
     {
         if self.seek_back() {
             Some(OccupiedEntry { map: self })

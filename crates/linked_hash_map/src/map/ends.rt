@@ -45,7 +45,7 @@ impl<K: Eq + Hash, V, S: BuildHasher> LinkedHashMap<K, V, S> {
         ensures ends_visit { OnOk result (to_visit self.new ≡ []) }
         ensures valid { IsValid K.eq self.old }
         ensures stays_valid { IsValid K.eq self.new }
-        // Consequences of `pairs`, for the proofs of callers.
+        // Consequences of `pairs` and `capacity`, for the proofs of callers.
         ensures updates { OnOk result
             (Updates K.eq self.old.pairs self.new.pairs key (Some value)) }
         ensures first { OnOk result (self.old.mode ≡ Mode.Touch → first self.new.pairs
@@ -56,6 +56,8 @@ impl<K: Eq + Hash, V, S: BuildHasher> LinkedHashMap<K, V, S> {
             → length self.new.pairs ≡ length self.old.pairs + 1) }
         ensures as_many { OnOk result (IsSome (value_at K.eq self.old.pairs key)
             → length self.new.pairs ≡ length self.old.pairs) }
+        ensures same_room { OnOk result ((find K.eq self.old.pairs key ≡ None
+            → length self.old.pairs < self.old.capacity) → self.new.capacity ≡ self.old.capacity) }
 
         ensures key_back { IfErr result (λ refused. refused.key ≡ key) }
         ensures value_back { IfErr result (λ refused. refused.value ≡ value) }

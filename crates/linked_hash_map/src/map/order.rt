@@ -1,6 +1,6 @@
 //! The order of the pairs: moves to the ends, rotation and the reverse.
 ghost use Rattle.std.specs.Prelude.{◌≡◌, ◌≤◌, ◌++◌, [], length, take, drop, reverse, is_some, IsTrue, IsFalse};
-ghost use Rattle.linked_hash_map.specs.Pairs.{first, find, to_back_as_is, to_front};
+ghost use Rattle.linked_hash_map.specs.Pairs.{first, last, find, to_back_as_is, to_front};
 ghost use Rattle.linked_hash_map.specs.Cursor.{to_visit};
 ghost use Rattle.linked_hash_map.specs.Changes.{Keeps};
 ghost use Rattle.linked_hash_map.specs.Validity.{IsValid};
@@ -35,6 +35,8 @@ impl<K: Eq + Hash, V, S: BuildHasher> LinkedHashMap<K, V, S> {
         ensures stays_valid { IsValid K.eq self.new }
         // Consequences of `pairs`, for the proofs of callers.
         ensures len { length self.new.pairs ≡ length self.old.pairs }
+        ensures last { IsTrue result
+            → last self.new.pairs ≡ find Q.equivalent self.old.pairs key }
         ensures finds { (q : K) → find K.eq self.new.pairs q ≡ find K.eq self.old.pairs q }
     {
         let (_, found) = locate(&self.table, &self.hasher, key);

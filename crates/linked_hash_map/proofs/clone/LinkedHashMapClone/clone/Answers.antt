@@ -21,7 +21,7 @@ loop-key-preserved-in-Ok-insert g c =
     let put = c.in-Ok-insert.ensures in
     record {
       cloned = HasCloned-put c.loop-key.invariant.cloned c.in-Some.ensures.steps c.in_ok-key.ensures.cases c.in_ok-clone.ensures.cases
-          put.pairs put.capacity put.rechained put.settings;
+          put.pairs put.capacity put.rechained put.settings c.in-Ok-insert._old put.ends_visit put.to_visit;
       valid = put.stays_valid;
     }
 
@@ -30,7 +30,7 @@ loop-key-preserved g c =
     let put = c.in-Ok-insert.ensures in
     record {
       cloned = HasCloned-put c.loop-key.invariant.cloned c.in-Some.ensures.steps c.in_ok-key.ensures.cases c.in_ok-clone.ensures.cases
-          put.pairs put.capacity put.rechained put.settings;
+          put.pairs put.capacity put.rechained put.settings c.in-Ok-insert._old put.ends_visit put.to_visit;
       valid = put.stays_valid;
     }
 

@@ -1,6 +1,7 @@
 use Rattle.std.proofs.Common.{slice_get, refl, sym, ap, ◌∙◌}
 use Rattle.linked_hash_map.specs.LinkedMap.{nowhere, cursor_state}
-use Rattle.linked_hash_map.proofs.pairs.OccupiedEntries.{slice_get-occupied}
+use Rattle.linked_hash_map.proofs.Callers.Updates.{Updates-without}
+use Rattle.linked_hash_map.proofs.pairs.OccupiedEntries.{slice_get-occupied, Updates-occupied}
 use Rattle.linked_hash_map.proofs.map.LinkedHashMap.front_entry.Goals as goal
 
 pub returns-then-seek_front : goal.returns-then-seek_front
@@ -23,5 +24,7 @@ returns-then-seek_front g c =
             (λ i. record c.seek_front.new.self { cursor = cursor_state (seek.bookmark refl i) (seek.visited refl i) nowhere })
             ∙ same;
         valid = seek.valid;
+        updates = λ v. Updates-occupied _ g.met.K.Eq.laws (ap (λ m. m.pairs) same) v;
+        removes = Updates-without g.met.K.Eq.laws c.args.self.now.pairs _ _ refl;
       },
     )

@@ -20,3 +20,9 @@ returns-in-Ok-Some-clause-first g c = first-put_front g.K.PartialEq.eq c.args.se
 
 pub returns-in-Ok-None-clause-updates : goal.returns-in-Ok-None-clause-updates
 returns-in-Ok-None-clause-updates g c = Updates-reordered c.last_to_front.ensures.finds c.in-Ok-None.ensures.updates
+
+pub returns-in-Ok-Some-clause-same_room : goal.returns-in-Ok-Some-clause-same_room
+returns-in-Ok-Some-clause-same_room g c = λ room. c.touch_front.ensures.keeps.capacity ∙ c.in-Ok-Some.ensures.same_room room
+
+pub returns-in-Ok-None-clause-same_room : goal.returns-in-Ok-None-clause-same_room
+returns-in-Ok-None-clause-same_room g c = λ room. c.last_to_front.ensures.keeps.capacity ∙ c.in-Ok-None.ensures.same_room room

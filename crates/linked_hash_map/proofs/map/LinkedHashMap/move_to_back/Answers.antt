@@ -1,7 +1,8 @@
 use Rattle.std.proofs.Common.{rules, ◌≡◌, ◌++◌, Bool, filter, not, option_to_list, is_some, refl, sym, ap, ◌∙◌}
 use Rattle.std.specs.Map.{lookup_entry}
 use Rattle.linked_hash_map.specs.Nodes.{pairs_of}
-use Rattle.linked_hash_map.specs.Pairs.{find, to_back_as_is}
+use Rattle.linked_hash_map.specs.Pairs.{last, find, to_back_as_is}
+use Rattle.linked_hash_map.proofs.Callers.Ends.{last-to_back_as_is}
 use Rattle.linked_hash_map.proofs.Callers.Moves.{find-to_back_as_is, to_back_as_is-absent}
 use Rattle.linked_hash_map.proofs.lists.Options.{of-Some, of-None}
 use Rattle.linked_hash_map.proofs.nodes.FoundKeys.{index_of-HasKey, IsIndex-index_of}
@@ -41,11 +42,14 @@ invariant_of-self g c = IsKept-back _ _ (held g c) g.met.K.Eq.laws c.self.invari
 pub returns-in-Some : goal.returns-in-Some
 returns-in-Some g c =
     let hs = c.self.inside.table.held in let laws = g.met.K.Eq.laws in
+    let found = ap is_some (of-Some _ c.in-Some.is c.locate-found.ensures.found).pair in
+    let pairs = moved g c ∙ ap (λ (test : g.row.K.Denot → Bool). filter (λ pair. not (test pair.0)) (pairs_of hs)
+    ++ option_to_list (lookup_entry test (pairs_of hs)))
+    (eq-stored laws (g.met.Q.Equivalent.respects_eq c.args.key) (has g c)) in
     rw (← c.self.view_is) (record {
-      found = sym (ap is_some (of-Some _ c.in-Some.is c.locate-found.ensures.found).pair);
-      pairs = moved g c ∙ ap (λ (test : g.row.K.Denot → Bool). filter (λ pair. not (test pair.0)) (pairs_of hs)
-          ++ option_to_list (lookup_entry test (pairs_of hs)))
-          (eq-stored laws (g.met.Q.Equivalent.respects_eq c.args.key) (has g c));
+      found = sym found;
+      pairs = pairs;
+      last = λ yes. ap last pairs ∙ last-to_back_as_is g.Q.Equivalent.equivalent (pairs_of hs) c.args.key found;
       keeps = search rules;
       ends_visit = search rules;
       unchanged = search rules;
