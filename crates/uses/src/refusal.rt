@@ -1,6 +1,7 @@
 //! Calls that are refused if an allocation fails, and what a caller does then.
-ghost use Rattle.std.specs.Prelude.{◌≡◌, ◌<◌, [], ◌∷◌, ◌++◌, None, length, IsSome, IsNone, IsErr, IfErr, OnOk, OnErr};
-ghost use Rattle.linked_hash_map.specs.Pairs.{find, put, first, without_first};
+ghost use Rattle.std.specs.Prelude.{◌≡◌, ◌<◌, [], ◌∷◌, ◌++◌, None, length, IsSome, IsNone, IsErr, IfOk, IfErr, OnOk, OnErr};
+ghost use Rattle.std.specs.Option.{UnwrapsOrElse};
+ghost use Rattle.linked_hash_map.specs.Pairs.{find, value_at, put, first, without_first};
 ghost use Rattle.linked_hash_map.specs.Validity.{IsValid};
 
 use linked_hash_map::{LIMIT, LinkedHashMap, Refused};
@@ -53,4 +54,19 @@ pub fn insert_if_new<K: Eq + Hash + Drop, V: Drop, S: BuildHasher>(
 {
     map.entry(key).or_insert(value)?;
     Ok(())
+}
+
+/// Returns a copy of the value of a key. A new key is inserted with the default, which comes back
+/// if it is refused.
+pub fn value_or_default<K: Eq + Hash + Drop, V: Default + Copy, S: BuildHasher>(
+    map: &mut LinkedHashMap<K, V, S>,
+    key: K,
+) -> Result<V, Refused<K, V>>
+    ensures value { IfOk result
+        (UnwrapsOrElse (value_at K.eq map.old.pairs key) V.is_default) }
+    ensures handed_back { IfErr result (λ refused. V.is_default refused.value) }
+    ensures unchanged { OnErr result (map.new ≡ map.old) }
+{
+    let lent = map.entry(key).or_default()?;
+    Ok(*lent)
 }
