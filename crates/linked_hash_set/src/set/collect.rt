@@ -1,6 +1,6 @@
 //! Sets filled from an iterator, and made by generic code.
 
-ghost use Rattle.std.specs.Prelude.{◌≡◌, [], List, false, length, max, IfOk, IfErr, OnOk, OnErr};
+ghost use Rattle.std.specs.Prelude.{◌≡◌, [], false, length, max, IfOk, IfErr, OnOk, OnErr};
 ghost use Rattle.std.specs.Iterator.{IsFiniteIterable};
 ghost use Rattle.linked_hash_set.specs.Inserts.{InsertsAll, InsertsUntil, GivesThenNew, CollectsInto, IsNew, IsNewDefault};
 ghost use Rattle.linked_hash_set.specs.Items.{contains};

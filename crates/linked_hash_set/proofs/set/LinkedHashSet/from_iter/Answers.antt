@@ -11,7 +11,6 @@ returns-in-Err-clause-stopped g c =
       given = until.given;
       gives = until.gives;
       absent = sym (contains-insert_each g.met.T.Eq.laws [] until.given item)
-          ∙ ap (λ items. contains eq (insert_each eq items until.given) item) {y = c.with_hasher-set.result.items}
-          (sym c.with_hasher-set.ensures.items)
-          ∙ ap (λ items. contains eq items item) {y = c.extend.new.self.items} (sym until.items) ∙ c.in-Err.ensures.absent;
+          ∙ ap (λ items. contains eq (insert_each eq items until.given) item) (sym c.with_hasher-set.ensures.items)
+          ∙ ap (λ items. contains eq items item) (sym until.items) ∙ c.in-Err.ensures.absent;
     }
