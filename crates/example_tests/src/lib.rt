@@ -1,5 +1,0 @@
-//! Each program of `uses`, run once.
-#![tactic(auto)]
-
-#[cfg(test)]
-mod tests;

@@ -1,6 +1,0 @@
-//! The programs of `uses`.
-
-mod caches;
-mod programs;
-mod replays;
-mod support;

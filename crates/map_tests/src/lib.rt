@@ -1,5 +1,0 @@
-//! Tests of the map, the cache and the set that are no lines of `driver`.
-#![tactic(auto)]
-
-#[cfg(test)]
-mod tests;

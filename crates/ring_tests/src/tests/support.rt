@@ -1,3 +1,0 @@
-//! What the modules of tests share.
-
-pub mod checks;

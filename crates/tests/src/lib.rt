@@ -1,0 +1,6 @@
+//! Tests of the ring, the map, the cache, the set and the programs of `uses` that are no lines of
+//! `driver`.
+#![tactic(auto)]
+
+#[cfg(test)]
+mod tests;

@@ -1,0 +1,52 @@
+//! What no line of `driver` can be: keys of other types, callers with contracts, signatures,
+//! writers that fail, maps of many pairs, the ring and its index (`index`, `nodes`, `refusals`,
+//! `rings`, `sorts`), and the programs of `uses` (`cache_programs`, `programs`, `replays`).
+
+mod absent_keys;
+mod borrowed;
+mod cache_programs;
+mod caches;
+mod calling;
+mod chains;
+mod compare;
+mod defaults;
+mod drains;
+mod entries;
+mod equivalents;
+mod failing_checks;
+mod formats;
+mod growths;
+mod index;
+mod nodes;
+mod programs;
+mod references;
+mod refusals;
+mod replays;
+mod rings;
+mod sets;
+mod signatures;
+mod sorts;
+mod support;
+mod writes;
+
+use linked_hash_map::LinkedHashMap;
+use std::alloc::Global;
+use std::process::Abort;
+use support::calls::insert_all;
+use support::checks::check_eq;
+
+/// Makes a map into which these pairs were inserted.
+fn map_of(rt: &impl Abort, alloc: Global, pairs: &[(u64, u64)]) -> LinkedHashMap<u64, u64> {
+    let mut map = LinkedHashMap::new(alloc);
+    insert_all(rt, &mut map, pairs);
+    map
+}
+
+/// Checks which pairs a map has, in order.
+fn assert_pairs(rt: &impl Abort, map: &LinkedHashMap<u64, u64>, expected: &[(u64, u64)]) {
+    check_eq!(rt; map.len(), expected.len());
+    let mut pairs = map.iter();
+    for (key, value) in expected {
+        check_eq!(rt; pairs.next(), Some((key, value)));
+    }
+}
