@@ -97,7 +97,7 @@ show_part builds '^programs: 4 built with no proof$'
 run_part model-tests scripts/model-tests --from "$work/built"
 show_part model-tests '^model-tests: [1-9].* requests refused: as the model has it$'
 run_part programs scripts/programs --from "$work/built"
-words=': 32 rows .* 5 inputs .* 40 res.* 20000 lines .* 200002 lines .* 16384 lines'
+words=': 32 rows .* 5 inputs .* 40 res.* 200002 lines .* 16384 lines'
 show_part programs "$words .* 3 pipes .* 3 arguments .* 27 workloads .* 131072 pairs"
 wait
 show_part refused-growths '^refused-growths: [1-9].* growths; leaks were looked for in each$'
