@@ -60,13 +60,3 @@ fn moves_what_is_held_into_as_many_nodes(rt: HostRuntime) {
     put(&rt, &mut ring, 6, 'd', 4);
     check!(rt; is_ring(&ring, &[(7, 'a', 1), (9, 'c', 3), (6, 'd', 4)], 0));
 }
-
-#[test]
-fn moves_nothing_where_nothing_is_held(rt: HostRuntime) {
-    let mut ring = with_spares(&rt, rt.alloc(), 2);
-    check_eq!(rt; ring.compact(), Ok(()));
-    check!(rt; is_ring(&ring, &[], 0));
-    check_eq!(rt; ring.grow(2), Ok(()));
-    put(&rt, &mut ring, 7, 'a', 1);
-    check!(rt; is_ring(&ring, &[(7, 'a', 1)], 1));
-}
