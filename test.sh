@@ -1,23 +1,26 @@
 #!/bin/sh
-# Passes every proof and test of the repository. Ends with a table of what each part took of a
-# processor, in seconds, and its result.
+# Passes every test and proof of the repository, and shows what each part took of a processor.
 #
-# The parts are the scripts in scripts/, each of which runs by itself too, their self-tests, and the
-# gate, `rt ci`. A part fails too if no line of it has its words. What needs no proof runs beside
-# the gate. RT_CI is empty, or `--anew` for `rt ci` to prove all once more. The last line is that of
-# the gate, or says what failed.
+# usage: ./test.sh [--unproved]
+#
+# First comes all that needs no proof, in minutes: with --unproved that is all. Then `rt ci`, the
+# gate, and the wrong bodies that the prover tries. The parts are the scripts in scripts/, each of
+# which runs by itself too, and their self-tests. A part fails too if no line of it has its words.
+# RT_CI is empty, or `--anew` for `rt ci` to prove all once more. The last line is that of the gate,
+# or says what failed, or that nothing is proved yet.
 set -u
 cd "$(dirname "$0")" || exit 2
-case ${RT_CI:-} in
-'' | --anew) ;;
+case "$*:${RT_CI:-}" in
+: | :--anew | --unproved:) ;;
 *)
-    echo "RT_CI is '$RT_CI', and not empty or --anew"
+    echo "usage: ./test.sh [--unproved]; RT_CI is empty, or --anew without --unproved"
     exit 2
     ;;
 esac
 work=$(mktemp -d) || exit 2
 trap 'rm -rf "$work"' EXIT
-failed=
+mkdir "$work/built"
+passed=0 failed=
 
 # Runs a part, with what it says in a file, and notes how it ended and what it took.
 run_part() (
@@ -40,7 +43,7 @@ judge_part() {
     result=passed
     grep -q "$2" "$work/$1" || result="FAILED: no line has '$2'"
     [ "$(cat "$work/$1.status")" = 0 ] || result=FAILED
-    [ "$result" = passed ] || failed="$failed $1"
+    [ "$result" = passed ] && passed=$((passed + 1)) || failed="$failed $1"
     printf '%7s  %-26s  %s\n' "$(seconds_of "$1")" "$1" "$result" >>"$work/table"
 }
 
@@ -50,14 +53,21 @@ show_part() {
     judge_part "$@"
 }
 
+# Shows the table.
+show_table() {
+    cat "$work/table"
+    awk '{ sum += $1 } END { printf "%7d  in all, or %.0f minutes\n", sum, sum / 60 }' "$work/table"
+}
+
 # Shows the table, and ends if a part failed.
 end_if_failed() {
     [ -n "$failed" ] || return 0
-    cat "$work/table"
+    show_table
     echo "FAILED:$failed"
     exit 1
 }
 
+ends='tries end as they must$'
 run_part documents scripts/documents
 show_part documents ': all as the sources have it$'
 run_part wrong-body-texts scripts/wrong-bodies --texts
@@ -71,19 +81,35 @@ show_part documents-self-test '^documents finds each planted fault$'
 run_part clauses-self-test scripts/clauses --self-test
 show_part clauses-self-test '^clauses finds each of [1-9][0-9]* changes$'
 run_part model-tests-self-test scripts/model-tests --self-test
-show_part model-tests-self-test '^model-tests: [1-9][0-9]* tries end as they must$'
+show_part model-tests-self-test "^model-tests: [1-9][0-9]* $ends"
 run_part refused-growths-self-test scripts/refused-growths --self-test
-show_part refused-growths-self-test '^refused-growths: [1-9][0-9]* tries end as they must$'
+show_part refused-growths-self-test "^refused-growths: [1-9][0-9]* $ends"
 run_part programs-self-test scripts/programs --self-test
-show_part programs-self-test '^programs: [1-9][0-9]* tries end as they must$'
+show_part programs-self-test "^programs: [1-9][0-9]* $ends"
 end_if_failed
 
-run_part refused-growths nice scripts/refused-growths &
-run_part wrong-bodies-self-test nice scripts/wrong-bodies --self-test &
-run_part doc-tests nice scripts/doc-tests &
-run_part doc-tests-self-test nice scripts/doc-tests --self-test &
-run_part vendor-self-test nice scripts/vendor --self-test &
+run_part refused-growths scripts/refused-growths &
+run_part doc-tests scripts/doc-tests &
+run_part doc-tests-self-test scripts/doc-tests --self-test &
+run_part vendor-self-test scripts/vendor --self-test &
+run_part builds scripts/programs --build "$work/built"
+show_part builds '^programs: 4 built with no proof$'
+run_part model-tests scripts/model-tests --from "$work/built"
+show_part model-tests '^model-tests: [1-9].* requests refused: as the model has it$'
+run_part programs scripts/programs --from "$work/built"
+words=': 32 rows .* 5 inputs .* 40 res.* 200002 lines .* 16384 lines'
+show_part programs "$words .* 3 pipes .* 3 arguments .* 27 workloads .* 131072 pairs"
+wait
+show_part refused-growths '^refused-growths: [1-9].* growths; leaks were looked for in each$'
+show_part doc-tests '^doc-tests: [2-9][0-9][0-9] examples of [1-9][0-9]* files passed, '
+show_part doc-tests-self-test '^doc-tests finds each of [1-9][0-9]* planted faults$'
+show_part vendor-self-test "^vendor: [1-9][0-9]* $ends"
+end_if_failed
+show_table
+echo "$passed passed, 0 failed; nothing is proved yet"
+[ "$*" != --unproved ] || exit 0
 
+run_part wrong-bodies-self-test nice scripts/wrong-bodies --self-test &
 echo "$(date +%H:%M) gate begins"
 (
     RT_JOBS=${RT_JOBS:-$(scripts/lanes)} rt ci ${RT_CI:-} 2>&1
@@ -92,22 +118,11 @@ echo "$(date +%H:%M) gate begins"
 ) | tee "$work/gate"
 wait
 judge_part gate "must-fail edits: $(ls crates/*/must-fail/*.edit | wc -l) refused; "
-show_part refused-growths '^refused-growths: [1-9].* growths; leaks were looked for in each$'
 show_part wrong-bodies-self-test '^wrong-bodies passes good files, and fails on each of [1-9]'
-show_part doc-tests '^doc-tests: [2-9][0-9][0-9] examples of [1-9][0-9]* files passed, '
-show_part doc-tests-self-test '^doc-tests finds each of [1-9][0-9]* planted faults$'
-show_part vendor-self-test '^vendor: [1-9][0-9]* tries end as they must$'
 end_if_failed
-
 run_part wrong-bodies-gate scripts/wrong-bodies --gate
 crates='dedup_lines lhm_commands linked_hash_map linked_hash_set lru_cache'
 show_part wrong-bodies-gate "^wrong-bodies --gate: [2-9][0-9] bodies of $crates: each is refused"
-run_part model-tests scripts/model-tests
-show_part model-tests '^model-tests: [1-9].* requests refused: as the model has it$'
-run_part programs scripts/programs
-words=': 32 rows .* 5 inputs .* 40 res.* 20000 lines .* 200002 lines .* 16384 lines'
-show_part programs "$words .* 3 pipes .* 3 arguments .* 27 workloads .* 131072 pairs, .* 250 turns .* 6144 KiB, and not in 2144"
 end_if_failed
-cat "$work/table"
-awk '{ sum += $1 } END { printf "%7d  in all, or %.0f minutes\n", sum, sum / 60 }' "$work/table"
+show_table
 tail -n 1 "$work/gate"

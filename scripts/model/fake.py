@@ -25,7 +25,6 @@ entry b k1 r 0
 """
 AT, FOUND = "remove b k2", "get a xerox"
 CALLS_TXT = """# A comment.
-LinkedHashMap::insert: insert MAP KEY VALUE
 OccupiedEntry::remove: entry r
 Refused::fmt: none: a text
 """

@@ -3,7 +3,12 @@
 A line of the list is `CALL: NAME, NAME ..`. A name is the first word of a line of the driver, and
 maybe one of its edits, commands or modes behind it, as `entry r`, the call of a fill, as
 `fill extend`, or `forget`; words in capitals say nothing. Of a call that no line makes it is
-`CALL: none: REASON`."""
+`CALL: none: REASON`. A call whose line has its name, behind what PREFIXES has for its type, is not
+listed."""
+
+# What the names of the lines of a type's calls begin with.
+PREFIXES = {"LinkedHashMap": "", "Entry": "", "LruCache": "cache_", "LinkedHashSet": "set_",
+            "Sessions": "sessions_"}
 
 # The lines of which the edits of entries matter, and which word has them.
 EDITED = {"entry": 3, "entries": 2, "next_entry": 2}
@@ -59,8 +64,14 @@ def entries_of(text):
     return entries
 
 
+def name_by_call(call):
+    """Returns the name of the line that makes a call if no entry says otherwise, or None."""
+    owner, _, name = call.rpartition("::")
+    return PREFIXES[owner] + name if owner in PREFIXES else None
+
+
 class List:
-    """The text of the list, and the public calls that have to be in it."""
+    """The text of the list, and the public calls."""
 
     def __init__(self, text, calls):
         self.entries = entries_of(text)
@@ -69,7 +80,10 @@ class List:
     def faults(self, made):
         """Returns what is wrong with the list if lines of these names are made."""
         listed = [call for call, _ in self.entries]
-        faults = [f"no entry for {call}" for call in sorted(self.calls.difference(listed))]
+        faults = [f"no entry for {call}" for call in sorted(self.calls.difference(listed))
+                  if name_by_call(call) not in made]
+        faults += [f"{call} needs no entry" for call, names in self.entries
+                   if names == [name_by_call(call)]]
         faults += [f"two entries for {call}" for call in set(listed) if listed.count(call) > 1]
         faults += [f"there is no public call {call}" for call in listed if call not in self.calls]
         faults += [f"no line `{name}` is made, which {call} names"

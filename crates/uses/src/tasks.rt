@@ -1,7 +1,7 @@
 //! Tasks in the order in which they came, from which those that are done leave.
-ghost use Rattle.std.specs.Prelude.{◌≡◌, [], false, filter, nat_eq, nat_lt, not, true, IfOk, IfErr, IfSome, OnOk, OnErr};
+ghost use Rattle.std.specs.Prelude.{◌≡◌, ◌/◌, [], false, filter, nat_eq, nat_lt, not, true, IfOk, IfErr, IfSome, OnOk, OnErr};
 ghost use Rattle.std.specs.List.{IsDistinct};
-ghost use Rattle.std.specs.List.Sorted.{IsPermutation, IsSorted, IsSortedBy};
+ghost use Rattle.std.specs.List.Sorted.{IsNonDecreasingBy, IsPermutation, IsSorted};
 ghost use Rattle.linked_hash_map.specs.Pairs.{first, without_first};
 ghost use Rattle.linked_hash_set.specs.Items.{contains, push_if_absent, without};
 
@@ -91,6 +91,17 @@ impl<T: Eq + Hash> Tasks<T> {
     {
         self.open.sort();
     }
+
+    /// Sorts the tasks, the greatest first.
+    pub fn sort_latest_first(&mut self)
+    where
+        T: Ord,
+        ensures sorted { IsSorted (λ task other. T.cmp other task) self.new.open.items }
+        ensures same { IsPermutation self.old.open.items self.new.open.items }
+        ensures distinct { IsDistinct T.eq self.new.open.items }
+    {
+        self.open.sort_by(|task, other| other.cmp(task));
+    }
 }
 
 /// Removes the tasks whose number is `first` or above. The others keep their order.
@@ -102,11 +113,14 @@ pub fn cancel_from(tasks: &mut Tasks<u64>, first: u64)
     tasks.open.retain(|task| *task < first);
 }
 
-/// Sorts the tasks by their numbers, the greatest first.
-pub fn sort_latest_first(tasks: &mut Tasks<u64>)
-    ensures sorted { IsSortedBy (λ task other. nat_lt other task) tasks.new.open.items }
+/// Sorts the tasks by their groups: a task's group is its number without the last two digits. Tasks
+/// of one group keep their order.
+pub fn sort_by_group(tasks: &mut Tasks<u64>)
+    ensures sorted { IsNonDecreasingBy (λ task. task / 100) tasks.new.open.items }
     ensures same { IsPermutation tasks.old.open.items tasks.new.open.items }
     ensures distinct { IsDistinct nat_eq tasks.new.open.items }
 {
-    tasks.open.sort_by(|task, other| other.cmp(task));
+    tasks
+        .open
+        .sort_by(|task, other| (*task / 100).cmp(&(*other / 100)));
 }
