@@ -1,6 +1,6 @@
 //! What no line of `driver` can be: keys of other types, callers with contracts, signatures,
-//! writers that fail, maps of many pairs, the ring and its index (`index`, `nodes`, `refusals`,
-//! `rings`, `sorts`), and the programs of `uses` (`cache_programs`, `programs`, `replays`).
+//! writers that fail, maps of many pairs, the ring and its table (`nodes`, `refusals`, `rings`,
+//! `sorts`), and the programs of `uses` (`cache_programs`, `programs`, `replays`).
 
 mod absent_keys;
 mod borrowed;
@@ -16,7 +16,6 @@ mod equivalents;
 mod failing_checks;
 mod formats;
 mod growths;
-mod index;
 mod nodes;
 mod programs;
 mod references;
@@ -27,7 +26,6 @@ mod sets;
 mod signatures;
 mod sorts;
 mod support;
-mod writes;
 
 use linked_hash_map::LinkedHashMap;
 use std::alloc::Global;

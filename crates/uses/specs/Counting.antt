@@ -1,11 +1,19 @@
 -- Counts.
-use Rattle.std.specs.Prelude.{◌≡◌, ℕ, ◌==◌, ◌∷◌, [], ◌++◌, not, fold, unwrap_or, if◌then◌else◌, Bool, List}
+use Rattle.std.specs.Prelude.{◌≡◌, ℕ, ◌==◌, ◌+◌, ◌-◌, ◌^◌, ◌%◌, ◌∷◌, [], ◌++◌, min, not, fold, unwrap_or, if◌then◌else◌, Bool, List}
 use Rattle.std.specs.List.{count_by, list_any}
 use Rattle.linked_hash_map.specs.Pairs.{value_at}
 
 -- the count of a pair is not zero
 abbrev pub has_count : {K : Type 0} → K × ℕ → Bool
 has_count pair = not (pair.1 == 0)
+
+-- the count of a pair is even
+abbrev pub is_even : {K : Type 0} → K × ℕ → Bool
+is_even pair = pair.1 % 2 == 0
+
+-- a task once it ran
+abbrev pub ran : ℕ × ℕ → ℕ × ℕ
+ran task = (task.0, min (task.1 + 1) (2 ^ 64 - 1))
 
 module _ {K : Type 0} (eq : K → K → Bool) where
   -- each word has as its count how often it comes among the words, which is 0 if it has none

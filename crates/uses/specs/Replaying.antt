@@ -9,10 +9,13 @@ use Rattle.linked_hash_map.specs.Run.{first_log, last_log}
 use Rattle.linked_hash_map.specs.declared.replay.Command.{Command}
 use Rattle.linked_hash_map.specs.declared.replay.Reply.{Reply}
 
+-- no reply is a refusal
+abbrev pub NoneIsRefusal : {K V : Type 0} → List (Reply K V) → Type 0
+NoneIsRefusal replies = IsFalse (list_any (λ reply. is_refusal reply.answer) replies)
+
 -- a run gave replies, and none is a refusal
 abbrev pub RefusesNothing : {K V E : Type 0} → Result (Vec (Reply K V)) E → Type 0
-RefusesNothing run =
-    IsOkAnd run (λ replies. IsFalse (list_any (λ reply. is_refusal reply.answer) replies.items))
+RefusesNothing run = IsOkAnd run (λ replies. NoneIsRefusal replies.items)
 
 -- two runs gave replies, and these are refusals in the same places: an extension is refused in both
 -- after the same number of pairs

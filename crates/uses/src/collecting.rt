@@ -119,3 +119,14 @@ pub fn collect_all<K: Eq + Hash + Drop, V: Drop, S: BuildHasher + Default + Drop
     let map = LinkedHashMap::from_iter(alloc, list)?;
     Ok(map)
 }
+
+/// Makes a map of the pairs of a list. A key may come more than once: its last value counts.
+pub fn from_list<K: Eq + Hash + Drop, V: Drop, S: BuildHasher + Default + Drop>(
+    alloc: Global,
+    list: Vec<(K, V)>,
+) -> Result<LinkedHashMap<K, V, S>, ReserveError>
+    ensures { IfOk result (λ map. map.pairs ≡ insert_each K.eq Mode.Touch [] list.items) }
+{
+    let made = LinkedHashMap::from_iter(alloc, list)?;
+    Ok(made)
+}

@@ -1,5 +1,5 @@
 //! Names and their numbers.
-ghost use Rattle.std.specs.Prelude.{◌≡◌, ◌<◌, ℕ, ◌∷◌, [], ◌++◌, Some, None, length, option_copied, slice_get, IfOk, IfErr, OnOk, OnErr};
+ghost use Rattle.std.specs.Prelude.{◌≡◌, ◌<◌, ℕ, ◌∷◌, [], ◌++◌, Some, None, IsTrue, length, option_copied, slice_get, IfOk, IfErr, OnOk, OnErr};
 ghost use Rattle.std.specs.List.{range_with_len};
 ghost use Rattle.std.specs.Map.{keys_of, values_of};
 ghost use Rattle.linked_hash_map.specs.Pairs.{value_at};
@@ -26,9 +26,9 @@ impl<K: Eq + Hash> Interner<K> {
         }
     }
 
-    /// Returns the number of a name. A name that has none gets the next one, which is how many
-    /// names there are, or is handed back if an allocation fails.
-    #[tactic(auto, using(linked_hash_map::proofs::Callers::Rules::dense_below))]
+    /// Returns the number of a name, which no other name has. A name that has none gets the next
+    /// one, which is how many names there are, or is handed back if an allocation fails.
+    #[tactic(auto, using(linked_hash_map::proofs::Callers::Rules::dense_below, linked_hash_map::proofs::Callers::Rules::dense_apart))]
     pub fn intern(&mut self, name: K) -> Result<usize, Refused<K, usize>>
     where
         K: Drop,
@@ -41,6 +41,8 @@ impl<K: Eq + Hash> Interner<K> {
             (value_at K.eq self.old.names.pairs name ≡ None
             → self.new.names.pairs
             ≡ self.old.names.pairs ++ (name, length self.old.names.pairs) ∷ []) }
+        ensures one_name { IfOk result (λ number. (other : K)
+            → value_at K.eq self.new.names.pairs other ≡ Some number → IsTrue (K.eq name other)) }
         ensures below { IfOk result (λ number. number < length self.new.names.pairs) }
 
         ensures handed_back { IfErr result (λ refused. refused.key ≡ name) }

@@ -3,9 +3,12 @@
 #![tactic(auto)]
 
 pub mod cache;
+pub mod clocks;
 pub mod collecting;
 pub mod count;
 pub mod document;
+#[tactic(auto, using(linked_hash_map::proofs::Callers::Groups::groups))]
+pub mod groups;
 pub mod hasher;
 pub mod interner;
 pub mod listing;
@@ -15,6 +18,7 @@ pub mod memory;
 pub mod modes;
 pub mod numbered;
 pub mod pages;
+pub mod parsed;
 pub mod places;
 pub mod playlist;
 pub mod prices;
@@ -25,6 +29,11 @@ pub mod refusal;
 pub mod replaying;
 pub mod retains;
 pub mod route;
+pub mod scheduler;
+#[tactic(auto, using(linked_hash_set::proofs::Callers::Rules::set_operations))]
+pub mod seen;
+#[tactic(auto, using(linked_hash_map::proofs::Callers::Rules::moved_to_front))]
+pub mod switcher;
 pub mod tasks;
 pub mod text;
 pub mod window;

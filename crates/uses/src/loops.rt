@@ -1,9 +1,9 @@
 //! Loops over a map, of every kind.
-ghost use Rattle.std.specs.Prelude.{◌≡◌, ◌^◌, ◌<◌, ◌+◌, [], ◌∷◌, ◌++◌, None, cond, sum, length, map, reverse, take, filter, slice_get, nat_eq, IsTrue, IsFalse, IfSome, IfOk};
+ghost use Rattle.std.specs.Prelude.{◌≡◌, ◌^◌, ◌*◌, ◌<◌, ◌+◌, ℕ, [], ◌∷◌, ◌++◌, None, cond, sum, length, map, reverse, take, filter, slice_get, nat_eq, IsTrue, IsFalse, IfSome, IfOk};
 ghost use Rattle.std.specs.Map.{keys_of, values_of};
 ghost use Rattle.linked_hash_map.specs.Cursor.{to_visit};
 ghost use Rattle.linked_hash_map.specs.Pairs.{first, value_at};
-ghost use Rattle.uses.specs.Counting.{has_count};
+ghost use Rattle.uses.specs.Counting.{has_count, is_even};
 
 use linked_hash_map::{Entry, LinkedHashMap, Mode};
 use std::alloc::{AllocError, Global};
@@ -113,6 +113,27 @@ pub fn take_out_zeros<K: Eq + Hash + Drop, S: BuildHasher>(
         }
     }
     taken
+}
+
+/// Takes out each pair whose value is odd, and doubles the values of the others: a loop over a visit
+/// that writes. They keep their order.
+pub fn double_even<K: Eq + Hash + Drop, S: BuildHasher>(numbers: &mut LinkedHashMap<K, u64, S>)
+    requires fits { (index : ℕ) → IfSome (slice_get numbers.old.pairs index)
+        (λ pair. pair.1 < 2 ^ 63) }
+    ensures pairs { numbers.new.pairs
+        ≡ map (λ pair. (pair.0, pair.1 * 2)) (filter is_even numbers.old.pairs) }
+{
+    let entries = numbers.visit();
+    while let Some(mut entry) = entries.next_entry() {
+        let number = *entry.get();
+        if number % 2 == 0 {
+            *entry.get_mut() = number * 2;
+            // The proof needs this read to know the value written.
+            let _ = entry.get();
+        } else {
+            entry.remove();
+        }
+    }
 }
 
 /// Returns the front key, by a cursor, which knows its first entry.

@@ -1,5 +1,7 @@
 //! Maps whose mode is set for a while.
-ghost use Rattle.std.specs.Prelude.{◌≡◌, IfOk, IfErr, OnOk, OnErr};
+ghost use Rattle.std.specs.Prelude.{◌≡◌, List, ℕ, nat_eq, IfOk, IfErr, OnOk, OnErr};
+ghost use Rattle.std.specs.List.{IsDistinct};
+ghost use Rattle.std.specs.Map.{keys_of};
 ghost use Rattle.linked_hash_map.specs.Pairs.{value_at, set_or_push};
 
 use linked_hash_map::{LinkedHashMap, Mode, Refused};
@@ -25,4 +27,25 @@ pub fn insert_in_place<K: Eq + Hash + Drop, V: Drop, S: BuildHasher>(
     let inserted = map.insert(key, value);
     map.set_mode(mode);
     inserted
+}
+
+/// Takes the last insertion in `Keep` back, which returned this old value: the pairs are exactly
+/// those before it.
+#[tactic(auto, using(linked_hash_map::proofs::Callers::NumberRules::undone))]
+pub fn take_back(map: &mut LinkedHashMap<u64, u64>, key: u64, replaced: Option<u64>)
+    ensures { (before : List (ℕ × ℕ)) (value : ℕ) → IsDistinct nat_eq (keys_of before)
+        → replaced ≡ value_at nat_eq before key
+        → map.old.pairs ≡ set_or_push nat_eq before key value
+        → map.new.pairs ≡ before }
+{
+    match replaced {
+        None => {
+            map.remove(&key);
+        }
+        Some(old) => {
+            if let Some(value) = map.get_mut(&key) {
+                *value = old;
+            }
+        }
+    }
 }

@@ -1,9 +1,9 @@
 //! What a map holds after commands that were replayed.
-ghost use Rattle.std.specs.Prelude.{◌≡◌, ◌∷◌, [], map, IsFalse, IfOk, OnOk, OnErr};
+ghost use Rattle.std.specs.Prelude.{◌≡◌, ◌+◌, ◌∷◌, [], length, map, IsFalse, IfOk, OnOk, OnErr};
 ghost use Rattle.std.specs.List.{list_any};
 ghost use Rattle.linked_hash_map.specs.Commands.{pairs_after_all, replies_to};
 ghost use Rattle.linked_hash_map.specs.LastUses.{sets_keep, pairs_by_use};
-ghost use Rattle.uses.specs.Replaying.{RefusesNothing, RefuseAlike, log_of};
+ghost use Rattle.uses.specs.Replaying.{NoneIsRefusal, RefusesNothing, RefuseAlike, log_of};
 
 use linked_hash_map::LinkedHashMap;
 use linked_hash_map::replay::{Command, Reply, replay};
@@ -33,6 +33,26 @@ pub fn write_refresh_remove<K: Eq + Hash + Drop, V: Drop, S: BuildHasher>(
     commands.push_reserved(Command::Remove(gone));
     match replay(map, commands) {
         Ok(replies) => Ok(replies),
+        Err(_commands) => Err(AllocError),
+    }
+}
+
+/// Inserts two pairs by `replay` and returns the replies. If the map has two pairs more then, none
+/// is a refusal.
+pub fn insert_two<K: Eq + Hash + Drop, V: Drop, S: BuildHasher>(
+    alloc: Global,
+    map: &mut LinkedHashMap<K, V, S>,
+    one: (K, V),
+    other: (K, V),
+) -> Result<Vec<Reply<K, V>>, AllocError>
+    ensures { IfOk result (λ replies. length map.new.pairs ≡ length map.old.pairs + 2
+        → NoneIsRefusal replies.items) }
+{
+    let mut commands = Vec::with_capacity(alloc, 2)?;
+    commands.push_reserved(Command::Insert(one.0, one.1));
+    commands.push_reserved(Command::Insert(other.0, other.1));
+    match replay(map, commands) {
+        Ok(given) => Ok(given),
         Err(_commands) => Err(AllocError),
     }
 }

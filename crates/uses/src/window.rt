@@ -2,7 +2,9 @@
 ghost use Rattle.std.specs.Prelude.{◌≡◌, ◌==◌, ◌<◌, ◌≤◌, ◌∷◌, [], ◌++◌, length, filter, not, nat_eq, IfOk, IfSome, IsSome, IsNone};
 ghost use Rattle.std.specs.Map.{keys_of};
 ghost use Rattle.std.specs.List.{IsDistinct};
+ghost use Rattle.linked_hash_map.specs.Pairs.{without};
 ghost use Rattle.linked_hash_map.specs.declared.map.Mode.{Mode};
+ghost use Rattle.lru_cache.specs.Cache.{newest};
 
 use linked_hash_map::{LinkedHashMap, ReserveError};
 use std::alloc::Global;
@@ -30,7 +32,7 @@ impl Window {
     }
 
     /// Sees a number, which never fails, and returns the number that leaves, if one does.
-    #[tactic(auto, using(linked_hash_map::proofs::Callers::Rules::number_keys))]
+    #[tactic(auto, using(linked_hash_map::proofs::Callers::Rules::number_keys, lru_cache::proofs::Callers::Rules::number_pairs))]
     pub fn see(&mut self, number: u64) -> Option<u64>
         ensures left { IfSome result (λ gone.
             gone ∷ keys_of self.new.seen.pairs
@@ -40,6 +42,8 @@ impl Window {
             → keys_of self.new.seen.pairs
             ≡ filter (λ other. not (number == other)) (keys_of self.old.seen.pairs)
             ++ number ∷ [] }
+        ensures pairs { self.new.seen.pairs ≡ newest self.old.size
+            (without nat_eq self.old.seen.pairs number ++ (number, tt) ∷ []) }
         ensures within { length self.new.seen.pairs ≤ self.old.size }
         ensures full { IsSome result → length self.new.seen.pairs ≡ self.old.size }
         ensures different { IsDistinct nat_eq (keys_of self.new.seen.pairs) }

@@ -4,44 +4,12 @@
 //! many it asks for, which is counted by hand. The last growth is one that the test asks for
 //! itself, behind the calls. So a growth whose refusal a call ignores is seen too.
 
+use super::references::say_if_given;
+use super::rings::is_ring;
 use super::support::checks::check;
 use lhm_ring::ring::Ring;
 use std::alloc::{AllocError, Global};
 use std::process::Abort;
-
-/// Asks for one growth more, the last, and says that none of a test's growths was refused, and how
-/// many there are with that one.
-fn say_given(rt: &(impl Print + AllocGlobal), growths: u64) {
-    say_if_given(rt, true, growths);
-}
-
-/// Does so if none was refused so far.
-fn say_if_given(rt: &(impl Print + AllocGlobal), given: bool, growths: u64) {
-    if given && is_given(rt.alloc()) {
-        let _ = println!(rt; "every growth was given, {growths} in all");
-    }
-}
-
-/// Asks for one growth, and tells whether it was given.
-fn is_given(alloc: Global) -> bool {
-    Box::new(alloc, 0).is_ok()
-}
-
-/// Tells whether a ring holds exactly these hashes, keys and values, in order, and has this many
-/// spare nodes.
-fn is_ring(ring: &Ring<char, u64>, triples: &[(u64, char, u64)], spares: usize) -> bool {
-    if ring.len() != triples.len() || ring.spares() != spares {
-        return false;
-    }
-    let mut held = ring.iter();
-    for triple in triples {
-        let (hash, key, value) = *triple;
-        if held.next() != Some((hash, &key, &value)) {
-            return false;
-        }
-    }
-    true
-}
 
 #[test]
 fn refused_growth_leaves_an_empty_ring(rt: HostRuntime) {
@@ -53,7 +21,7 @@ fn grow_empty(rt: &(impl Abort + Print + AllocGlobal), mut ring: Ring<char, u64>
     match ring.grow(3) {
         Ok(()) => {
             check!(rt; is_ring(&ring, &[], 3));
-            say_given(rt, 3);
+            say_if_given(rt, true, 3);
         }
         Err(AllocError) => check!(rt; is_ring(&ring, &[], 0)),
     }
@@ -77,7 +45,7 @@ fn grow_held(rt: &(impl Abort + Print + AllocGlobal), mut ring: Ring<char, u64>)
     match ring.grow(3) {
         Ok(()) => {
             check!(rt; is_ring(&ring, &[(7, 'a', 1)], 4));
-            say_given(rt, 4);
+            say_if_given(rt, true, 4);
         }
         Err(AllocError) => check!(rt; is_ring(&ring, &[(7, 'a', 1)], 1)),
     }
@@ -160,7 +128,7 @@ fn grow_again(rt: &(impl Abort + Print + AllocGlobal), alloc: Global) {
         check!(rt; ring.grow(1).is_ok());
         check!(rt; ring.grow_within(1, 4).is_ok());
         check!(rt; is_ring(&ring, &[(7, 'a', 1)], 2));
-        say_given(rt, 3);
+        say_if_given(rt, true, 3);
     }
 }
 
@@ -183,7 +151,7 @@ fn compact(rt: &(impl Abort + Print + AllocGlobal), mut ring: Ring<char, u64>) {
     match ring.compact() {
         Ok(()) => {
             check!(rt; is_ring(&ring, &[(7, 'a', 1), (9, 'b', 2)], 0));
-            say_given(rt, 4);
+            say_if_given(rt, true, 4);
         }
         Err(AllocError) => check!(rt; is_ring(&ring, &[(7, 'a', 1), (9, 'b', 2)], 1)),
     }

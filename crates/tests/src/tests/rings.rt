@@ -1,10 +1,10 @@
 //! The ring.
-ghost use Rattle.std.specs.Prelude.{◌≡◌, ◌+◌, [], ◌∷◌, ◌++◌, length, map, slice_get, None, Some, IfSome};
-ghost use Rattle.lhm_ring.specs.Ring.{IsHeld, AtHeld, held, triples, unvalued};
+ghost use Rattle.std.specs.Prelude.{◌≡◌, [], ◌∷◌, ◌++◌, map, None};
+ghost use Rattle.lhm_ring.specs.Ring.{IsHeld, AtHeld, held, unvalued};
 ghost use Rattle.lhm_ring.specs.Pointer.{pointer_of};
 
 use super::support::checks::{check, check_eq, given};
-use lhm_ring::ring::{Drain, Iter, IterMut, Link, Position, Ring};
+use lhm_ring::ring::{Drain, Iter, IterMut, Position, Ring};
 use std::alloc::{AllocError, Global};
 use std::iter::{DoubleEndedIterator, ExactSizeIterator, Iterator};
 use std::mem::forget;
@@ -73,80 +73,6 @@ fn follows_the_worked_row(rt: HostRuntime) {
     check!(rt; is_ring(&ring, &[], 0));
 }
 
-/// Returns the position of the second triple, if any.
-fn second(ring: &Ring<char, u64>) -> Option<Position<char, u64>>
-    ensures { IfSome result (λ at. IsHeld ring.now.held (pointer_of at)) }
-{
-    match ring.first() {
-        Some(at) => ring.next(at),
-        None => None,
-    }
-}
-
-/// Returns the position at an index below 3, if any.
-fn nth(ring: &Ring<char, u64>, index: usize) -> Option<Position<char, u64>>
-    ensures { IfSome result (λ at. IsHeld ring.now.held (pointer_of at)) }
-{
-    match (index, second(ring)) {
-        (0, _) => ring.first(),
-        (1, at) => at,
-        (2, Some(at)) => ring.next(at),
-        _ => None,
-    }
-}
-
-/// Returns the hashes of a ring as the digits of a number, front to back.
-fn forwards(ring: &Ring<char, u64>) -> u64 {
-    let mut digits: u64 = 0;
-    for (hash, _, _) in ring.iter() {
-        digits = digits.wrapping_mul(10).wrapping_add(hash);
-    }
-    digits
-}
-
-/// Returns them back to front.
-fn backwards(ring: &Ring<char, u64>) -> u64 {
-    let mut digits: u64 = 0;
-    let mut held = ring.iter();
-    for _ in 0..ring.len() {
-        if let Some((hash, _, _)) = held.next_back() {
-            digits = digits.wrapping_mul(10).wrapping_add(hash);
-        }
-    }
-    digits
-}
-
-/// Moves one of the triples 1, 2 and 3 before that at an index, or to the back, and reads them both
-/// ways.
-fn moved(rt: &impl Abort, alloc: Global, from: usize, to: usize) -> (u64, u64) {
-    let mut ring = with_spares(rt, alloc, 3);
-    put(rt, &mut ring, 1, 'a', 1);
-    put(rt, &mut ring, 2, 'b', 2);
-    put(rt, &mut ring, 3, 'c', 3);
-    let before = nth(&ring, to);
-    match nth(&ring, from) {
-        Some(at) => ring.move_before(at, before),
-        None => panic!(rt; "no such triple"),
-    }
-    (forwards(&ring), backwards(&ring))
-}
-
-#[test]
-fn moves_before_another_or_to_the_back(rt: HostRuntime) {
-    check_eq!(rt; moved(&rt, rt.alloc(), 0, 0), (123, 321));
-    check_eq!(rt; moved(&rt, rt.alloc(), 0, 1), (123, 321));
-    check_eq!(rt; moved(&rt, rt.alloc(), 0, 2), (213, 312));
-    check_eq!(rt; moved(&rt, rt.alloc(), 0, 3), (231, 132));
-    check_eq!(rt; moved(&rt, rt.alloc(), 1, 0), (213, 312));
-    check_eq!(rt; moved(&rt, rt.alloc(), 1, 1), (123, 321));
-    check_eq!(rt; moved(&rt, rt.alloc(), 1, 2), (123, 321));
-    check_eq!(rt; moved(&rt, rt.alloc(), 1, 3), (132, 231));
-    check_eq!(rt; moved(&rt, rt.alloc(), 2, 0), (312, 213));
-    check_eq!(rt; moved(&rt, rt.alloc(), 2, 1), (132, 231));
-    check_eq!(rt; moved(&rt, rt.alloc(), 2, 2), (123, 321));
-    check_eq!(rt; moved(&rt, rt.alloc(), 2, 3), (123, 321));
-}
-
 /// Drains what `follows_the_worked_row` leaves.
 fn drain_two(rt: &impl Abort, mut rest: Drain<'_, char, u64>) {
     check_eq!(rt; (rest.len(), rest.size_hint()), (2, (2, Some(2))));
@@ -208,73 +134,6 @@ fn hash_after_writing(ring: &mut Ring<char, u64>, at: Position<char, u64>) -> u6
     ring.links(at).hash
 }
 
-/// Hands all triples out, and returns the last value.
-fn last_spliced(ring: &mut Ring<char, u64>) -> u64
-    ensures held { ring.new.held ≡ [] }
-    ensures spares { ring.new.spares ≡ ring.old.spares + length ring.old.held }
-{
-    let mut last = 0;
-    for (_, _, value) in ring.splice_all() {
-        last = value;
-    }
-    last
-}
-
-/// Hands the first triple out, and drops the others.
-fn first_spliced(ring: &mut Ring<char, u64>) -> Option<(u64, char, u64)>
-    ensures first { IfSome result (λ r.
-        slice_get (triples ring.old.held) 0 ≡ Some (r.0, (r.1, r.2))) }
-    ensures held { ring.new.held ≡ [] }
-    ensures spares { ring.new.spares ≡ ring.old.spares + length ring.old.held }
-{
-    let mut rest = ring.splice_all();
-    rest.next()
-}
-
-/// Drops all triples, the last one first.
-fn drop_spliced<K: Drop, V: Drop>(ring: &mut Ring<K, V>)
-    ensures held { ring.new.held ≡ [] }
-    ensures spares { ring.new.spares ≡ ring.old.spares + length ring.old.held }
-{
-    let mut rest = ring.splice_all();
-    drop(rest.next_back());
-    drop(rest);
-}
-
-/// Forgets all triples, and returns how many are held then.
-fn len_when_forgotten(ring: &mut Ring<char, u64>) -> usize
-    ensures none { result ≡ 0 }
-    ensures held { ring.new.held ≡ [] }
-    ensures spares { ring.new.spares ≡ ring.old.spares + length ring.old.held }
-{
-    let rest = ring.splice_all();
-    forget(rest);
-    ring.len()
-}
-
-/// Puts two triples into a ring of three spare nodes.
-fn put_two(rt: &impl Abort, ring: &mut Ring<char, u64>) {
-    put(rt, ring, 1, 'a', 10);
-    put(rt, ring, 2, 'a', 20);
-}
-
-#[test]
-fn holds_nothing_however_a_drain_ends(rt: HostRuntime) {
-    let mut ring = with_spares(&rt, rt.alloc(), 3);
-    put_two(&rt, &mut ring);
-    check_eq!(rt; last_spliced(&mut ring), 20);
-    check!(rt; is_ring(&ring, &[], 3));
-    put_two(&rt, &mut ring);
-    check_eq!(rt; first_spliced(&mut ring), Some((1, 'a', 10)));
-    check!(rt; is_ring(&ring, &[], 3));
-    put_two(&rt, &mut ring);
-    drop_spliced(&mut ring);
-    check!(rt; is_ring(&ring, &[], 3));
-    put_two(&rt, &mut ring);
-    check_eq!(rt; len_when_forgotten(&mut ring), 0);
-    check!(rt; is_ring(&ring, &[], 3));
-}
-
 #[test]
 fn stays_except_for_values_after_writing(rt: HostRuntime) {
     let mut ring = with_spares(&rt, rt.alloc(), 3);
@@ -282,51 +141,6 @@ fn stays_except_for_values_after_writing(rt: HostRuntime) {
     let b = put(&rt, &mut ring, 9, 'b', 2);
     check_eq!(rt; hash_after_writing(&mut ring, b), 9);
     check!(rt; is_ring(&ring, &[(7, 'a', 7), (9, 'b', 9)], 1));
-}
-
-#[test]
-fn reads_and_writes_at_a_position(rt: HostRuntime) {
-    let mut ring = with_spares(&rt, rt.alloc(), 2);
-    check_eq!(rt; has_ends(&ring), (false, false));
-    let a = put(&rt, &mut ring, 7, 'a', 1);
-    let b = put(&rt, &mut ring, 9, 'b', 2);
-    check_eq!(rt; triple_at(&ring, b), (9, 'b', 2));
-    check_eq!(
-        rt;
-        (has_neighbours(&ring, a), has_neighbours(&ring, b)),
-        ((false, true), (true, false))
-    );
-    check_eq!(rt; has_ends(&ring), (true, true));
-    ring.set_link(b, Link::of(Some(a)));
-    check_eq!(rt; (has_link(&ring, a), has_link(&ring, b)), (false, true));
-    *ring.value_mut(a) = 5;
-    check!(rt; is_ring(&ring, &[(7, 'a', 5), (9, 'b', 2)], 0));
-}
-
-fn triple_at(ring: &Ring<char, u64>, at: Position<char, u64>) -> (u64, char, u64)
-    requires { IsHeld ring.now.held (pointer_of at) }
-{
-    (ring.links(at).hash, *ring.key(at), *ring.value(at))
-}
-
-/// Tells whether the chain link of a position leads somewhere.
-fn has_link(ring: &Ring<char, u64>, at: Position<char, u64>) -> bool
-    requires { IsHeld ring.now.held (pointer_of at) }
-{
-    let link: Option<Position<char, u64>> = ring.links(at).link.get();
-    link.is_some()
-}
-
-/// Tells whether there is a first position, and a last one.
-fn has_ends(ring: &Ring<char, u64>) -> (bool, bool) {
-    (ring.first().is_some(), ring.last().is_some())
-}
-
-/// Tells whether there is a position before this one, and one behind it.
-fn has_neighbours(ring: &Ring<char, u64>, at: Position<char, u64>) -> (bool, bool)
-    requires { IsHeld ring.now.held (pointer_of at) }
-{
-    (ring.previous(at).is_some(), ring.next(at).is_some())
 }
 
 /// A ring whose keys and values are all the same counted one.

@@ -40,16 +40,6 @@ pub fn check_remove<K: Eq + Hash + Drop, V: PartialEq + Debug + Drop, S: BuildHa
     check_eq!(rt; map.remove(key), value);
 }
 
-/// Moves the pair of a key to the back, and checks its value.
-pub fn check_refresh<K: Eq + Hash, V: Copy + PartialEq + Debug + Drop, S: BuildHasher>(
-    rt: &impl Abort,
-    map: &mut LinkedHashMap<K, V, S>,
-    key: &K,
-    value: Option<V>,
-) {
-    check_eq!(rt; map.get_refresh(key).copied(), value);
-}
-
 /// Takes out the first pair, and checks it.
 pub fn check_pop_front<K: Eq + Hash + Debug + Drop, V: PartialEq + Debug + Drop, S: BuildHasher>(
     rt: &impl Abort,

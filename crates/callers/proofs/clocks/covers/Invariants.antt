@@ -1,7 +1,0 @@
-use Rattle.std.proofs.Common.{◌≤◌, max}
-use Rattle.callers.specs.Clocks.{known}
-use Rattle.callers.proofs.clocks.covers.Given as goal
-
-abbrev pub invariant-loop-node : goal.invariant-loop-node
-invariant-loop-node g l = let eq = g.K.PartialEq.eq in (q : g.row.K.Denot)
-    → known eq l.other.pairs q ≤ max (known eq l.clock.pairs q) (known eq l.node-iterator q)

@@ -1,4 +1,0 @@
-pub mod Items
-pub mod Replies
-pub mod Tasks
-pub mod Tests
