@@ -21,7 +21,7 @@ TellsCause start old new = (cause : List ℕ) × Appends old new (start ++ cause
 -- pipe is not told
 abbrev pub Tells : Stop → List ℕ → Option (List ℕ) → Option (List ℕ) → Type 0
 Tells WrongArguments word old new = Appends old new (codes "dedup: wrong arguments: " ++ word
-    ++ codes "; usage: dedup [--last | --window N | --help] < FILE" ++ 10 ∷ [])
+    ++ (codes "; usage: dedup [--last | --window N | --help] < FILE" ++ 10 ∷ []))
 Tells OutOfMemory word old new = Appends old new (codes "dedup: out of memory" ++ 10 ∷ [])
 Tells (SeedFailed kind) word old new = TellsCause (codes "dedup: no random seed: ") old new
 Tells (InputFailed kind) word old new = TellsCause (codes "dedup: input failed: ") old new
