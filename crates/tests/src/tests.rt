@@ -22,7 +22,6 @@ mod references;
 mod refusals;
 mod replays;
 mod rings;
-mod sets;
 mod signatures;
 mod sorts;
 mod support;

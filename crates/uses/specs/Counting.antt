@@ -25,3 +25,7 @@ module _ {K : Type 0} (eq : K → K → Bool) where
   abbrev pub first_seen : List K → List K
   first_seen words =
       fold (λ seen word. if list_any (eq word) seen then seen else seen ++ word ∷ []) [] words
+
+-- how many events of a node a vector clock knows
+abbrev pub known : {K : Type 0} → (K → K → Bool) → List (K × ℕ) → K → ℕ
+known eq clock node = unwrap_or (value_at eq clock node) 0

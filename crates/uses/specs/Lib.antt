@@ -1,7 +1,0 @@
-pub mod Clocks
-pub mod Counting
-pub mod Groups
-pub mod Lending
-pub mod Numbers
-pub mod Places
-pub mod Replaying

@@ -1,6 +1,6 @@
 //! Vector clocks: how many events of each node are known.
 ghost use Rattle.std.specs.Prelude.{◌≡◌, ◌≤◌, max, OnOk, IsTrue};
-ghost use Rattle.uses.specs.Clocks.{known};
+ghost use Rattle.uses.specs.Counting.{known};
 
 use linked_hash_map::{LinkedHashMap, Refused};
 use std::hash::Hash;

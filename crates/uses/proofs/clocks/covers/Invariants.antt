@@ -1,5 +1,5 @@
 use Rattle.std.proofs.Common.{◌≤◌, max}
-use Rattle.uses.specs.Clocks.{known}
+use Rattle.uses.specs.Counting.{known}
 use Rattle.uses.proofs.clocks.covers.Given as goal
 
 abbrev pub invariant-loop-node : goal.invariant-loop-node
