@@ -49,8 +49,8 @@ fn write_output<S: BuildHasher + Drop, R: BufRead, W: Write>(
     lines::flush(output)
 }
 
-/// Writes the help if the arguments ask for it, or else the lines that they say. Only the lines need
-/// a random seed.
+/// Writes the help if the arguments ask for it, or else the lines that they say. Only the lines
+/// need a random seed.
 fn write_asked<N: RandomSource, R: BufRead, W: Write>(
     alloc: Global,
     random: &N,
