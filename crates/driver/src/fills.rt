@@ -73,12 +73,12 @@ fn put_by_closure(map: &mut Map, key: Key, value: Value, line: &Line, output: &m
 }
 
 /// What can be filled one by one.
-pub trait Fill {
+pub trait Fillable {
     /// Puts in what a number makes, by the call of a name, and returns whether there was memory.
     fn put_number(&mut self, call: &str, number: u64, line: &Line, output: &mut Output) -> bool;
 }
 
-impl Fill for Map {
+impl Fillable for Map {
     fn put_number(&mut self, call: &str, number: u64, line: &Line, output: &mut Output) -> bool {
         let key = Key::decimal(number, line.counts());
         if call == "or_default" {
@@ -97,7 +97,7 @@ impl Fill for Map {
 }
 
 /// Puts in what the numbers below a count make, up to a refusal. Each call is within a window.
-pub fn fill_one_by_one<F: Fill>(
+pub fn fill_one_by_one<F: Fillable>(
     filled: &mut F,
     count: u64,
     call: &str,

@@ -1,7 +1,7 @@
 //! Many items of consecutive numbers, put into a set.
 
 use super::counts::Counts;
-use super::fills::{Fill, fill_one_by_one};
+use super::fills::{Fillable, fill_one_by_one};
 use super::key::Key;
 use super::line::Line;
 use super::output::Output;
@@ -42,7 +42,7 @@ fn put_by_closure(set: &mut Set, item: &Key, line: &Line, output: &mut Output) -
     output.is_given(returned)
 }
 
-impl Fill for Set {
+impl Fillable for Set {
     fn put_number(&mut self, call: &str, number: u64, line: &Line, output: &mut Output) -> bool {
         let item = Key::decimal(number, line.counts());
         output.begin();
