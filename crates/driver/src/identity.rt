@@ -35,8 +35,15 @@ impl Identity {
 
     /// Makes that of a copy, which is not counted as a clone.
     pub fn copy(&self) -> Identity {
+        let mut copy = self.same();
+        copy.serial = self.serial.wrapping_add(COPY);
+        copy
+    }
+
+    /// Makes one with the same serial number.
+    pub fn same(&self) -> Identity {
         Identity {
-            serial: self.serial.wrapping_add(COPY),
+            serial: self.serial,
             counts: share(&self.counts),
             dropped: self.dropped,
         }

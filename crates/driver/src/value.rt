@@ -47,6 +47,14 @@ impl Value {
         self.identity.serial()
     }
 
+    /// Returns this value with a number that is greater, modulo 2^64.
+    pub fn increased(&self, by: u64) -> Value {
+        Value {
+            identity: self.identity.same(),
+            number: self.number.wrapping_add(by),
+        }
+    }
+
     /// Adds to the number in place, modulo 2^64.
     pub fn increase(&mut self, by: u64) {
         self.number = self.number.wrapping_add(by);
