@@ -1,12 +1,12 @@
 //! Many pairs of consecutive numbers, put into a cache.
 
 use super::caches::Cache;
-use super::fills::{Fill, Numbered, fill_one_by_one, pair};
+use super::fills::{Fillable, Numbered, fill_one_by_one, pair};
 use super::line::Line;
 use super::output::Output;
 use std::cell::Cell;
 
-impl Fill for Cache {
+impl Fillable for Cache {
     fn put_number(&mut self, call: &str, number: u64, line: &Line, output: &mut Output) -> bool {
         let (key, value) = pair(number, line.counts());
         output.begin();

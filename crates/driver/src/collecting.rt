@@ -1,6 +1,7 @@
 //! Calls that take in the pairs of an iterator, or make a map of them.
 
 use super::Map;
+use super::counts::share;
 use super::fills::pair;
 use super::key::Key;
 use super::line::Line;
@@ -20,10 +21,10 @@ fn from_iter(line: &mut Line, map: &mut Map, output: &mut Output) {
 /// Makes a map of more pairs than are allowed, of which none is taken.
 fn from_iter_too_large(line: &Line, map: &mut Map, output: &mut Output) {
     let guard = line.guard();
-    let counts = line.counts();
+    let counts = share(line.counts());
     let items = (0..LIMIT + 1).map(move |number| {
         guard.hold();
-        pair(number as u64, counts)
+        pair(number as u64, &counts)
     });
     output.store(map, Map::from_iter(line.alloc, items));
 }

@@ -10,10 +10,10 @@ use linked_hash_map::{LinkedHashMap, ReserveError};
 use std::hash::BuildHasher;
 
 /// A map whose keys are compared as they are.
-type Ordered = LinkedHashMap<CopiedKey, Value>;
+type Ordered<'k> = LinkedHashMap<CopiedKey<'k>, Value>;
 
 /// Makes a map of the same pairs whose keys are compared as they are.
-pub fn ordered(line: &Line, map: &Map, output: &mut Output) -> Ordered {
+pub fn ordered<'k>(line: &Line, map: &'k Map, output: &mut Output) -> Ordered<'k> {
     let mut ordered = Ordered::new(line.alloc);
     for (key, value) in map.iter() {
         output.note(ordered.insert(key.ordered(), value.copy()));

@@ -7,8 +7,9 @@ ghost use Rattle.std.specs.Ordering.{on, nat_cmp, as_partial_cmp};
 ghost use Rattle.std.proofs.Common.{rules};
 
 use super::Map;
-use super::counts::{Counts, Effect};
+use super::counts::Effect;
 use super::hasher::BuildKeyHasher;
+use super::identity::Identity;
 use super::key::write_text;
 use super::line::Line;
 use super::output::Output;
@@ -19,39 +20,39 @@ use std::hash::{Hash, Hasher};
 
 /// A text that is compared and hashed by a number. Its drop is not counted.
 #[derive(Clone, Copy)]
-pub struct CopiedKey {
+pub struct CopiedKey<'k> {
     text: [u8; 8],
     number: u64,
-    counts: &'static Counts,
+    identity: &'k Identity,
 }
 
-impl CopiedKey {
+impl<'k> CopiedKey<'k> {
     /// Makes a key of a text and its number.
-    pub fn new(text: [u8; 8], number: u64, counts: &'static Counts) -> CopiedKey {
+    pub fn new(text: [u8; 8], number: u64, identity: &'k Identity) -> CopiedKey<'k> {
         CopiedKey {
             text,
             number,
-            counts,
+            identity,
         }
     }
 }
 
-impl PartialEq for CopiedKey {
+impl<'k> PartialEq for CopiedKey<'k> {
     ghost eq = { on (λ key. key.number) ◌==◌ };
 
     ghost laws = { Prim.search (comparing, rules) };
 
-    fn eq(&self, other: &CopiedKey) -> bool {
-        self.counts.count(Effect::EqKey, 0);
+    fn eq(&self, other: &CopiedKey<'k>) -> bool {
+        self.identity.count(Effect::EqKey);
         self.number == other.number
     }
 }
 
-impl Eq for CopiedKey {
+impl<'k> Eq for CopiedKey<'k> {
     ghost laws = { Prim.search (comparing, rules) };
 }
 
-impl Ord for CopiedKey {
+impl<'k> Ord for CopiedKey<'k> {
     ghost cmp = { on (λ key. key.number) nat_cmp };
 
     ghost total = { Prim.search (comparing, rules) };
@@ -60,46 +61,46 @@ impl Ord for CopiedKey {
 
     ghost matches_eq = { Prim.search (comparing, rules) };
 
-    fn cmp(&self, other: &CopiedKey) -> Ordering {
-        self.counts.count(Effect::CmpKey, 0);
+    fn cmp(&self, other: &CopiedKey<'k>) -> Ordering {
+        self.identity.count(Effect::CmpKey);
         self.number.cmp(&other.number)
     }
 }
 
-impl PartialOrd for CopiedKey {
+impl<'k> PartialOrd for CopiedKey<'k> {
     ghost partial_cmp = { as_partial_cmp (on (λ key. key.number) nat_cmp) };
 
     ghost laws = { partial_order_from_own_ties (Prim.search (comparing, rules))
         (Prim.search (comparing, rules)) };
 
-    fn partial_cmp(&self, other: &CopiedKey) -> Option<Ordering> {
+    fn partial_cmp(&self, other: &CopiedKey<'k>) -> Option<Ordering> {
         Some(self.cmp(other))
     }
 }
 
-impl Hash for CopiedKey {
+impl<'k> Hash for CopiedKey<'k> {
     ghost hash_input = { λ key. fed.u64 key.number };
 
     ghost respects_eq = { Prim.search (hashing, rules) };
 
     fn hash<H: Hasher>(&self, state: &mut H) {
-        self.counts.count(Effect::HashKey, 0);
+        self.identity.count(Effect::HashKey);
         state.write_u64(self.number);
     }
 }
 
 /// The text alone.
-impl fmt::Debug for CopiedKey {
+impl<'k> fmt::Debug for CopiedKey<'k> {
     fn fmt<W: fmt::Write>(&self, f: &mut fmt::Formatter<W>) -> fmt::Result {
         write_text(self.text, f)
     }
 }
 
 /// A map of keys and values that are `Copy`.
-type Copied = LinkedHashMap<CopiedKey, u64, BuildKeyHasher>;
+type Copied<'k> = LinkedHashMap<CopiedKey<'k>, u64, BuildKeyHasher>;
 
 /// Makes a map of the same pairs, with a copy of the hasher.
-fn copied(line: &Line, map: &Map, output: &mut Output) -> Copied {
+fn copied<'k>(line: &Line, map: &'k Map, output: &mut Output) -> Copied<'k> {
     let mut made = Copied::with_hasher(line.alloc, map.hasher().copy());
     for (key, value) in map.iter() {
         output.note(made.insert(key.copied(), value.number()));
@@ -109,13 +110,22 @@ fn copied(line: &Line, map: &Map, output: &mut Output) -> Copied {
 
 /// Extends a copy of a map by references to the pairs of a copy of another, by the trait or by the
 /// map's own call, and appends it.
-fn extend_by_refs(by_trait: bool, line: &Line, map: &Map, other: &Map, output: &mut Output) {
+fn extend_by_refs<'k>(
+    by_trait: bool,
+    line: &Line,
+    map: &'k Map,
+    other: &'k Map,
+    output: &mut Output,
+) {
     output.end();
     let mut map = copied(line, map, output);
     let other = copied(line, other, output);
     output.begin();
     let is_given = if by_trait {
-        output.is_given(<Copied as Extend<(&CopiedKey, &u64)>>::extend(&mut map, other.iter()))
+        output.is_given(<Copied<'k> as Extend<(&CopiedKey<'k>, &u64)>>::extend(
+            &mut map,
+            other.iter(),
+        ))
     } else {
         output.is_given(map.extend_refs(other.iter()))
     };

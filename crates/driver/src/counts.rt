@@ -2,6 +2,7 @@
 
 use std::cell::Cell;
 use std::fmt;
+use std::rc::Rc;
 
 /// What is counted: first the drops, of which the serial numbers are summed too.
 #[derive(Clone, Copy, Default)]
@@ -53,6 +54,17 @@ pub struct Counts {
     /// How often each effect was, and of the drops the sum of the serial numbers modulo 2^64.
     counts: Cell<[u64; 14]>,
     sums: Cell<[u64; 4]>,
+}
+
+/// Counts that keys, values and hashers share, or none.
+pub type Shared = Option<Rc<Counts>>;
+
+/// Shares counts once more.
+pub fn share(counts: &Shared) -> Shared {
+    match counts {
+        Some(counts) => Rc::clone(counts).ok(),
+        None => None,
+    }
 }
 
 /// Adds to a number of an array, modulo 2^64, if there is one at the place.

@@ -19,16 +19,16 @@ pub type Lent<'m> = Result<&'m mut Value, Refused<Key, Value>>;
 
 /// An edit: its letter, and what it takes.
 #[derive(Drop)]
-pub struct Edit {
+pub struct Edit<'a> {
     pub letter: u8,
     values: Values,
-    key: &'static str,
+    key: &'a str,
 }
 
-impl Edit {
+impl<'a> Edit<'a> {
     /// Makes an edit of the first letter of a word, of a word of a key and of the next word as
     /// values.
-    pub fn new(key: &'static str, letters: &str, line: &mut Line) -> Edit {
+    pub fn new(key: &'a str, letters: &str, line: &mut Line) -> Edit<'a> {
         let letter = match letters.as_bytes().first() {
             Some(byte) => *byte,
             None => 0,

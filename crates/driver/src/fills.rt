@@ -1,7 +1,7 @@
 //! Many pairs of consecutive numbers, put in by one call after the other or by one for all.
 
 use super::Map;
-use super::counts::Counts;
+use super::counts::{Shared, share};
 use super::key::Key;
 use super::line::Line;
 use super::output::Output;
@@ -12,7 +12,7 @@ use std::cell::Cell;
 use std::ops::Range;
 
 /// Makes the pair of a number: its decimal text, and itself as the value.
-pub fn pair(number: u64, counts: &'static Counts) -> (Key, Value) {
+pub fn pair(number: u64, counts: &Shared) -> (Key, Value) {
     let key = Key::decimal(number, counts);
     (key, Value::new(number, counts))
 }
@@ -23,16 +23,16 @@ pub struct Numbered<'l> {
     numbers: Range<u64>,
     /// The number that was taken last.
     last: &'l Cell<u64>,
-    counts: &'static Counts,
+    counts: Shared,
 }
 
 impl<'l> Numbered<'l> {
     /// Begins before the pair of 0, with those of the numbers below a count.
-    pub fn new(count: u64, last: &'l Cell<u64>, counts: &'static Counts) -> Numbered<'l> {
+    pub fn new(count: u64, last: &'l Cell<u64>, counts: &Shared) -> Numbered<'l> {
         Numbered {
             numbers: 0..count,
             last,
-            counts,
+            counts: share(counts),
         }
     }
 }
@@ -47,7 +47,7 @@ impl<'l> Iterator for Numbered<'l> {
     fn next(&mut self) -> Option<(Key, Value)> {
         let number = self.numbers.next()?;
         self.last.set(number);
-        Some(pair(number, self.counts))
+        Some(pair(number, &self.counts))
     }
 }
 
@@ -73,12 +73,12 @@ fn put_by_closure(map: &mut Map, key: Key, value: Value, line: &Line, output: &m
 }
 
 /// What can be filled one by one.
-pub trait Fill {
+pub trait Fillable {
     /// Puts in what a number makes, by the call of a name, and returns whether there was memory.
     fn put_number(&mut self, call: &str, number: u64, line: &Line, output: &mut Output) -> bool;
 }
 
-impl Fill for Map {
+impl Fillable for Map {
     fn put_number(&mut self, call: &str, number: u64, line: &Line, output: &mut Output) -> bool {
         let key = Key::decimal(number, line.counts());
         if call == "or_default" {
@@ -97,7 +97,7 @@ impl Fill for Map {
 }
 
 /// Puts in what the numbers below a count make, up to a refusal. Each call is within a window.
-pub fn fill_one_by_one<F: Fill>(
+pub fn fill_one_by_one<F: Fillable>(
     filled: &mut F,
     count: u64,
     call: &str,
@@ -134,10 +134,10 @@ fn take_in(
 /// Makes a map of pairs by an iterator that knows how many they are, and returns whether there was
 /// memory.
 fn make(count: u64, last: &Cell<u64>, line: &Line, map: &mut Map, output: &mut Output) -> bool {
-    let counts = line.counts();
+    let counts = share(line.counts());
     let items = (0..count).map(move |number| {
         last.set(number);
-        pair(number, counts)
+        pair(number, &counts)
     });
     output.is_stored(map, Map::from_iter(line.alloc, items))
 }
@@ -174,7 +174,7 @@ fn fill(map: &mut Map, line: &mut Line, output: &mut Output) {
 pub fn run(line: &mut Line, map: &mut Map, output: &mut Output) -> bool {
     match line.name() {
         "fill" => fill(map, line, output),
-        "refuse_clone" => line.counts().set_refused_clone(line.number()),
+        "refuse_clone" => line.refuse_clone(),
         _ => return false,
     }
     true

@@ -2,7 +2,7 @@
 ghost use Rattle.std.specs.Prelude.{◌≡◌, ◌==◌, ◌+◌, ◌*◌, ◌%◌, fold, get_or, if◌then◌else◌};
 ghost use Rattle.driver.specs.Hashers.{hash_of};
 
-use super::counts::{Counts, Effect};
+use super::counts::{Effect, Shared};
 use super::identity::Identity;
 use std::fmt;
 use std::hash::{BuildHasher, Hasher};
@@ -101,7 +101,7 @@ pub struct BuildKeyHasher {
 
 impl BuildKeyHasher {
     /// Makes the builder of a choice, with the next serial number.
-    pub fn new(choice: Choice, counts: &'static Counts) -> BuildKeyHasher {
+    pub fn new(choice: Choice, counts: &Shared) -> BuildKeyHasher {
         BuildKeyHasher {
             identity: Identity::new(counts, Effect::DropHasher),
             choice,

@@ -1,6 +1,6 @@
 //! By what keys, values, hashers and closures are told apart.
 
-use super::counts::{Counts, Effect};
+use super::counts::{Effect, Shared, share};
 use std::alloc::AllocError;
 
 /// What is added to a serial number to give that of a copy.
@@ -11,25 +11,40 @@ const COPY: u64 = 4_294_967_296;
 #[derive(Default)]
 pub struct Identity {
     serial: u64,
-    counts: Option<&'static Counts>,
+    counts: Shared,
     dropped: Effect,
 }
 
 impl Identity {
     /// Makes one with the next serial number, whose drop has the effect.
-    pub fn new(counts: &'static Counts, dropped: Effect) -> Identity {
+    pub fn new(counts: &Shared, dropped: Effect) -> Identity {
         Identity {
-            serial: counts.next_serial(),
-            counts: Some(counts),
+            serial: match counts {
+                Some(counts) => counts.next_serial(),
+                None => 0,
+            },
+            counts: share(counts),
             dropped,
         }
     }
 
+    /// Makes one with the next serial number.
+    pub fn again(&self) -> Identity {
+        Identity::new(&self.counts, self.dropped)
+    }
+
     /// Makes that of a copy, which is not counted as a clone.
     pub fn copy(&self) -> Identity {
+        let mut copy = self.same();
+        copy.serial = self.serial.wrapping_add(COPY);
+        copy
+    }
+
+    /// Makes one with the same serial number.
+    pub fn same(&self) -> Identity {
         Identity {
-            serial: self.serial.wrapping_add(COPY),
-            counts: self.counts,
+            serial: self.serial,
+            counts: share(&self.counts),
             dropped: self.dropped,
         }
     }
@@ -44,7 +59,7 @@ impl Identity {
 
     /// Counts an effect.
     pub fn count(&self, effect: Effect) {
-        if let Some(counts) = self.counts {
+        if let Some(counts) = &self.counts {
             counts.count(effect, self.serial);
         }
     }
@@ -55,9 +70,10 @@ impl Drop for Identity {
         self.count(self.dropped);
         let Identity {
             serial: _,
-            counts: _,
+            counts,
             dropped: _,
         } = self;
+        drop(counts);
     }
 }
 
@@ -68,7 +84,7 @@ impl Clone for Identity {
             Effect::DropValue => Effect::CloneValue,
             _ => Effect::CloneHasher,
         });
-        match self.counts {
+        match &self.counts {
             Some(counts) if counts.refuses_clone() => Err(AllocError),
             _ => Ok(self.copy()),
         }

@@ -12,7 +12,8 @@ fn show_and_increase(lent: &mut Lent<'_>, output: &mut Output) {
     match lent {
         Ok(value) => {
             output.show(&**value);
-            value.increase(1);
+            let increased = value.increased(1);
+            **value = increased;
         }
         Err(refused) => refused.show(output),
     }

@@ -8,7 +8,7 @@ ghost use Rattle.std.proofs.Common.{rules};
 ghost use Rattle.driver.specs.Keys.{same_cmp, same_cmp_partial_order};
 
 use super::copied::CopiedKey;
-use super::counts::{Counts, Effect};
+use super::counts::{Effect, Shared};
 use super::identity::Identity;
 use std::cmp::Ordering;
 use std::fmt;
@@ -22,12 +22,11 @@ pub struct Key {
     text: [u8; 8],
     /// The text in lower case, as one number.
     folded: u64,
-    counts: &'static Counts,
 }
 
 impl Key {
     /// Makes a key of a text, with the next serial number.
-    pub fn new(text: &str, counts: &'static Counts) -> Key {
+    pub fn new(text: &str, counts: &Shared) -> Key {
         let mut bytes = [0; 8];
         for (place, byte) in bytes.iter_mut().zip(text.bytes()) {
             *place = byte;
@@ -35,7 +34,7 @@ impl Key {
         Key::of_bytes(bytes, counts)
     }
 
-    fn of_bytes(text: [u8; 8], counts: &'static Counts) -> Key {
+    fn of_bytes(text: [u8; 8], counts: &Shared) -> Key {
         let mut lower = text;
         for place in lower.iter_mut() {
             *place = place.to_ascii_lowercase();
@@ -44,27 +43,29 @@ impl Key {
             identity: Identity::new(counts, Effect::DropKey),
             text,
             folded: u64::from_le_bytes(lower),
-            counts,
         }
     }
 
     /// Makes a key of the decimal text of a number, with the next serial number.
-    pub fn decimal(number: u64, counts: &'static Counts) -> Key {
+    pub fn decimal(number: u64, counts: &Shared) -> Key {
         Key::of_bytes(decimal_text(number), counts)
     }
 
     /// Makes a key of the same text, with the next serial number.
     pub fn again(&self) -> Key {
-        Key::of_bytes(self.text, self.counts)
+        self.with_identity(self.identity.again())
     }
 
     /// Makes a copy, which is not counted as a clone.
     pub fn copy(&self) -> Key {
+        self.with_identity(self.identity.copy())
+    }
+
+    fn with_identity(&self, identity: Identity) -> Key {
         Key {
-            identity: self.identity.copy(),
+            identity,
             text: self.text,
             folded: self.folded,
-            counts: self.counts,
         }
     }
 
@@ -74,13 +75,13 @@ impl Key {
     }
 
     /// Returns the text in lower case as a key that is copied.
-    pub fn copied(&self) -> CopiedKey {
-        CopiedKey::new(self.text, self.folded, self.counts)
+    pub fn copied(&self) -> CopiedKey<'_> {
+        CopiedKey::new(self.text, self.folded, &self.identity)
     }
 
     /// Returns the text as a key that is copied, and compared as it is.
-    pub fn ordered(&self) -> CopiedKey {
-        CopiedKey::new(self.text, self.number(), self.counts)
+    pub fn ordered(&self) -> CopiedKey<'_> {
+        CopiedKey::new(self.text, self.number(), &self.identity)
     }
 
     /// Returns the serial number.

@@ -66,6 +66,7 @@ use std::alloc::Global;
 use std::io;
 use std::io::{Read, Write};
 use std::process::ExitCode;
+use std::rc::Rc;
 use stop::Stop;
 use value::Value;
 
@@ -172,7 +173,12 @@ fn run_call(line: &mut Line, all: &mut All, output: &mut Output) -> bool {
 
 /// Runs the lines on new maps, caches, sets and tables, and returns the whole text of the output.
 /// For a line that is no call that is `unknown`. A line that begins with `#` makes everything anew.
-fn respond(alloc: Global, lines: &'static str, counts: &'static Counts) -> Result<String, Stop> {
+fn respond(alloc: Global, lines: &str) -> Result<String, Stop> {
+    let counts = match Rc::new(alloc, Counts::new()) {
+        Ok(counts) => counts,
+        Err(_refused) => return Err(Stop::OutOfMemory),
+    };
+    let shared = Rc::clone(&counts).ok();
     let mut output = Output::new(alloc, counts);
     let mut all = All::new(alloc);
     for text in lines.lines() {
@@ -181,7 +187,7 @@ fn respond(alloc: Global, lines: &'static str, counts: &'static Counts) -> Resul
             all = All::new(alloc);
             output.push_str(text);
             output.push_str("\n");
-        } else if run_call(&mut Line::new(alloc, text, counts), &mut all, &mut output) {
+        } else if run_call(&mut Line::new(alloc, text, &shared), &mut all, &mut output) {
             output.end_line();
         } else {
             output.push_str("unknown\n");
@@ -190,19 +196,10 @@ fn respond(alloc: Global, lines: &'static str, counts: &'static Counts) -> Resul
     output.finish()
 }
 
-/// Moves a value to memory that is never freed, so a key that refers to it names no lifetime.
-fn leak<T: Drop + 'static>(alloc: Global, value: T) -> Result<&'static T, Stop> {
-    match Box::new(alloc, value) {
-        Ok(made) => Ok(Box::leak(made)),
-        Err(_refused) => Err(Stop::OutOfMemory),
-    }
-}
-
 /// Reads all lines, runs them and writes the output.
 fn run<R: Read + Drop, W: Write>(alloc: Global, input: R, writer: &mut W) -> Result<(), Stop> {
-    let counts = leak(alloc, Counts::new())?;
-    let lines = leak(alloc, io::read_to_string(alloc, input)?)?;
-    let text = respond(alloc, lines.as_str(), counts)?;
+    let lines = io::read_to_string(alloc, input)?;
+    let text = respond(alloc, lines.as_str())?;
     writer.write_all(text.as_bytes())?;
     writer.flush()?;
     Ok(())

@@ -13,6 +13,7 @@ use super::stop::Stop;
 use super::value::Value;
 use std::alloc::Global;
 use std::fmt::{Debug, Display};
+use std::rc::Rc;
 
 /// How many bytes of the output are reserved at the begin of a line.
 const LONGEST_LINE: usize = 65_536;
@@ -31,13 +32,13 @@ macro_rules! append {
 pub struct Output {
     text: String,
     alloc: Global,
-    counts: &'static Counts,
+    counts: Rc<Counts>,
     is_out_of_memory: bool,
 }
 
 impl Output {
     /// Makes an empty output.
-    pub fn new(alloc: Global, counts: &'static Counts) -> Output {
+    pub fn new(alloc: Global, counts: Rc<Counts>) -> Output {
         Output {
             text: String::new(alloc),
             alloc,

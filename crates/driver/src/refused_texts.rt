@@ -1,6 +1,6 @@
 //! The errors of a map, and what they are turned into.
 
-use super::counts::Counts;
+use super::counts::Shared;
 use super::key::Key;
 use super::line::Line;
 use super::output::Output;
@@ -13,7 +13,7 @@ use std::io;
 type Pair = Refused<Key, Value>;
 
 /// Makes the error of a pair of the same words.
-fn again(refused: &Pair, counts: &'static Counts) -> Pair {
+fn again(refused: &Pair, counts: &Shared) -> Pair {
     let key = refused.key.again();
     Refused {
         key,

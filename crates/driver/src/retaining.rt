@@ -1,7 +1,7 @@
 //! Calls that keep the pairs that a closure chooses.
 
 use super::Map;
-use super::counts::Counts;
+use super::counts::{Shared, share};
 use super::line::Line;
 use super::output::Output;
 use super::value::Value;
@@ -13,23 +13,25 @@ use std::cell::Cell;
 pub struct Calls {
     calls: Cell<u64>,
     dropped: Cell<u64>,
-    counts: &'static Counts,
+    counts: Shared,
 }
 
 impl Calls {
     /// Begins before the first call.
-    pub fn new(counts: &'static Counts) -> Calls {
+    pub fn new(counts: &Shared) -> Calls {
         Calls {
             calls: Cell::new(0),
             dropped: Cell::new(0),
-            counts,
+            counts: share(counts),
         }
     }
 
     /// Notes a call, and returns its number, 1 for the first.
     pub fn note(&self) -> u64 {
         self.calls.set(self.calls.get().wrapping_add(1));
-        self.dropped.set(self.counts.dropped());
+        if let Some(counts) = &self.counts {
+            self.dropped.set(counts.dropped());
+        }
         self.calls.get()
     }
 

@@ -1,7 +1,7 @@
 //! Many items of consecutive numbers, put into a set.
 
-use super::counts::Counts;
-use super::fills::{Fill, fill_one_by_one};
+use super::counts::{Shared, share};
+use super::fills::{Fillable, fill_one_by_one};
 use super::key::Key;
 use super::line::Line;
 use super::output::Output;
@@ -15,7 +15,7 @@ struct NumberedItems<'l> {
     numbers: Range<u64>,
     /// The number that was taken last.
     last: &'l Cell<u64>,
-    counts: &'static Counts,
+    counts: Shared,
 }
 
 impl<'l> Iterator for NumberedItems<'l> {
@@ -28,7 +28,7 @@ impl<'l> Iterator for NumberedItems<'l> {
     fn next(&mut self) -> Option<Key> {
         let number = self.numbers.next()?;
         self.last.set(number);
-        Some(Key::decimal(number, self.counts))
+        Some(Key::decimal(number, &self.counts))
     }
 }
 
@@ -42,7 +42,7 @@ fn put_by_closure(set: &mut Set, item: &Key, line: &Line, output: &mut Output) -
     output.is_given(returned)
 }
 
-impl Fill for Set {
+impl Fillable for Set {
     fn put_number(&mut self, call: &str, number: u64, line: &Line, output: &mut Output) -> bool {
         let item = Key::decimal(number, line.counts());
         output.begin();
@@ -59,10 +59,10 @@ impl Fill for Set {
 /// Makes a set of the items of the numbers below a count, by an iterator that knows how many they
 /// are, and returns whether there was memory.
 fn make(set: &mut Set, count: u64, last: &Cell<u64>, line: &Line, output: &mut Output) -> bool {
-    let counts = line.counts();
+    let counts = share(line.counts());
     let items = (0..count).map(move |number| {
         last.set(number);
-        Key::decimal(number, counts)
+        Key::decimal(number, &counts)
     });
     output.is_stored(set, Set::from_iter(line.alloc, items))
 }
@@ -73,7 +73,7 @@ fn extend(set: &mut Set, count: u64, last: &Cell<u64>, line: &Line, output: &mut
     let items = NumberedItems {
         numbers: 0..count,
         last,
-        counts: line.counts(),
+        counts: share(line.counts()),
     };
     output.is_given(set.extend(items))
 }

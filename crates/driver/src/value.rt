@@ -6,7 +6,7 @@ ghost use Rattle.std.specs.Hash as fed;
 ghost use Rattle.std.specs.Ordering.{on, nat_cmp, as_partial_cmp};
 ghost use Rattle.std.proofs.Common.{rules};
 
-use super::counts::{Counts, Effect};
+use super::counts::{Effect, Shared, share};
 use super::identity::Identity;
 use super::key::Key;
 use std::cmp::Ordering;
@@ -22,7 +22,7 @@ pub struct Value {
 
 impl Value {
     /// Makes a value, with the next serial number.
-    pub fn new(number: u64, counts: &'static Counts) -> Value {
+    pub fn new(number: u64, counts: &Shared) -> Value {
         Value {
             identity: Identity::new(counts, Effect::DropValue),
             number,
@@ -45,6 +45,14 @@ impl Value {
     /// Returns the serial number.
     pub fn serial(&self) -> u64 {
         self.identity.serial()
+    }
+
+    /// Returns this value with a number that is greater, modulo 2^64.
+    pub fn increased(&self, by: u64) -> Value {
+        Value {
+            identity: self.identity.same(),
+            number: self.number.wrapping_add(by),
+        }
     }
 
     /// Adds to the number in place, modulo 2^64.
@@ -118,16 +126,16 @@ impl fmt::Debug for Value {
 pub struct Values {
     number: u64,
     first: Option<Value>,
-    counts: &'static Counts,
+    counts: Shared,
 }
 
 impl Values {
     /// Begins with a value.
-    pub fn new(first: Value, counts: &'static Counts) -> Values {
+    pub fn new(first: Value, counts: &Shared) -> Values {
         Values {
             number: first.number,
             first: Some(first),
-            counts,
+            counts: share(counts),
         }
     }
 
@@ -135,17 +143,17 @@ impl Values {
     pub fn take(&mut self) -> Value {
         match self.first.take() {
             Some(value) => value,
-            None => Value::new(self.number, self.counts),
+            None => Value::new(self.number, &self.counts),
         }
     }
 
     /// Makes a key of a word, with the next serial number.
     pub fn key(&self, word: &str) -> Key {
-        Key::new(word, self.counts)
+        Key::new(word, &self.counts)
     }
 
     /// Makes a value of the number 0, with the next serial number.
     pub fn zero(&self) -> Value {
-        Value::new(0, self.counts)
+        Value::new(0, &self.counts)
     }
 }
