@@ -1,5 +1,4 @@
-//! Tests of the ring, the map, the cache, the set and the programs of `uses` that are no lines of
-//! `driver`.
+//! Tests of the ring, the map, the cache and the set that are no lines of `driver`.
 #![tactic(auto)]
 
 #[cfg(test)]

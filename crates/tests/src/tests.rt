@@ -1,10 +1,9 @@
 //! What no line of `driver` can be: keys of other types, callers with contracts, signatures,
-//! writers that fail, maps of many pairs, the ring and its table (`nodes`, `refusals`, `rings`,
-//! `sorts`), and the programs of `uses` (`cache_programs`, `programs`, `replays`).
+//! writers that fail, maps of many pairs, and the ring and its table (`nodes`, `refusals`, `rings`,
+//! `sorts`).
 
 mod absent_keys;
 mod borrowed;
-mod cache_programs;
 mod caches;
 mod calling;
 mod chains;
@@ -17,10 +16,8 @@ mod failing_checks;
 mod formats;
 mod growths;
 mod nodes;
-mod programs;
 mod references;
 mod refusals;
-mod replays;
 mod rings;
 mod signatures;
 mod sorts;
