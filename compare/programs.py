@@ -22,7 +22,8 @@ PACKAGES = {
     "hashlink-0.8.0": "librust-hashlink-dev",
 }
 # What the peers are built over.
-PEER_PACKAGES = {**PACKAGES, "indexmap-1.9.2": "librust-indexmap-dev"}
+PEER_PACKAGES = {
+    **PACKAGES, "indexmap-1.9.2": "librust-indexmap-dev", "lru-0.7.8": "librust-lru-dev"}
 
 # The libraries of the driver and of the benchmark.
 LIBRARIES = ("linked_hash_set", "lru_cache", "linked_hash_map", "lhm_ring", "equivalent")
@@ -35,6 +36,11 @@ BY_MAP = "_by_map"
 # the pairs is timed beside the last.
 MOVES = ("move_beside", "iter_from", "sort")
 SORT_VECTOR = "sort_vector"
+
+# The workloads of changes of many pairs and of entries, and those of texts and documents.
+CHANGES = ("entry_new", "entry_present", "retain_half", "empty_refill", "extend", "with_capacity")
+TEXTS = ("text_insert", "text_hit", "text_miss", "text_refresh", "text_present", "text_reinsert",
+         "text_clone", "document_build", "document_read", "document_drop")
 
 # The workloads of small maps, the most pairs of one, and how many pairs tables have.
 SMALL = ("small_fill", "small_lookup", "small_iterate")

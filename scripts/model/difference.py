@@ -1,11 +1,20 @@
-"""How what the driver did is compared with what the model says."""
+"""How what the driver did is compared with what the model says, and how a run that shows a difference
+is cut to a short one that still shows it."""
 
 import collections
 import itertools
+import re
+import time
 
-import expected
 import model
+from chapters import is_call
 from effects import ORDER
+from program import refusals_at
+
+# A number of a text that lies between two.
+BETWEEN = re.compile(r"<(\d+)\.\.(\d+)>")
+# For how long a run is cut.
+SECONDS = 60
 
 
 class Difference(collections.namedtuple("Difference", "number expected found")):
@@ -14,6 +23,55 @@ class Difference(collections.namedtuple("Difference", "number expected found")):
     def text(self):
         """Returns it as a text."""
         return f"expected {self.expected}\n    found    {self.found}"
+
+
+def taken_apart(printed):
+    """Returns the text of a printed line, and its effects by their names."""
+    text, between, effects = printed.rpartition("; ")
+    if not between:
+        return printed, {}
+    words = effects.split()
+    return text, dict(zip(words[::2], words[1::2]))
+
+
+def is_text(wanted, found):
+    """Tells whether a text is the wanted one, of which a number may lie between two."""
+    parts = BETWEEN.split(wanted)
+    if len(parts) == 1:
+        return wanted == found
+    pattern = "".join(r"(\d+)" if at % 3 == 1 else re.escape(part) if at % 3 == 0 else ""
+                      for at, part in enumerate(parts))
+    match = re.fullmatch(pattern, found)
+    bounds = zip(parts[1::3], parts[2::3])
+    return bool(match) and all(int(low) <= int(number) <= int(high)
+                               for number, (low, high) in zip(match.groups(), bounds))
+
+
+def is_count(wanted, found):
+    """Tells whether an effect is the wanted one, or lies between two numbers."""
+    if isinstance(wanted, tuple):
+        return (found or "0").isdigit() and wanted[0] <= int(found or "0") <= wanted[1]
+    return wanted == found
+
+
+def count_text(wanted):
+    """Shows an effect that is wanted."""
+    return f"{wanted[0]}..{wanted[1]}" if isinstance(wanted, tuple) else wanted
+
+
+def differences(expected, printed, requests):
+    """Returns what differs in a line, each as what is expected and what is found. `requests` is how
+    many requests for memory were seen, if they were counted."""
+    text, effects = taken_apart(printed)
+    found = [] if is_text(expected.text, text) else [(expected.text, text)]
+    for name in sorted(expected.effects.keys() | effects.keys()):
+        wanted = expected.effects.get(name)
+        if not is_count(wanted, effects.get(name)):
+            shown = effects.get(name, "none")
+            found.append((f"{name} {count_text(wanted or 'none')}", f"{name} {shown}"))
+    if requests is not None and requests != expected.requests:
+        found.append((f"requests {expected.requests}", f"requests {requests}"))
+    return found
 
 
 def difference_of_order(printed):
@@ -78,7 +136,7 @@ def difference_of_call(machine, line, printed, record):
         return None if printed == line else (line, printed)
     if printed == "unknown":
         return "a call", printed
-    found = expected.faults(wanted, printed, requests)
+    found = differences(wanted, printed, requests)
     return found[0] if found else difference_of_order(printed)
 
 
@@ -93,3 +151,62 @@ def first_difference(lines, ran):
         if wrong:
             return Difference(number, *wrong)
     return difference_at_end(lines, ran)
+
+
+def with_refused(lines, ran):
+    """Returns each line with the numbers of its requests that were refused."""
+    records = ran.records or []
+    return [(line, records[place].refused if place < len(records) else ())
+            for place, line in enumerate(lines)]
+
+
+def difference_of(driver, cut):
+    """Runs lines with the requests that are refused of each, and returns the first difference."""
+    if not cut:
+        return None
+    lines = [line for line, _ in cut]
+    at = [(number, it) for number, (_, refused) in enumerate(cut, 1) for it in refused]
+    return first_difference(lines, driver.run(lines, refusals_at(at)))
+
+
+def last_run(cut):
+    """Returns the last run of some lines, without its heading."""
+    headings = [place for place, (line, _) in enumerate(cut) if not is_call(line)]
+    return cut[headings[-1] + 1:] if headings else cut
+
+
+def without_parts(driver, cut, size, until):
+    """Leaves out each part of so many lines that is not needed for a difference."""
+    first = 0
+    while first < len(cut) and time.time() < until:
+        shorter = cut[:first] + cut[first + size:]
+        found = difference_of(driver, shorter)
+        if found:
+            cut = shorter[:found.number + 1]
+        else:
+            first += size
+    return cut
+
+
+def shortened(driver, cut):
+    """Cuts lines by halves and at last by single lines, as long as they show a difference."""
+    until = time.time() + SECONDS
+    size = max(1, len(cut) // 2)
+    while True:
+        cut = without_parts(driver, cut, size, until)
+        if size == 1:
+            return cut
+        size = max(1, min(size, len(cut)) // 2)
+
+
+def told_of_run(driver, lines, ran, difference):
+    """Returns a text of what differs in a random run, with a short run that shows it."""
+    whole = with_refused(lines, ran)[:difference.number + 1]
+    for cut in (last_run(whole), whole):
+        if difference_of(driver, cut):
+            cut = shortened(driver, cut)
+            rows = [line + "".join(f"   (request {it} refused)" for it in refused)
+                    for line, refused in cut]
+            text = difference_of(driver, cut).text()
+            return "\n    ".join([f"a run of {len(cut)} lines:", *rows, text])
+    return f"{whole[-1][0]}\n    {difference.text()}\n    (no shorter run shows it)"

@@ -1,4 +1,4 @@
-"""What a call does besides its answer."""
+"""What a call does besides its answer, and the closures that it calls and drops."""
 
 from objects import MASK
 
@@ -107,3 +107,22 @@ class Effects:
             is_exact = self.least == self.most
             found["eq-keys"] = str(self.most) if is_exact else (self.least, self.most)
         return found
+
+
+class Closure:
+    """A closure: how often it was called, and what was dropped at the last call."""
+
+    def __init__(self, call):
+        self.effects = call.effects
+        self.calls = self.dropped = 0
+        call.effects.drop_closure(call.serial())
+
+    def note(self):
+        """Notes a call."""
+        self.calls += 1
+        self.dropped = self.effects.dropped()
+
+    def show(self, call):
+        """Shows both counts."""
+        call.show(self.calls)
+        call.show(self.dropped)

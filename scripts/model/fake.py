@@ -3,8 +3,8 @@
 import re
 
 import model
+from difference import BETWEEN
 from effects import ORDER
-from expected import BETWEEN
 from listed import List
 from program import NO_REFUSALS, Ran, Record
 

@@ -1,14 +1,13 @@
 """The lines of a map. Each function makes a call, and may return a map that takes its place."""
 
 import comparing
-import copies
 import entries
 import fills
 import iterators
 import making
 import replays
 import sorts
-from closures import Closure
+from effects import Closure
 from linked import Refused
 from shown import pair_text, show_error, some, truth
 
@@ -268,7 +267,7 @@ LINES = {
     "mode": mode, "set_mode": set_mode, "capacity": capacity, "rechained": rechained,
     "reserve": reserve, "shrink_to_fit": shrink_to_fit, "fill": fills.fill,
     "refuse_clone": refuse_clone, **making.LINES, **comparing.LINES, **entries.LINES,
-    **iterators.LINES, **replays.LINES, **copies.LINES, **sorts.LINES,
+    **iterators.LINES, **replays.LINES, **sorts.LINES,
 }
 # Lines that change no pair.
 READING = {

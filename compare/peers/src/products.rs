@@ -23,10 +23,10 @@ pub trait Set {
 }
 
 macro_rules! cache {
-    ($cache:path) => {
-        impl Cache for $cache {
+    ($($cache:ident)::+) => {
+        impl<S: Build> Cache for $($cache)::+<u64, u64, S> {
             fn with_limit(limit: usize) -> Self {
-                Self::with_hasher(limit, Build::default())
+                Self::with_hasher(limit, S::default())
             }
 
             fn len(&self) -> usize {
@@ -44,12 +44,12 @@ macro_rules! cache {
     };
 }
 
-cache!(lru_cache::LruCache<u64, u64, Build>);
-cache!(hashlink::LruCache<u64, u64, Build>);
+cache!(lru_cache::LruCache);
+cache!(hashlink::LruCache);
 
-impl Set for hashlink::LinkedHashSet<u64, Build> {
+impl<S: Build> Set for hashlink::LinkedHashSet<u64, S> {
     fn new() -> Self {
-        Self::with_hasher(Build::default())
+        Self::with_hasher(S::default())
     }
 
     fn len(&self) -> usize {

@@ -12,7 +12,7 @@ mod peer;
 mod small;
 mod twin;
 
-use hasher::Build;
+use hasher::Fold;
 use peer::Map;
 use std::alloc::{GlobalAlloc, Layout, System};
 use std::process::ExitCode;
@@ -83,9 +83,9 @@ fn show<M: Map>(name: &str, n: u64) {
 fn main() -> ExitCode {
     let sizes: Vec<u64> = std::env::args().flat_map(|word| word.parse()).collect();
     for n in &sizes {
-        show::<linked_hash_map::LinkedHashMap<u64, u64, Build>>("original", *n);
-        show::<hashlink::LinkedHashMap<u64, u64, Build>>("hashlink", *n);
-        show::<indexmap::IndexMap<u64, u64, Build>>("indexmap", *n);
+        show::<linked_hash_map::LinkedHashMap<u64, u64, Fold>>("original", *n);
+        show::<hashlink::LinkedHashMap<u64, u64, Fold>>("hashlink", *n);
+        show::<indexmap::IndexMap<u64, u64, Fold>>("indexmap", *n);
         show::<Twin>("twin", *n);
     }
     if sizes.is_empty() {

@@ -11,10 +11,14 @@
 ghost use Rattle.std.specs.Prelude.{◌≡◌, ◌<◌, ◌*◌, ◌/◌, ◌^◌};
 
 mod arguments;
+mod changes;
+mod documents;
+mod maps;
 mod moves;
 mod order;
 mod products;
 mod small;
+mod texts;
 mod workloads;
 
 use arguments::{numbers, workload_named};
@@ -50,7 +54,7 @@ fn best_of<C: CpuClock, O: Order>(
     let mut nanoseconds = u128::MAX;
     let mut check: u64 = 0;
     for _ in 0..rounds {
-        workload.prepare(held, order, n)?;
+        workload.prepare(alloc, held, order, n)?;
         let start = clock.thread_cpu_time()?.as_nanos();
         let returned = workload.run(alloc, held, order, n)?;
         let end = clock.thread_cpu_time()?.as_nanos();
@@ -108,8 +112,7 @@ fn bench<C: CpuClock, O: Order, W: Write>(
     let mut held = Held::new(alloc);
     for workload in Workload::ALL {
         if workload.is_done_at(n) {
-            // The peers do not do all of those before it.
-            if workload == Workload::MoveBeside {
+            if workload.begins_anew() {
                 order.restart();
             }
             if only.is_none() || only == Some(workload) {

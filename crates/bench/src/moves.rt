@@ -1,8 +1,8 @@
 //! The workloads of the calls that change or follow the order of the pairs.
 ghost use Rattle.std.specs.Prelude.{◌<◌};
 
+use super::maps::{Map, get_refresh};
 use super::order::{Order, mix};
-use super::workloads::{Map, get_refresh};
 use linked_hash_map::IterFrom;
 use std::alloc::AllocError;
 

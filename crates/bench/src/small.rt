@@ -1,8 +1,8 @@
 //! The workloads of small maps: what is done with many maps of a few pairs.
 ghost use Rattle.std.specs.Prelude.{◌<◌};
 
+use super::maps::{Map, fill};
 use super::order::{Order, mix};
-use super::workloads::{Map, fill};
 use std::alloc::{AllocError, Global};
 
 /// The most pairs of a small map.

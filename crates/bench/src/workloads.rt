@@ -1,20 +1,26 @@
 //! The workloads: what is done with a map, a cache or a set of `n` pairs or items, once.
 ghost use Rattle.std.specs.Prelude.{◌<◌};
 
+use super::changes::{
+    Counts, empty_refill, entry_new, entry_present, extend, retain_half, with_capacity,
+};
+use super::documents::{Document, documents, read};
+use super::maps::{
+    Map, fill, get_hit, get_miss, get_refresh, insert_present, iterate, lru_cycle, remove_reinsert,
+    write_all,
+};
 use super::moves::{ends, iter_from, move_beside, sort, unsort};
-use super::order::{Order, mix};
+use super::order::Order;
 use super::products::{
     Cache, CacheMap, Set, SetMap, cache_hit, cache_map_hit, fill_cache, fill_cache_map, fill_set,
     fill_set_map, set_contains, set_iterate, set_map_contains, set_map_iterate,
 };
 use super::small::{self, MAPS, MOST_PAIRS};
+use super::texts::{self, TextMap, draw_texts, fill_texts, texts_from};
 use linked_hash_map::LinkedHashMap;
 use linked_hash_set::LinkedHashSet;
 use lru_cache::LruCache;
 use std::alloc::{AllocError, Global};
-
-/// The maps that are timed.
-pub type Map = LinkedHashMap<u64, u64>;
 
 /// A workload. Each that makes nothing new is done on what those before it have left.
 #[derive(Clone, Copy, Debug, PartialEq)]
@@ -69,9 +75,41 @@ pub enum Workload {
     Sort,
     /// Inserts each of as many absent keys at the front, rotates the pairs and removes it.
     Ends,
+    /// Fills a new map by its entries, and drops it.
+    EntryNew,
+    /// Changes the value of each key by its entry.
+    EntryPresent,
+    /// Keeps the pairs with an even key.
+    RetainHalf,
+    /// Removes all pairs by their keys, in order, and inserts them again.
+    EmptyRefill,
+    /// Extends a new map by all pairs, and drops it.
+    Extend,
+    /// Fills a new map that has the capacity, and drops it.
+    WithCapacity,
+    /// Fills a new map of texts with copies of some, and drops it.
+    TextInsert,
+    /// Looks up each text.
+    TextHit,
+    /// Looks up as many texts that are absent.
+    TextMiss,
+    /// Moves each pair to the back by its text.
+    TextRefresh,
+    /// Inserts a copy of each text again.
+    TextPresent,
+    /// Removes each text, and inserts a copy of it.
+    TextReinsert,
+    /// Makes a clone of a map of texts and drops it.
+    TextClone,
+    /// Makes documents of five fields, `n` fields in all.
+    DocumentBuild,
+    /// Looks up each field of each document by its name.
+    DocumentRead,
+    /// Drops the documents.
+    DocumentDrop,
 }
 
-/// What the workloads are done on. All except one are empty.
+/// What the workloads are done on. All maps, caches and sets except one are empty.
 #[derive(Drop)]
 pub struct Held {
     maps: Vec<Map>,
@@ -80,6 +118,11 @@ pub struct Held {
     set: Set,
     cache_map: CacheMap,
     set_map: SetMap,
+    counts: Counts,
+    text_map: TextMap,
+    documents: Vec<Document>,
+    // What the next round inserts or looks up, whatever of the others is empty.
+    texts: Vec<String>,
 }
 
 impl Held {
@@ -92,6 +135,10 @@ impl Held {
             set: LinkedHashSet::new(alloc),
             cache_map: LinkedHashMap::new(alloc),
             set_map: LinkedHashMap::new(alloc),
+            counts: LinkedHashMap::new(alloc),
+            text_map: LinkedHashMap::new(alloc),
+            documents: Vec::new(alloc),
+            texts: Vec::new(alloc),
         }
     }
 
@@ -121,6 +168,20 @@ impl Held {
                 self.set_map = LinkedHashMap::new(alloc);
                 self.map = fill(alloc, 0, n)?;
             }
+            Workload::EntryNew => {
+                self.map = LinkedHashMap::new(alloc);
+                self.counts = entry_new(alloc, 0, n)?;
+            }
+            Workload::RetainHalf => self.counts = entry_new(alloc, 0, n)?,
+            Workload::TextInsert => {
+                self.counts = LinkedHashMap::new(alloc);
+                self.texts = texts_from(alloc, 0, n)?;
+                self.text_map = fill_texts(alloc, self.texts.as_slice())?;
+            }
+            Workload::DocumentBuild => {
+                self.text_map = LinkedHashMap::new(alloc);
+                self.documents = documents(alloc, self.texts.as_slice())?;
+            }
             _ => {}
         }
         Ok(())
@@ -129,7 +190,7 @@ impl Held {
 
 impl Workload {
     /// All workloads, in the order in which they are timed.
-    pub const ALL: [Workload; 27] = [
+    pub const ALL: [Workload; 43] = [
         Workload::SmallFill,
         Workload::SmallLookup,
         Workload::SmallIterate,
@@ -157,6 +218,22 @@ impl Workload {
         Workload::IterFrom,
         Workload::Sort,
         Workload::Ends,
+        Workload::EntryNew,
+        Workload::EntryPresent,
+        Workload::RetainHalf,
+        Workload::EmptyRefill,
+        Workload::Extend,
+        Workload::WithCapacity,
+        Workload::TextInsert,
+        Workload::TextHit,
+        Workload::TextMiss,
+        Workload::TextRefresh,
+        Workload::TextPresent,
+        Workload::TextReinsert,
+        Workload::TextClone,
+        Workload::DocumentBuild,
+        Workload::DocumentRead,
+        Workload::DocumentDrop,
     ];
 
     /// Returns the word that names the workload in the output.
@@ -189,6 +266,22 @@ impl Workload {
             Workload::IterFrom => "iter_from",
             Workload::Sort => "sort",
             Workload::Ends => "ends",
+            Workload::EntryNew => "entry_new",
+            Workload::EntryPresent => "entry_present",
+            Workload::RetainHalf => "retain_half",
+            Workload::EmptyRefill => "empty_refill",
+            Workload::Extend => "extend",
+            Workload::WithCapacity => "with_capacity",
+            Workload::TextInsert => "text_insert",
+            Workload::TextHit => "text_hit",
+            Workload::TextMiss => "text_miss",
+            Workload::TextRefresh => "text_refresh",
+            Workload::TextPresent => "text_present",
+            Workload::TextReinsert => "text_reinsert",
+            Workload::TextClone => "text_clone",
+            Workload::DocumentBuild => "document_build",
+            Workload::DocumentRead => "document_read",
+            Workload::DocumentDrop => "document_drop",
         }
     }
 
@@ -198,6 +291,16 @@ impl Workload {
             Workload::SmallFill => true,
             Workload::SmallLookup => true,
             Workload::SmallIterate => true,
+            _ => false,
+        }
+    }
+
+    /// Tells whether the peers that do it have not done all of those before it.
+    pub fn begins_anew(self) -> bool {
+        match self {
+            Workload::MoveBeside => true,
+            Workload::EntryNew => true,
+            Workload::TextInsert => true,
             _ => false,
         }
     }
@@ -221,16 +324,60 @@ impl Workload {
 
     /// Prepares a round. In random order the map that is cloned gets other keys, so that no two
     /// clones are alike. The pairs that are sorted are put in another order.
-    pub fn prepare<O: Order>(self, held: &mut Held, order: &mut O, n: u64) -> Result<(), AllocError>
+    pub fn prepare<O: Order>(
+        self,
+        alloc: Global,
+        held: &mut Held,
+        order: &mut O,
+        n: u64,
+    ) -> Result<(), AllocError>
         requires { 0 < n }
     {
-        if self == Workload::Clone && order.is_random() {
-            lru_cycle(&mut held.map, n)?;
+        if self.takes_texts() {
+            held.texts = self.texts(alloc, order, n)?;
         }
-        if self == Workload::Sort {
-            unsort(&mut held.map, order, n);
+        match self {
+            Workload::Clone if order.is_random() => {
+                lru_cycle(&mut held.map, n)?;
+            }
+            Workload::Sort => unsort(&mut held.map, order, n),
+            Workload::RetainHalf => held.counts = entry_new(alloc, order.start(), n)?,
+            Workload::DocumentBuild => held.documents = Vec::new(alloc),
+            Workload::DocumentDrop => held.documents = documents(alloc, held.texts.as_slice())?,
+            _ => {}
         }
         Ok(())
+    }
+
+    /// Tells whether a round takes texts of its own.
+    fn takes_texts(self) -> bool {
+        match self {
+            Workload::TextInsert => true,
+            Workload::TextHit => true,
+            Workload::TextMiss => true,
+            Workload::TextRefresh => true,
+            Workload::TextPresent => true,
+            Workload::TextReinsert => true,
+            Workload::DocumentBuild => true,
+            _ => false,
+        }
+    }
+
+    /// Returns the texts that a round inserts or looks up.
+    fn texts<O: Order>(
+        self,
+        alloc: Global,
+        order: &mut O,
+        n: u64,
+    ) -> Result<Vec<String>, AllocError>
+        requires { 0 < n }
+    {
+        match self {
+            Workload::TextInsert => texts_from(alloc, order.start(), n),
+            Workload::TextMiss => texts_from(alloc, order.start().wrapping_add(n), n),
+            Workload::DocumentBuild => texts_from(alloc, order.start(), n),
+            _ => draw_texts(alloc, order, n),
+        }
     }
 
     /// Does the workload once, and returns a number that depends on what the calls returned.
@@ -277,125 +424,34 @@ impl Workload {
             Workload::IterFrom => Ok(iter_from(&held.map, order, n)),
             Workload::Sort => Ok(sort(&mut held.map)),
             Workload::Ends => ends(&mut held.map, n),
-        }
-    }
-}
-
-/// Inserts a pair, and returns the old value of its key.
-#[inline(always)]
-fn insert(map: &mut Map, key: u64, value: u64) -> Result<Option<u64>, AllocError> {
-    match map.insert(key, value) {
-        Ok(old) => Ok(old),
-        Err(_) => Err(AllocError),
-    }
-}
-
-/// Makes a map of `n` pairs, whose capacity is raised one by one. The keys are those of the indexes
-/// from `start` on.
-pub fn fill(alloc: Global, start: u64, n: u64) -> Result<Map, AllocError> {
-    let mut map = LinkedHashMap::new(alloc);
-    for i in 0..n {
-        insert(&mut map, mix(start.wrapping_add(i)), i)?;
-    }
-    Ok(map)
-}
-
-fn get_hit<O: Order>(map: &Map, order: &mut O, n: u64) -> u64
-    requires { 0 < n }
-{
-    let mut sink = 0;
-    for i in 0..n {
-        if let Some(value) = map.get(&mix(order.index(i, n))) {
-            sink ^= *value;
-        }
-    }
-    sink
-}
-
-fn get_miss<O: Order>(map: &Map, order: &mut O, n: u64) -> u64 {
-    let start = order.start().wrapping_add(n);
-    let mut count: u64 = 0;
-    for i in 0..n {
-        if map.get(&mix(start.wrapping_add(i))).is_some() {
-            count = count.wrapping_add(1);
-        }
-    }
-    count
-}
-
-fn iterate(map: &Map) -> u64 {
-    let mut sink = 0;
-    for (key, value) in map.iter() {
-        sink ^= *key ^ *value;
-    }
-    sink
-}
-
-/// Moves `n` pairs to the back, and returns the exclusive or of their values.
-pub fn get_refresh<O: Order>(map: &mut Map, order: &mut O, n: u64) -> u64
-    requires { 0 < n }
-{
-    let mut sink = 0;
-    for i in 0..n {
-        if let Some(value) = map.get_refresh(&mix(order.index(i, n))) {
-            sink ^= *value;
-        }
-    }
-    sink
-}
-
-fn insert_present<O: Order>(map: &mut Map, order: &mut O, n: u64) -> Result<u64, AllocError>
-    requires { 0 < n }
-{
-    let mut sink = 0;
-    for i in 0..n {
-        if let Some(old) = insert(map, mix(order.index(i, n)), i)? {
-            sink ^= old;
-        }
-    }
-    Ok(sink)
-}
-
-fn lru_cycle(map: &mut Map, n: u64) -> Result<u64, AllocError> {
-    let mut sink = 0;
-    for i in 0..n {
-        if let Some((key, value)) = map.pop_front() {
-            sink ^= key;
-            insert(map, key.wrapping_add(i << 40 | 1), value)?;
-        }
-    }
-    Ok(sink)
-}
-
-fn remove_reinsert<O: Order>(
-    alloc: Global,
-    map: &mut Map,
-    order: &mut O,
-    n: u64,
-) -> Result<u64, AllocError>
-    requires { 0 < n }
-{
-    let mut keys = Vec::new(alloc);
-    for key in map.keys() {
-        keys.push(*key)?;
-    }
-    let mut sink = 0;
-    for i in 0..n {
-        if let Some(key) = keys.get(order.place(i, n) as usize) {
-            if let Some(value) = map.remove(key) {
-                sink ^= value;
-                insert(map, *key, value)?;
+            Workload::EntryNew => Ok(entry_new(alloc, order.start(), n)?.len() as u64),
+            Workload::EntryPresent => entry_present(&mut held.counts, order, n),
+            Workload::RetainHalf => Ok(retain_half(&mut held.counts)),
+            Workload::EmptyRefill => empty_refill(alloc, &mut held.counts),
+            Workload::Extend => Ok(extend(alloc, order.start(), n)?.len() as u64),
+            Workload::WithCapacity => Ok(with_capacity(alloc, order.start(), n)?.len() as u64),
+            Workload::TextInsert => Ok(fill_texts(alloc, held.texts.as_slice())?.len() as u64),
+            Workload::TextHit => Ok(texts::hit(&held.text_map, held.texts.as_slice())),
+            Workload::TextMiss => Ok(texts::miss(&held.text_map, held.texts.as_slice())),
+            Workload::TextRefresh => {
+                Ok(texts::refresh(&mut held.text_map, held.texts.as_slice()))
+            }
+            Workload::TextPresent => {
+                texts::insert_present(&mut held.text_map, held.texts.as_slice())
+            }
+            Workload::TextReinsert => {
+                texts::remove_reinsert(&mut held.text_map, held.texts.as_slice())
+            }
+            Workload::TextClone => Ok(held.text_map.clone()?.len() as u64),
+            Workload::DocumentBuild => {
+                held.documents = documents(alloc, held.texts.as_slice())?;
+                Ok(held.documents.len() as u64)
+            }
+            Workload::DocumentRead => Ok(read(held.documents.as_slice())),
+            Workload::DocumentDrop => {
+                held.documents = Vec::new(alloc);
+                Ok(0)
             }
         }
     }
-    Ok(sink)
-}
-
-fn write_all(map: &mut Map) -> u64 {
-    let mut sink = 0;
-    for (key, value) in map.iter_mut() {
-        *value = value.wrapping_add(*key);
-        sink ^= *value;
-    }
-    sink
 }

@@ -1,37 +1,36 @@
 //! Calls that change what pairs there are, or how many fit.
 
 use super::Map;
-use super::line::Line;
+use super::call::Call;
 use super::making::take;
-use super::output::Output;
 
 /// Inserts a pair, if its key is present or there is room.
-fn insert_within_capacity(map: &mut Map, line: &mut Line, output: &mut Output) {
-    let (key, value) = (line.key(), line.value());
-    output.end();
+fn insert_within_capacity(map: &mut Map, call: &Call) {
+    let (key, value) = (call.key(), call.value());
+    call.end();
     if map.len() < map.capacity() || map.contains_key(&key) {
-        output.begin();
-        output.show_ok(&map.insert_within_capacity(key, value));
+        call.begin();
+        call.show_ok(&map.insert_within_capacity(key, value));
     } else {
-        output.push_str("full ");
+        call.push_str("full ");
     }
 }
 
 /// Runs the call of a line, and returns whether there is one.
-pub fn run(line: &mut Line, map: &mut Map, output: &mut Output) -> bool {
-    match line.name() {
-        "insert" => output.show_result(map.insert(line.key(), line.value())),
-        "insert_front" => output.show_result(map.insert_front(line.key(), line.value())),
-        "insert_within_capacity" => insert_within_capacity(map, line, output),
-        "replace_key" => output.show_key(map.replace_key(line.key())),
-        "remove" => output.show(&map.remove(&line.key())),
-        "remove_entry" => output.show(&map.remove_entry(&line.key())),
-        "pop_front" => output.show(&map.pop_front()),
-        "pop_back" => output.show(&map.pop_back()),
+pub fn run(call: &Call, map: &mut Map) -> bool {
+    match call.name() {
+        "insert" => call.show_result(map.insert(call.key(), call.value())),
+        "insert_front" => call.show_result(map.insert_front(call.key(), call.value())),
+        "insert_within_capacity" => insert_within_capacity(map, call),
+        "replace_key" => call.show_key(map.replace_key(call.key())),
+        "remove" => call.show(&map.remove(&call.key())),
+        "remove_entry" => call.show(&map.remove_entry(&call.key())),
+        "pop_front" => call.show(&map.pop_front()),
+        "pop_back" => call.show(&map.pop_back()),
         "clear" => map.clear(),
-        "reserve" => output.show_refusal(map.reserve(line.size())),
-        "shrink_to_fit" => output.show_refusal(map.shrink_to_fit()),
-        "drop" => output.drop_within(take(line, map)),
+        "reserve" => call.show_refusal(map.reserve(call.size())),
+        "shrink_to_fit" => call.show_refusal(map.shrink_to_fit()),
+        "drop" => call.drop_within(take(call, map)),
         _ => return false,
     }
     true

@@ -7,12 +7,11 @@ ghost use Rattle.std.specs.Ordering.{on, nat_cmp, as_partial_cmp};
 ghost use Rattle.std.proofs.Common.{rules};
 
 use super::Map;
+use super::call::Call;
 use super::counts::Effect;
 use super::hasher::BuildKeyHasher;
 use super::identity::Identity;
 use super::key::write_text;
-use super::line::Line;
-use super::output::Output;
 use linked_hash_map::LinkedHashMap;
 use std::cmp::Ordering;
 use std::fmt;
@@ -100,46 +99,40 @@ impl<'k> fmt::Debug for CopiedKey<'k> {
 type Copied<'k> = LinkedHashMap<CopiedKey<'k>, u64, BuildKeyHasher>;
 
 /// Makes a map of the same pairs, with a copy of the hasher.
-fn copied<'k>(line: &Line, map: &'k Map, output: &mut Output) -> Copied<'k> {
-    let mut made = Copied::with_hasher(line.alloc, map.hasher().copy());
+fn copied<'k>(call: &Call, map: &'k Map) -> Copied<'k> {
+    let mut made = Copied::with_hasher(call.alloc, map.hasher().copy());
     for (key, value) in map.iter() {
-        output.note(made.insert(key.copied(), value.number()));
+        call.note(made.insert(key.copied(), value.number()));
     }
     made
 }
 
 /// Extends a copy of a map by references to the pairs of a copy of another, by the trait or by the
 /// map's own call, and appends it.
-fn extend_by_refs<'k>(
-    by_trait: bool,
-    line: &Line,
-    map: &'k Map,
-    other: &'k Map,
-    output: &mut Output,
-) {
-    output.end();
-    let mut map = copied(line, map, output);
-    let other = copied(line, other, output);
-    output.begin();
+fn extend_by_refs<'k>(by_trait: bool, call: &Call, map: &'k Map, other: &'k Map) {
+    call.end();
+    let mut map = copied(call, map);
+    let other = copied(call, other);
+    call.begin();
     let is_given = if by_trait {
-        output.is_given(<Copied<'k> as Extend<(&CopiedKey<'k>, &u64)>>::extend(
+        call.is_given(<Copied<'k> as Extend<(&CopiedKey<'k>, &u64)>>::extend(
             &mut map,
             other.iter(),
         ))
     } else {
-        output.is_given(map.extend_refs(other.iter()))
+        call.is_given(map.extend_refs(other.iter()))
     };
     if !is_given {
-        output.push_str("refused ");
+        call.push_str("refused ");
     }
-    output.show(&map);
+    call.show(&map);
 }
 
 /// Runs the call of this name, and returns whether there is one.
-pub fn run(line: &Line, map: &Map, other: &Map, output: &mut Output) -> bool {
-    match line.name() {
-        "extend_copied_refs" => extend_by_refs(false, line, map, other, output),
-        "extend_trait_refs" => extend_by_refs(true, line, map, other, output),
+pub fn run(call: &Call, map: &Map, other: &Map) -> bool {
+    match call.name() {
+        "extend_copied_refs" => extend_by_refs(false, call, map, other),
+        "extend_trait_refs" => extend_by_refs(true, call, map, other),
         _ => return false,
     }
     true

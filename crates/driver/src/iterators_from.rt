@@ -1,62 +1,60 @@
 //! Iterators that begin at the pair of a key.
 
 use super::Map;
-use super::line::Line;
-use super::output::Output;
+use super::call::Call;
 use std::fmt::Debug;
 
 /// Makes a step for each letter, and appends what each gives and the hint of what is left. Each
 /// step is within a window.
-fn advance<T: Debug + Drop, I: Iterator<Item = T>>(items: &mut I, steps: &str, output: &mut Output)
+fn advance<T: Debug + Drop, I: Iterator<Item = T>>(items: &mut I, steps: &str, call: &Call)
     requires { (items : I) → I.can_next items }
 {
     for _letter in steps.bytes() {
-        output.begin();
-        output.show(&items.next());
-        output.show(&items.size_hint());
+        call.begin();
+        call.show(&items.next());
+        call.show(&items.size_hint());
     }
 }
 
 /// Iterates, clones the iterator, and iterates by the clone and then by the iterator itself.
 pub fn advance_and_clone<T: Debug + Drop, I: Iterator<Item = T> + Clone + Drop>(
     found: Option<I>,
-    line: &mut Line,
-    output: &mut Output,
+    call: &Call,
 )
     requires { (items : I) → I.can_next items }
 {
-    output.end();
+    call.end();
     let Some(items) = found else {
-        output.push_str("absent ");
+        call.push_str("absent ");
         return;
     };
     let mut items = items;
-    advance(&mut items, line.word(), output);
-    let steps = line.word();
-    output.begin();
+    advance(&mut items, call.word(), call);
+    let steps = call.word();
+    call.begin();
     match items.clone() {
         Ok(copy) => {
             let mut copy = copy;
-            advance(&mut copy, steps, output);
-            output.drop_within(copy);
+            advance(&mut copy, steps, call);
+            call.drop_within(copy);
         }
-        Err(refused) => output.show_refused(refused),
+        Err(refused) => call.show_refused(refused),
     }
-    output.push_str("/ ");
-    advance(&mut items, steps, output);
-    output.drop_within(items);
+    call.push_str("/ ");
+    advance(&mut items, steps, call);
+    call.drop_within(items);
 }
 
 /// Runs the call of a line, and returns whether there is one.
-pub fn run(line: &mut Line, map: &Map, output: &mut Output) -> bool {
-    match line.name() {
+pub fn run(call: &Call, map: &Map) -> bool {
+    match call.name() {
         "iter_from" => {
-            let key = line.key();
-            advance_and_clone(map.iter_from(&key), line, output);
+            let key = call.key();
+            advance_and_clone(map.iter_from(&key), call);
         }
         "iter_back_from" => {
-            let key = line.key();
-            advance_and_clone(map.iter_back_from(&key), line, output);
+            let key = call.key();
+            advance_and_clone(map.iter_back_from(&key), call);
         }
         _ => return false,
     }

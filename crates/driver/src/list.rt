@@ -1,8 +1,8 @@
 //! The lists of maps, caches, sets and tables, at the end of each line of the output.
 ghost use Rattle.std.specs.Iterator.{IsFinite};
 
+use super::call::Call;
 use super::key::Key;
-use super::output::Output;
 use super::value::Value;
 
 /// The longest list that is shown whole.
@@ -11,15 +11,15 @@ pub const SHOWN: usize = 100;
 /// An item of a list.
 pub trait Listed {
     /// Appends it.
-    fn list(&self, output: &mut Output);
+    fn list(&self, call: &Call);
 
     /// Returns what it adds to a digest, before its place.
     fn mixed(&self) -> u64;
 }
 
 impl<'m> Listed for &'m Key {
-    fn list(&self, output: &mut Output) {
-        output.list(*self);
+    fn list(&self, call: &Call) {
+        call.list(*self);
     }
 
     fn mixed(&self) -> u64 {
@@ -28,8 +28,8 @@ impl<'m> Listed for &'m Key {
 }
 
 impl<'m> Listed for (&'m Key, &'m Value) {
-    fn list(&self, output: &mut Output) {
-        output.list_pair(self.0, self.1);
+    fn list(&self, call: &Call) {
+        call.list_pair(self.0, self.1);
     }
 
     fn mixed(&self) -> u64 {
@@ -38,8 +38,8 @@ impl<'m> Listed for (&'m Key, &'m Value) {
 }
 
 impl<'m> Listed for &'m (Key, Value) {
-    fn list(&self, output: &mut Output) {
-        (&self.0, &self.1).list(output);
+    fn list(&self, call: &Call) {
+        (&self.0, &self.1).list(call);
     }
 
     fn mixed(&self) -> u64 {
@@ -49,8 +49,8 @@ impl<'m> Listed for &'m (Key, Value) {
 
 /// A session: its id, its weight and its payload.
 impl<'m> Listed for (u64, u64, &'m Value) {
-    fn list(&self, output: &mut Output) {
-        output.show_session((" ", ""), self.0, self.1, self.2);
+    fn list(&self, call: &Call) {
+        call.show_session((" ", ""), self.0, self.1, self.2);
     }
 
     fn mixed(&self) -> u64 {
@@ -79,7 +79,7 @@ impl Digest {
 }
 
 /// Appends the first item, the last and a digest.
-fn list_ends<T: Listed + Copy, I: Iterator<Item = T> + Drop>(items: I, output: &mut Output)
+fn list_ends<T: Listed + Copy, I: Iterator<Item = T> + Drop>(items: I, call: &Call)
     requires can { I.can_next items }
     requires ends { IsFinite (I.remaining items) }
 {
@@ -87,32 +87,28 @@ fn list_ends<T: Listed + Copy, I: Iterator<Item = T> + Drop>(items: I, output: &
     let mut last = None;
     for item in items {
         if last.is_none() {
-            item.list(output);
+            item.list(call);
         }
         digest.add(&item);
         last = Some(item);
     }
     if let Some(last) = last {
-        last.list(output);
+        last.list(call);
     }
-    output.list(&digest.sum);
+    call.list(&digest.sum);
 }
 
 /// Appends how many items there are and each in order, or if they are many, the first, the last and
 /// a digest.
-pub fn list<T: Listed + Copy, I: Iterator<Item = T> + Drop>(
-    len: usize,
-    items: I,
-    output: &mut Output,
-)
+pub fn list<T: Listed + Copy, I: Iterator<Item = T> + Drop>(len: usize, items: I, call: &Call)
     requires can { I.can_next items }
     requires ends { IsFinite (I.remaining items) }
 {
-    output.list(&len);
+    call.list(&len);
     if len > SHOWN {
-        return list_ends(items, output);
+        return list_ends(items, call);
     }
     for item in items {
-        item.list(output);
+        item.list(call);
     }
 }

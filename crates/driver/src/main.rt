@@ -16,6 +16,7 @@
 mod cache_fills;
 mod cache_replays;
 mod caches;
+mod call;
 mod changes;
 mod collecting;
 mod comparisons;
@@ -29,13 +30,11 @@ mod insertions;
 mod iterators;
 mod iterators_from;
 mod key;
-mod line;
 mod list;
 mod lookups;
 mod making;
 mod marks;
 mod order;
-mod output;
 mod pair_lists;
 mod refusal;
 mod refused_texts;
@@ -54,12 +53,11 @@ mod value;
 mod visits;
 
 use caches::Cache;
+use call::Call;
 use counts::Counts;
 use hasher::BuildKeyHasher;
 use key::Key;
-use line::Line;
 use linked_hash_map::LinkedHashMap;
-use output::Output;
 use sessions::Table;
 use sets::Set;
 use std::alloc::Global;
@@ -102,22 +100,38 @@ impl All {
     }
 }
 
-/// Runs the call of a line that is of one map and not of its order, and returns whether there is
-/// one.
-fn run_on_one(line: &mut Line, map: &mut Map, output: &mut Output) -> bool {
-    match line.name() {
-        "retain" => retaining::retain(map, line, output),
-        "replay" => replays::replay_all(line, map, output),
-        "pair_lists" => pair_lists::show_calls(line, map, output),
-        "refused_texts" => refused_texts::show_all(line, output),
+/// Runs the call of a line that only reads `map` and, if it takes two, `other` too, and returns
+/// whether there is one.
+fn read_map(call: &Call, map: &Map, other: &Map) -> bool {
+    match call.name() {
+        "pair_lists" => pair_lists::show_calls(call, map),
+        "refused_texts" => refused_texts::show_all(call),
         _ => {
-            return entries::run(line, map, output)
-                || insertions::run(line, map, output)
-                || visits::run(line, map, output)
-                || iterators::run(line, map, output)
-                || iterators_from::run(line, map, output)
-                || sorts::run(line, map, output)
-                || fills::run(line, map, output);
+            return lookups::run(call, map)
+                || iterators::run(call, map)
+                || iterators_from::run(call, map)
+                || comparisons::run(call, map, other)
+                || copied::run(call, map, other);
+        }
+    }
+    true
+}
+
+/// Runs the call of a line that changes one map, and returns whether there is one.
+fn change_map(call: &Call, map: &mut Map) -> bool {
+    match call.name() {
+        "retain" => retaining::retain(map, call),
+        "replay" => replays::replay_all(call, map),
+        _ => {
+            return lookups::run_to_write(call, map)
+                || changes::run(call, map)
+                || order::run(call, map)
+                || entries::run(call, map)
+                || insertions::run(call, map)
+                || visits::run(call, map)
+                || iterators::run_to_take(call, map)
+                || sorts::run(call, map)
+                || fills::run(call, map);
         }
     }
     true
@@ -125,81 +139,78 @@ fn run_on_one(line: &mut Line, map: &mut Map, output: &mut Output) -> bool {
 
 /// Runs the call of a line on `map` and, if it takes two, on `other` too, appends what it returns
 /// and the list of `map`, and returns whether there is such a call.
-fn run_on_map(line: &mut Line, map: &mut Map, other: &mut Map, output: &mut Output) -> bool {
-    let is_known = lookups::run(line, map, output)
-        || changes::run(line, map, output)
-        || order::run(line, map, output)
-        || making::run(line, map, other, output)
-        || collecting::run(line, map, other, output)
-        || copied::run(line, map, other, output)
-        || comparisons::run(line, map, other, output)
-        || run_on_one(line, map, output);
+fn run_on_map(call: &Call, map: &mut Map, other: &mut Map) -> bool {
+    let is_known = read_map(call, map, other)
+        || change_map(call, map)
+        || making::run(call, map, other)
+        || collecting::run(call, map, other);
     if is_known {
-        output.push_str("|");
-        list::list(map.len(), map.iter(), output);
+        call.push_str("|");
+        list::list(map.len(), map.iter(), call);
     }
     is_known
 }
 
 /// Runs the call of a line on what it names, and returns whether there is such a call. The first
 /// window is open when the call begins. `set_mode` is a call of a map.
-fn run_call(line: &mut Line, all: &mut All, output: &mut Output) -> bool {
-    let is_b = line.word() == "b";
-    output.begin();
-    if line.strip_prefix("cache_") {
+fn run_call(call: &Call, all: &mut All) -> bool {
+    let is_b = call.word() == "b";
+    call.begin();
+    if call.strip_prefix("cache_") {
         if is_b {
-            caches::run(line, &mut all.cache_b, &all.cache_a, output)
+            caches::run(call, &mut all.cache_b, &all.cache_a)
         } else {
-            caches::run(line, &mut all.cache_a, &all.cache_b, output)
+            caches::run(call, &mut all.cache_a, &all.cache_b)
         }
-    } else if line.name() != "set_mode" && line.strip_prefix("set_") {
+    } else if call.name() != "set_mode" && call.strip_prefix("set_") {
         if is_b {
-            sets::run(line, &mut all.set_b, &mut all.set_a, output)
+            sets::run(call, &mut all.set_b, &mut all.set_a)
         } else {
-            sets::run(line, &mut all.set_a, &mut all.set_b, output)
+            sets::run(call, &mut all.set_a, &mut all.set_b)
         }
-    } else if line.strip_prefix("sessions_") {
+    } else if call.strip_prefix("sessions_") {
         if is_b {
-            sessions::run(line, &mut all.table_b, output)
+            sessions::run(call, &mut all.table_b)
         } else {
-            sessions::run(line, &mut all.table_a, output)
+            sessions::run(call, &mut all.table_a)
         }
     } else if is_b {
-        run_on_map(line, &mut all.map_b, &mut all.map_a, output)
+        run_on_map(call, &mut all.map_b, &mut all.map_a)
     } else {
-        run_on_map(line, &mut all.map_a, &mut all.map_b, output)
+        run_on_map(call, &mut all.map_a, &mut all.map_b)
     }
 }
 
 /// Runs the lines on new maps, caches, sets and tables, and returns the whole text of the output.
 /// For a line that is no call that is `unknown`. A line that begins with `#` makes everything anew.
-fn respond(alloc: Global, lines: &str) -> Result<String, Stop> {
-    let counts = match Rc::new(alloc, Counts::new()) {
-        Ok(counts) => counts,
-        Err(_refused) => return Err(Stop::OutOfMemory),
+fn respond(alloc: Global, lines: &'static str) -> Result<String, Stop> {
+    let Ok(counts) = Rc::new(alloc, Counts::new()) else {
+        return Err(Stop::OutOfMemory);
     };
-    let shared = Rc::clone(&counts).ok();
-    let mut output = Output::new(alloc, counts);
+    let call = Call::new(alloc, counts);
     let mut all = All::new(alloc);
     for text in lines.lines() {
-        output.begin_line();
+        call.begin_line(text);
         if text.starts_with('#') {
             all = All::new(alloc);
-            output.push_str(text);
-            output.push_str("\n");
-        } else if run_call(&mut Line::new(alloc, text, &shared), &mut all, &mut output) {
-            output.end_line();
+            call.push_str(text);
+            call.push_str("\n");
+        } else if run_call(&call, &mut all) {
+            call.end_line();
         } else {
-            output.push_str("unknown\n");
+            call.push_str("unknown\n");
         }
     }
-    output.finish()
+    call.finish()
 }
 
 /// Reads all lines, runs them and writes the output.
 fn run<R: Read + Drop, W: Write>(alloc: Global, input: R, writer: &mut W) -> Result<(), Stop> {
     let lines = io::read_to_string(alloc, input)?;
-    let text = respond(alloc, lines.as_str())?;
+    let Ok(lines) = Box::new(alloc, lines) else {
+        return Err(Stop::OutOfMemory);
+    };
+    let text = respond(alloc, Box::leak(lines).as_str())?;
     writer.write_all(text.as_bytes())?;
     writer.flush()?;
     Ok(())

@@ -1,16 +1,15 @@
-//! Calls about the order of the pairs, the mode and the capacity.
+//! Calls that move pairs, or set the mode.
 
 use super::Map;
-use super::line::Line;
-use super::output::Output;
+use super::call::Call;
 use linked_hash_map::Mode;
 
 /// Moves pairs from the front to the back, if there are so many.
-fn rotate_left(map: &mut Map, count: usize, output: &mut Output) {
+fn rotate_left(map: &mut Map, count: usize, call: &Call) {
     if count <= map.len() {
         map.rotate_left(count);
     } else {
-        output.push_str("too many ");
+        call.push_str("too many ");
     }
 }
 
@@ -24,17 +23,14 @@ pub fn mode_named(name: &str) -> Mode {
 }
 
 /// Runs the call of a line, and returns whether there is one.
-pub fn run(line: &mut Line, map: &mut Map, output: &mut Output) -> bool {
-    match line.name() {
-        "move_to_back" => output.show(&map.move_to_back(&line.key())),
-        "move_to_front" => output.show(&map.move_to_front(&line.key())),
-        "move_before" => output.show(&map.move_before(&line.key(), &line.key())),
-        "move_after" => output.show(&map.move_after(&line.key(), &line.key())),
-        "rotate_left" => rotate_left(map, line.size(), output),
-        "set_mode" => map.set_mode(mode_named(line.word())),
-        "capacity" => output.show(&map.capacity()),
-        "rechained" => output.show(&map.rechained()),
-        "mode" => output.show(&map.mode()),
+pub fn run(call: &Call, map: &mut Map) -> bool {
+    match call.name() {
+        "move_to_back" => call.show(&map.move_to_back(&call.key())),
+        "move_to_front" => call.show(&map.move_to_front(&call.key())),
+        "move_before" => call.show(&map.move_before(&call.key(), &call.key())),
+        "move_after" => call.show(&map.move_after(&call.key(), &call.key())),
+        "rotate_left" => rotate_left(map, call.size(), call),
+        "set_mode" => map.set_mode(mode_named(call.word())),
         _ => return false,
     }
     true

@@ -1,9 +1,9 @@
 //! Calls of lists of pairs.
 
 use super::Map;
+use super::call::Call;
+use super::comparisons::show_equal;
 use super::key::Key;
-use super::line::Line;
-use super::output::Output;
 use super::value::Value;
 use linked_hash_map::replay::PairList;
 
@@ -11,39 +11,31 @@ use linked_hash_map::replay::PairList;
 type Pairs = PairList<Key, Value>;
 
 /// Makes a list of the words of a line.
-fn list_of_words(line: &mut Line, output: &mut Output) -> Pairs {
-    let mut pairs = Vec::new(line.alloc);
-    for pair in line.pairs() {
-        output.note(pairs.push(pair));
+fn list_of_words(call: &Call) -> Pairs {
+    let mut pairs = Vec::new(call.alloc);
+    for pair in call.pairs() {
+        call.note(pairs.push(pair));
     }
     PairList::from_vec(pairs)
 }
 
 /// Makes a list of copies of the pairs of a map.
-fn list_of_copies(line: &Line, map: &Map, output: &mut Output) -> Pairs {
-    let mut pairs = Vec::new(line.alloc);
+fn list_of_copies(call: &Call, map: &Map) -> Pairs {
+    let mut pairs = Vec::new(call.alloc);
     for (key, value) in map.iter() {
-        output.note(pairs.push((key.copy(), value.copy())));
+        call.note(pairs.push((key.copy(), value.copy())));
     }
     Pairs::from(pairs)
 }
 
 /// Appends what a list has. Each call is within a window.
-fn show_list(list: &Pairs, output: &mut Output) {
-    output.begin();
-    output.show(&list.len());
-    output.begin();
-    output.show(&list.is_empty());
-    output.begin();
-    output.show(&list.as_slice());
-}
-
-/// Appends whether two lists are equal. Each comparison is within a window.
-fn show_equal(list: &Pairs, other: &Pairs, output: &mut Output) {
-    output.begin();
-    output.show(&(*list == *other));
-    output.begin();
-    output.show(&(*list != *other));
+fn show_list(list: &Pairs, call: &Call) {
+    call.begin();
+    call.show(&list.len());
+    call.begin();
+    call.show(&list.is_empty());
+    call.begin();
+    call.show(&list.as_slice());
 }
 
 /// Turns a list into a vector and back, twice.
@@ -53,13 +45,13 @@ fn convert(list: Pairs) -> Pairs {
 }
 
 /// Makes a list of the words of a line and one of a map, and makes each call of a list.
-pub fn show_calls(line: &mut Line, map: &Map, output: &mut Output) {
-    output.end();
-    let list = list_of_words(line, output);
-    let other = list_of_copies(line, map, output);
-    show_list(&list, output);
-    show_equal(&list, &other, output);
-    output.begin();
+pub fn show_calls(call: &Call, map: &Map) {
+    call.end();
+    let list = list_of_words(call);
+    let other = list_of_copies(call, map);
+    show_list(&list, call);
+    show_equal(&list, &other, call);
+    call.begin();
     let converted = convert(list);
-    output.drop_within(converted);
+    call.drop_within(converted);
 }

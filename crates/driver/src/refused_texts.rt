@@ -1,9 +1,8 @@
 //! The errors of a map, and what they are turned into.
 
+use super::call::Call;
 use super::counts::Shared;
 use super::key::Key;
-use super::line::Line;
-use super::output::Output;
 use super::value::Value;
 use linked_hash_map::{NoRoom, Refused, ReserveError};
 use std::alloc::AllocError;
@@ -22,45 +21,45 @@ fn again(refused: &Pair, counts: &Shared) -> Pair {
 }
 
 /// Appends the kind of an error, which was made within a window.
-pub fn show_kind(error: io::Error, output: &mut Output) {
-    output.show(&error.kind());
+pub fn show_kind(error: io::Error, call: &Call) {
+    call.show(&error.kind());
 }
 
 /// Appends the text of an error of a pair, and what it is turned into.
-fn show_refused(line: &mut Line, output: &mut Output) {
+fn show_refused(call: &Call) {
     let first = Refused {
-        key: line.key(),
-        value: line.value(),
+        key: call.key(),
+        value: call.value(),
     };
-    let second = again(&first, line.counts());
-    let third = again(&first, line.counts());
-    output.show_text(&first);
-    output.begin();
-    show_kind(io::Error::from(second), output);
-    output.begin();
-    output.show(&AllocError::from(third));
+    let second = again(&first, call.counts());
+    let third = again(&first, call.counts());
+    call.show_text(&first);
+    call.begin();
+    show_kind(io::Error::from(second), call);
+    call.begin();
+    call.show(&AllocError::from(third));
 }
 
 /// Appends the text of an error of a reservation, and what it is turned into.
-pub fn show_reserve_errors(output: &mut Output) {
-    output.show_text(&ReserveError::TooLarge);
-    show_kind(io::Error::from(ReserveError::TooLarge), output);
-    output.show(&AllocError::from(ReserveError::TooLarge));
-    output.show_text(&ReserveError::NoRoom);
-    show_kind(io::Error::from(ReserveError::NoRoom), output);
-    output.show(&AllocError::from(ReserveError::NoRoom));
+pub fn show_reserve_errors(call: &Call) {
+    call.show_text(&ReserveError::TooLarge);
+    show_kind(io::Error::from(ReserveError::TooLarge), call);
+    call.show(&AllocError::from(ReserveError::TooLarge));
+    call.show_text(&ReserveError::NoRoom);
+    show_kind(io::Error::from(ReserveError::NoRoom), call);
+    call.show(&AllocError::from(ReserveError::NoRoom));
 }
 
 /// Appends the text of the error of a shrinking, and what it is turned into.
-pub fn show_no_room(output: &mut Output) {
-    output.show_text(&NoRoom);
-    show_kind(io::Error::from(NoRoom), output);
-    output.show(&AllocError::from(NoRoom));
+pub fn show_no_room(call: &Call) {
+    call.show_text(&NoRoom);
+    show_kind(io::Error::from(NoRoom), call);
+    call.show(&AllocError::from(NoRoom));
 }
 
 /// Appends the texts of all errors of a map, and what they are turned into.
-pub fn show_all(line: &mut Line, output: &mut Output) {
-    show_refused(line, output);
-    show_no_room(output);
-    show_reserve_errors(output);
+pub fn show_all(call: &Call) {
+    show_refused(call);
+    show_no_room(call);
+    show_reserve_errors(call);
 }

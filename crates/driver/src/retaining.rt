@@ -1,9 +1,8 @@
 //! Calls that keep the pairs that a closure chooses.
 
 use super::Map;
+use super::call::Call;
 use super::counts::{Shared, share};
-use super::line::Line;
-use super::output::Output;
 use super::value::Value;
 use std::cell::Cell;
 
@@ -36,8 +35,8 @@ impl Calls {
     }
 
     /// Appends both numbers.
-    pub fn show(&self, output: &mut Output) {
-        output.show_two(&self.calls.get(), &self.dropped.get());
+    pub fn show(&self, call: &Call) {
+        call.show_two(&self.calls.get(), &self.dropped.get());
     }
 }
 
@@ -51,14 +50,14 @@ pub fn keep_and_increase(value: &mut Value, number: u64, by: u64) -> bool {
 }
 
 /// Keeps the pairs whose values are not a number modulo 7, and adds the number of the call to each.
-pub fn retain(map: &mut Map, line: &mut Line, output: &mut Output) {
-    let number = line.number();
-    let guard = line.guard();
-    let calls = Calls::new(line.counts());
+pub fn retain(map: &mut Map, call: &Call) {
+    let number = call.number();
+    let guard = call.guard();
+    let calls = Calls::new(call.counts());
     let noted = &calls;
     map.retain(move |_key, value| {
         guard.hold();
         keep_and_increase(value, number, noted.note())
     });
-    calls.show(output);
+    calls.show(call);
 }

@@ -1,9 +1,8 @@
 //! Calls of a table of sessions.
 
-use super::line::Line;
+use super::call::Call;
 use super::list::{Digest, SHOWN, list};
 use super::lookups::write_lent;
-use super::output::Output;
 use super::refusal::Refusal;
 use super::retaining::{Calls, keep_and_increase};
 use super::stop::Stop;
@@ -18,67 +17,67 @@ pub type Table = Sessions<Value>;
 
 /// Says which of the two reasons it is, and the payload.
 impl Refusal for PutRefused<Value> {
-    fn show(&self, output: &mut Output) {
-        output.push_str("refused ");
-        output.show(&self.reason);
-        output.show_numbered(&self.payload, self.payload.serial());
+    fn show(&self, call: &Call) {
+        call.push_str("refused ");
+        call.show(&self.reason);
+        call.show_numbered(&self.payload, self.payload.serial());
     }
 }
 
 /// Makes an empty table of a limit and a capacity.
-fn with_capacity(line: &mut Line, table: &mut Table, output: &mut Output) {
-    let limit = line.number();
-    output.store(table, Table::with_capacity(line.alloc, limit, line.size()));
+fn with_capacity(call: &Call, table: &mut Table) {
+    let limit = call.number();
+    call.store(table, Table::with_capacity(call.alloc, limit, call.size()));
 }
 
 /// Drops a table within a window, and leaves a new one of the limit 0 in its place.
-fn drop_table(line: &Line, table: &mut Table, output: &mut Output) {
-    output.drop_within(mem::replace(table, Table::new(line.alloc, 0)));
+fn drop_table(call: &Call, table: &mut Table) {
+    call.drop_within(mem::replace(table, Table::new(call.alloc, 0)));
 }
 
 /// Appends a session that went.
-fn show_gone(session: &(u64, u64, Value), output: &mut Output) {
-    output.show_session(("", " "), session.0, session.1, &session.2);
+fn show_gone(session: &(u64, u64, Value), call: &Call) {
+    call.show_session(("", " "), session.0, session.1, &session.2);
 }
 
 /// Appends the first session that went, the last and a digest.
-fn show_ends(sessions: &[(u64, u64, Value)], output: &mut Output) {
+fn show_ends(sessions: &[(u64, u64, Value)], call: &Call) {
     if let Some(first) = sessions.first() {
-        show_gone(first, output);
+        show_gone(first, call);
     }
     if let Some(last) = sessions.last() {
-        show_gone(last, output);
+        show_gone(last, call);
     }
     let mut digest = Digest::default();
     for session in sessions {
         digest.add(&(session.0, session.1, &session.2));
     }
-    output.show(&digest.sum);
+    call.show(&digest.sum);
 }
 
 /// Appends the sessions that went in order, or if they are many, the ends.
-fn show_all_gone(sessions: &[(u64, u64, Value)], output: &mut Output) {
+fn show_all_gone(sessions: &[(u64, u64, Value)], call: &Call) {
     if sessions.len() > SHOWN {
-        return show_ends(sessions, output);
+        return show_ends(sessions, call);
     }
     for session in sessions {
-        show_gone(session, output);
+        show_gone(session, call);
     }
 }
 
 /// Appends what a put returned: the old payload, and those that went.
-fn show_put(put: Put<Value>, output: &mut Output) {
-    output.show(&put.old);
-    output.push_str("gone ");
-    output.show_size(put.gone.len(), put.gone.capacity());
-    show_all_gone(put.gone.as_slice(), output);
+fn show_put(put: Put<Value>, call: &Call) {
+    call.show(&put.old);
+    call.push_str("gone ");
+    call.show_size(put.gone.len(), put.gone.capacity());
+    show_all_gone(put.gone.as_slice(), call);
 }
 
-fn put(table: &mut Table, line: &mut Line, output: &mut Output) {
-    let (id, weight) = (line.number(), line.number());
-    match table.put(id, weight, line.value()) {
-        Ok(put) => show_put(put, output),
-        Err(refused) => output.show_refused(refused),
+fn put(table: &mut Table, call: &Call) {
+    let (id, weight) = (call.number(), call.number());
+    match table.put(id, weight, call.value()) {
+        Ok(put) => show_put(put, call),
+        Err(refused) => call.show_refused(refused),
     }
 }
 
@@ -106,102 +105,101 @@ impl Handed {
 /// Puts a session, and hands those that go to a closure.
 fn put_into(
     table: &mut Table,
-    line: &mut Line,
+    call: &Call,
     handed: &Handed,
-    output: &mut Output,
 ) -> Result<Option<Value>, PutRefused<Value>> {
-    let (id, weight) = (line.number(), line.number());
-    let payload = line.value();
-    let guard = line.guard();
-    output.begin();
+    let (id, weight) = (call.number(), call.number());
+    let payload = call.value();
+    let guard = call.guard();
+    call.begin();
     let returned = table.put_with(id, weight, payload, move |id, weight, payload| {
         guard.hold();
         handed.add(id, weight, payload);
     });
-    output.end();
+    call.end();
     returned
 }
 
 /// Appends what a put returned: the old payload, and those that were handed out.
-fn show_handed(old: Option<Value>, handed: &Handed, output: &mut Output) {
-    output.show(&old);
-    output.push_str("handed ");
+fn show_handed(old: Option<Value>, handed: &Handed, call: &Call) {
+    call.show(&old);
+    call.push_str("handed ");
     let sessions = handed.take();
-    show_all_gone(sessions.as_slice(), output);
+    show_all_gone(sessions.as_slice(), call);
 }
 
-fn put_with(table: &mut Table, line: &mut Line, output: &mut Output) {
-    output.end();
-    let Ok(sessions) = Vec::with_capacity(line.alloc, table.len()) else {
-        return output.note(Err::<(), _>(Stop::OutOfMemory));
+fn put_with(table: &mut Table, call: &Call) {
+    call.end();
+    let Ok(sessions) = Vec::with_capacity(call.alloc, table.len()) else {
+        return call.note(Err::<(), _>(Stop::OutOfMemory));
     };
     let handed = Handed {
         sessions: Cell::new(sessions),
-        alloc: line.alloc,
+        alloc: call.alloc,
     };
-    match put_into(table, line, &handed, output) {
-        Ok(old) => show_handed(old, &handed, output),
-        Err(refused) => output.show_refused(refused),
+    match put_into(table, call, &handed) {
+        Ok(old) => show_handed(old, &handed, call),
+        Err(refused) => call.show_refused(refused),
     }
     drop(handed);
 }
 
 /// Keeps the payloads that are not a number modulo 7, and adds the number of the call to each.
-fn retain(table: &mut Table, line: &mut Line, output: &mut Output) {
-    let number = line.number();
-    let guard = line.guard();
-    let calls = Calls::new(line.counts());
+fn retain(table: &mut Table, call: &Call) {
+    let number = call.number();
+    let guard = call.guard();
+    let calls = Calls::new(call.counts());
     let noted = &calls;
     table.retain(move |_id, _weight, payload| {
         guard.hold();
         keep_and_increase(payload, number, noted.note())
     });
-    calls.show(output);
+    calls.show(call);
 }
 
 /// Puts the ids below a count, each in a window, until one is refused.
-fn fill(table: &mut Table, line: &mut Line, output: &mut Output) {
-    let (count, weight) = (line.number(), line.number());
+fn fill(table: &mut Table, call: &Call) {
+    let (count, weight) = (call.number(), call.number());
     for number in 0..count {
-        let payload = Value::new(number, line.counts());
-        output.begin();
-        if !output.is_given(table.put(number, weight, payload)) {
-            return output.show_refused_number(number);
+        let payload = Value::new(number, call.counts());
+        call.begin();
+        if !call.is_given(table.put(number, weight, payload)) {
+            return call.show_refused_number(number);
         }
     }
-    output.show(&count);
+    call.show(&count);
 }
 
 /// Makes a step for each letter, and appends what each gives and how much is left. Each step is
 /// within a window.
-fn iterate(table: &Table, steps: &str, output: &mut Output) {
+fn iterate(table: &Table, steps: &str, call: &Call) {
     let mut sessions = table.iter();
     for _letter in steps.bytes() {
-        output.begin();
-        output.show(&sessions.next());
-        output.show_two(&sessions.size_hint(), &sessions.len());
+        call.begin();
+        call.show(&sessions.next());
+        call.show_two(&sessions.size_hint(), &sessions.len());
     }
-    output.drop_within(sessions);
+    call.drop_within(sessions);
 }
 
 /// Runs the call of a line, and returns whether there is one.
-fn run_call(line: &mut Line, table: &mut Table, output: &mut Output) -> bool {
-    match line.name() {
-        "put" => put(table, line, output),
-        "put_with" => put_with(table, line, output),
-        "touch" => output.show(&table.touch(line.number())),
-        "touch_mut" => write_lent(table.touch(line.number()), line.value(), output),
-        "remove" => output.show(&table.remove(line.number())),
-        "retain" => retain(table, line, output),
-        "reserve" => output.show_refusal(table.reserve(line.size())),
-        "capacity" => output.show(&table.capacity()),
-        "total" => output.show(&table.total()),
-        "len" => output.show(&table.len()),
-        "iter" => iterate(table, line.word(), output),
-        "fill" => fill(table, line, output),
-        "new" => output.replace(table, Table::new(line.alloc, line.number())),
-        "with_capacity" => with_capacity(line, table, output),
-        "drop" => drop_table(line, table, output),
+fn run_call(call: &Call, table: &mut Table) -> bool {
+    match call.name() {
+        "put" => put(table, call),
+        "put_with" => put_with(table, call),
+        "touch" => call.show(&table.touch(call.number())),
+        "touch_mut" => write_lent(table.touch(call.number()), call.value(), call),
+        "remove" => call.show(&table.remove(call.number())),
+        "retain" => retain(table, call),
+        "reserve" => call.show_refusal(table.reserve(call.size())),
+        "capacity" => call.show(&table.capacity()),
+        "total" => call.show(&table.total()),
+        "len" => call.show(&table.len()),
+        "iter" => iterate(table, call.word(), call),
+        "fill" => fill(table, call),
+        "new" => call.replace(table, Table::new(call.alloc, call.number())),
+        "with_capacity" => with_capacity(call, table),
+        "drop" => drop_table(call, table),
         _ => return false,
     }
     true
@@ -209,13 +207,13 @@ fn run_call(line: &mut Line, table: &mut Table, output: &mut Output) -> bool {
 
 /// Runs the call of a line, appends what it returns, the total and the list, and returns whether
 /// there is such a call.
-pub fn run(line: &mut Line, table: &mut Table, output: &mut Output) -> bool {
-    let is_known = run_call(line, table, output);
+pub fn run(call: &Call, table: &mut Table) -> bool {
+    let is_known = run_call(call, table);
     if is_known {
-        output.push_str("| ");
-        output.show(&table.total());
-        output.push_str("|");
-        list(table.len(), table.iter(), output);
+        call.push_str("| ");
+        call.show(&table.total());
+        call.push_str("|");
+        list(table.len(), table.iter(), call);
     }
     is_known
 }

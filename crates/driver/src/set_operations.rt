@@ -1,24 +1,20 @@
 //! Calls of two sets.
 ghost use Rattle.std.specs.Iterator.{IsFinite};
 
+use super::call::Call;
+use super::comparisons::show_equal;
 use super::hasher::BuildKeyHasher;
-use super::line::Line;
-use super::output::Output;
 use super::sets::Set;
 use std::fmt::Debug;
 use std::hash::BuildHasher;
 
 /// Makes a step for each letter, and appends what each gives. Each step is within a window.
-fn step_through<T: Debug + Drop, I: Iterator<Item = T>>(
-    items: &mut I,
-    steps: &str,
-    output: &mut Output,
-)
+fn step_through<T: Debug + Drop, I: Iterator<Item = T>>(items: &mut I, steps: &str, call: &Call)
     requires { (items : I) → I.can_next items }
 {
     for _letter in steps.bytes() {
-        output.begin();
-        output.show(&items.next());
+        call.begin();
+        call.show(&items.next());
     }
 }
 
@@ -27,61 +23,50 @@ fn step_and_clone<T: Debug + Drop, I: Iterator<Item = T> + Clone + Drop>(
     items: I,
     first: &str,
     steps: &str,
-    output: &mut Output,
+    call: &Call,
 )
     requires { (items : I) → I.can_next items }
 {
     let mut items = items;
-    step_through(&mut items, first, output);
-    output.begin();
+    step_through(&mut items, first, call);
+    call.begin();
     match items.clone() {
         Ok(mut copy) => {
-            step_through(&mut copy, steps, output);
-            output.drop_within(copy);
+            step_through(&mut copy, steps, call);
+            call.drop_within(copy);
         }
-        Err(refused) => output.show_refused(refused),
+        Err(refused) => call.show_refused(refused),
     }
-    output.push_str("/ ");
-    step_through(&mut items, steps, output);
-    output.drop_within(items);
+    call.push_str("/ ");
+    step_through(&mut items, steps, call);
+    call.drop_within(items);
 }
 
 /// Appends all items, or makes the steps of the words, if there are any.
-fn iterate<T: Debug + Drop, I: Iterator<Item = T> + Clone + Drop>(
-    items: I,
-    line: &mut Line,
-    output: &mut Output,
-)
+fn iterate<T: Debug + Drop, I: Iterator<Item = T> + Clone + Drop>(items: I, call: &Call)
     requires can { (items : I) → I.can_next items }
     requires ends { IsFinite (I.remaining items) }
 {
-    let first = line.word();
+    let first = call.word();
     if first.is_empty() {
-        output.show_all(items);
+        call.show_all(items);
     } else {
-        step_and_clone(items, first, line.word(), output);
+        step_and_clone(items, first, call.word(), call);
     }
 }
 
-/// Appends whether two sets are equal. Each comparison is within a window.
-fn show_equal(set: &Set, other: &Set, output: &mut Output) {
-    output.show(&(*set == *other));
-    output.begin();
-    output.show(&(*set != *other));
-}
-
 /// Runs the call of a line, and returns whether there is one.
-pub fn run(line: &mut Line, set: &Set, other: &Set, output: &mut Output) -> bool {
-    match line.name() {
-        "difference" => iterate(set.difference(other), line, output),
-        "symmetric_difference" => iterate(set.symmetric_difference(other), line, output),
-        "intersection" => iterate(set.intersection(other), line, output),
-        "union" => iterate(set.union(other), line, output),
-        "is_subset" => output.show(&set.is_subset(other)),
-        "is_superset" => output.show(&set.is_superset(other)),
-        "is_disjoint" => output.show(&set.is_disjoint(other)),
-        "eq" => show_equal(set, other, output),
-        "hash" => output.show(&BuildKeyHasher::default().hash_one(set)),
+pub fn run(call: &Call, set: &Set, other: &Set) -> bool {
+    match call.name() {
+        "difference" => iterate(set.difference(other), call),
+        "symmetric_difference" => iterate(set.symmetric_difference(other), call),
+        "intersection" => iterate(set.intersection(other), call),
+        "union" => iterate(set.union(other), call),
+        "is_subset" => call.show(&set.is_subset(other)),
+        "is_superset" => call.show(&set.is_superset(other)),
+        "is_disjoint" => call.show(&set.is_disjoint(other)),
+        "eq" => show_equal(set, other, call),
+        "hash" => call.show(&BuildKeyHasher::default().hash_one(set)),
         _ => return false,
     }
     true

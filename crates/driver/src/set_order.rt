@@ -1,56 +1,69 @@
 //! Calls of a set by the place of its items.
 
+use super::call::Call;
 use super::copied::CopiedKey;
 use super::iterators_from::advance_and_clone;
-use super::line::Line;
-use super::output::Output;
 use super::retaining::Calls;
 use super::sets::Set;
 use super::sorts::compare;
 use linked_hash_set::LinkedHashSet;
 
 /// Sorts by the texts as numbers modulo 7, compared as a word says.
-fn sort_by(set: &mut Set, line: &mut Line, output: &mut Output) {
-    let word = line.word();
-    let guard = line.guard();
-    let calls = Calls::new(line.counts());
+fn sort_by(set: &mut Set, call: &Call) {
+    let word = call.word();
+    let guard = call.guard();
+    let calls = Calls::new(call.counts());
     let noted = &calls;
     set.sort_by(move |item, other| {
         guard.hold();
         compare(word, noted.note(), item.number() % 7, other.number() % 7)
     });
-    calls.show(output);
+    calls.show(call);
+}
+
+/// Sorts by the texts as numbers modulo 7, each taken once.
+fn sort_by_cached_key(set: &mut Set, call: &Call) {
+    let guard = call.guard();
+    let calls = Calls::new(call.counts());
+    let noted = &calls;
+    call.show_refusal(set.sort_by_cached_key(move |item| {
+        guard.hold();
+        noted.note();
+        item.number() % 7
+    }));
+    calls.show(call);
 }
 
 /// Sorts a set of the same items that are compared as they are, and appends it.
-fn sort(line: &Line, set: &Set, output: &mut Output) {
-    output.end();
-    let mut sorted: LinkedHashSet<CopiedKey> = LinkedHashSet::new(line.alloc);
+fn sort(call: &Call, set: &Set) {
+    call.end();
+    let mut sorted: LinkedHashSet<CopiedKey> = LinkedHashSet::new(call.alloc);
     for item in set {
-        output.note(sorted.insert(item.ordered()));
+        call.note(sorted.insert(item.ordered()));
     }
-    output.begin();
+    call.begin();
     sorted.sort();
-    output.show(&sorted);
+    call.show(&sorted);
 }
 
 /// Runs the call of a line, and returns whether there is one.
-pub fn run(line: &mut Line, set: &mut Set, other: &mut Set, output: &mut Output) -> bool {
-    match line.name() {
-        "append" => output.show_refusal(set.append(other)),
-        "insert_front" => output.show_result(set.insert_front(line.key())),
-        "move_before" => output.show(&set.move_before(&line.key(), &line.key())),
-        "move_after" => output.show(&set.move_after(&line.key(), &line.key())),
-        "sort_by" => sort_by(set, line, output),
-        "sort" => sort(line, set, output),
+pub fn run(call: &Call, set: &mut Set, other: &mut Set) -> bool {
+    match call.name() {
+        "append" => call.show_refusal(set.append(other)),
+        "insert_front" => call.show_result(set.insert_front(call.key())),
+        "move_before" => call.show(&set.move_before(&call.key(), &call.key())),
+        "move_after" => call.show(&set.move_after(&call.key(), &call.key())),
+        "sort_by" => sort_by(set, call),
+        "sort_by_cached_key" => sort_by_cached_key(set, call),
+        "sort" => sort(call, set),
         "reverse" => set.reverse(),
         "iter_from" => {
-            let item = line.key();
-            advance_and_clone(set.iter_from(&item), line, output);
+            let item = call.key();
+            advance_and_clone(set.iter_from(&item), call);
         }
         "iter_back_from" => {
-            let item = line.key();
-            advance_and_clone(set.iter_back_from(&item), line, output);
+            let item = call.key();
+            advance_and_clone(set.iter_back_from(&item), call);
         }
         _ => return false,
     }

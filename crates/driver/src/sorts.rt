@@ -1,9 +1,8 @@
 //! Calls that sort the pairs.
 
 use super::Map;
+use super::call::Call;
 use super::comparisons::ordered;
-use super::line::Line;
-use super::output::Output;
 use super::retaining::Calls;
 use std::cmp::Ordering;
 
@@ -18,46 +17,60 @@ pub fn compare(word: &str, call: u64, number: u64, other: u64) -> Ordering {
 }
 
 /// Sorts by the values, compared as a word says.
-fn sort_by(map: &mut Map, line: &mut Line, output: &mut Output) {
-    let word = line.word();
-    let guard = line.guard();
-    let calls = Calls::new(line.counts());
+fn sort_by(map: &mut Map, call: &Call) {
+    let word = call.word();
+    let guard = call.guard();
+    let calls = Calls::new(call.counts());
     let noted = &calls;
     map.sort_by(move |_key, value, _other_key, other| {
         guard.hold();
         compare(word, noted.note(), value.number(), other.number())
     });
-    calls.show(output);
+    calls.show(call);
 }
 
 /// Sorts by copies of the values, which the call drops.
-fn sort_by_key(map: &mut Map, line: &mut Line, output: &mut Output) {
-    let guard = line.guard();
-    let calls = Calls::new(line.counts());
+fn sort_by_key(map: &mut Map, call: &Call) {
+    let guard = call.guard();
+    let calls = Calls::new(call.counts());
     let noted = &calls;
     map.sort_by_key(move |_key, value| {
         guard.hold();
         noted.note();
         value.copy()
     });
-    calls.show(output);
+    calls.show(call);
+}
+
+/// Sorts by the numbers of the values, each taken once.
+fn sort_by_cached_key(map: &mut Map, call: &Call) {
+    let guard = call.guard();
+    let calls = Calls::new(call.counts());
+    let noted = &calls;
+    call.show_refusal(map.sort_by_cached_key(move |_key, value| {
+        guard.hold();
+        noted.note();
+        value.number()
+    }));
+    calls.show(call);
 }
 
 /// Sorts a map of the same pairs whose keys are compared as they are, and appends it.
-fn sort_keys(line: &Line, map: &Map, output: &mut Output) {
-    output.end();
-    let mut map = ordered(line, map, output);
-    output.begin();
+fn sort_keys(call: &Call, map: &Map) {
+    call.end();
+    let mut map = ordered(call, map);
+    call.begin();
     map.sort_keys();
-    output.show(&map);
+    call.show(&map);
 }
 
 /// Runs the call of a line, and returns whether there is one.
-pub fn run(line: &mut Line, map: &mut Map, output: &mut Output) -> bool {
-    match line.name() {
-        "sort_by" => sort_by(map, line, output),
-        "sort_by_key" => sort_by_key(map, line, output),
-        "sort_keys" => sort_keys(line, map, output),
+pub fn run(call: &Call, map: &mut Map) -> bool {
+    match call.name() {
+        "sort_by" => sort_by(map, call),
+        "sort_by_key" => sort_by_key(map, call),
+        "sort_by_cached_key" => sort_by_cached_key(map, call),
+        "sort_keys" => sort_keys(call, map),
         "reverse" => map.reverse(),
         _ => return false,
     }

@@ -1,3 +1,4 @@
+pub mod AscendingRuns
 pub mod Calls
 pub mod IndexedRing
 pub mod MergedRuns

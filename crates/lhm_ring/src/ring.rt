@@ -317,24 +317,6 @@ impl<K, V> Ring<K, V> {
         join(&mut self.nodes, &mut self.ends, moved, Link::none());
     }
 
-    /// Moves the triple at a position to the front. The others keep their order, and positions
-    /// stay.
-    pub fn move_to_front(&mut self, at: Position<K, V>)
-        requires { IsHeld self.old.held (pointer_of at) }
-        ensures first { AtHeld self.old.held (pointer_of at) (λ xs t ys.
-            self.new.held ≡ t ∷ (xs ++ ys)) }
-        ensures spares { self.new.spares ≡ self.old.spares }
-        ensures nodes { self.new.nodes ≡ self.old.nodes }
-        ensures apart { IsApart (map (λ t. t.at) self.old.held) }
-    {
-        let links = *self.nodes.links(at.pointer);
-        let moved = Link::to(at.pointer);
-        join(&mut self.nodes, &mut self.ends, links.prev, links.next);
-        let first = self.ends.first;
-        join(&mut self.nodes, &mut self.ends, moved, first);
-        join(&mut self.nodes, &mut self.ends, Link::none(), moved);
-    }
-
     /// Puts a triple into a spare node at the back, and returns its position. Its chain link leads
     /// nowhere.
     pub fn put_back(&mut self, hash: u64, key: K, value: V) -> Position<K, V>

@@ -233,7 +233,8 @@ impl<K, V> Table<K, V> {
             self.new.held ≡ to_front_at self.old.held index }
         ensures keeps { KeepsCounts self.old self.new }
     {
-        self.ring.move_to_front(at);
+        let front = self.first();
+        self.move_before(at, front);
     }
 
     /// Moves the front pair to the back, so many times.

@@ -1,5 +1,7 @@
 pub mod AbsentKeys
+pub mod Arranged
 pub mod BookmarkMoves
+pub mod CachedKeys
 pub mod Current
 pub mod CutNodes
 pub mod Drained
@@ -9,6 +11,7 @@ pub mod Fitted
 pub mod FoundKeys
 pub mod HeldPairs
 pub mod Kept
+pub mod KeyPositions
 pub mod LookupCounts
 pub mod MovedBeside
 pub mod MovedNode

@@ -5,9 +5,9 @@ use denote.RawPtr.{Ptr}
 use Rattle.linked_hash_map.specs.LinkedMap.{LinkedMap, CursorState, linked_map, cursor_state, nowhere}
 use Rattle.linked_hash_map.specs.declared.map.Mode.{Mode}
 use Rattle.linked_hash_map.specs.declared.map.TheConstants.{LIMIT}
-use Rattle.linked_hash_map.specs.declared.map.cursor.Visit.{Visit}
+use Rattle.linked_hash_map.specs.declared.map.cursor.State.{State}
 use Rattle.linked_hash_map.specs.declared.map.LinkedHashMap.TheInside.{Inside}
-use Rattle.lhm_ring.specs.Pointer.{pointer_of_some}
+use Rattle.lhm_ring.specs.Pointer.{target}
 use Rattle.linked_hash_map.specs.Pairs.{find, from_first}
 use Rattle.lhm_ring.specs.Nodes.{same_ptr}
 use Rattle.lhm_ring.specs.Positions.{index_of}
@@ -43,23 +43,22 @@ module _ {B : Type 0} where
   Lies (Some p) hs = index_of p hs < length hs
 
 -- where a cursor or an entry stands: nowhere, and with nothing to visit, if there is neither
-module _ {K V : Type 0} where
-  abbrev pub bookmark_of : Visit K V → Option Ptr
-  bookmark_of visit = cond visit.active (pointer_of_some visit.bookmark) None
+abbrev pub bookmark_of : State → Option Ptr
+bookmark_of visit = cond visit.active (target visit.bookmark) None
 
-  abbrev pub unvisited_of : Visit K V → ℕ
-  unvisited_of visit = cond visit.active visit.unvisited 0
+abbrev pub unvisited_of : State → ℕ
+unvisited_of visit = cond visit.active visit.unvisited 0
 
-  abbrev pub current_of : Visit K V → Option Ptr
-  current_of visit = cond visit.active (pointer_of_some visit.current) None
+abbrev pub current_of : State → Option Ptr
+current_of visit = cond visit.active (target visit.current) None
 
-  abbrev pub visit_of : Visit K V → VisitState
-  visit_of visit =
-      record {
-        bookmark = bookmark_of visit;
-        unvisited = unvisited_of visit;
-        current = current_of visit;
-      }
+abbrev pub visit_of : State → VisitState
+visit_of visit =
+    record {
+      bookmark = bookmark_of visit;
+      unvisited = unvisited_of visit;
+      current = current_of visit;
+    }
 
 -- what a map has beside its table: the hasher, where a cursor and an entry stand, and the mode
 pub record Beside (S : Type 0) : Type 0 where
@@ -91,7 +90,7 @@ module _ {K V : Type 0} where
     pub pair : find eq (pairs_of hs) key ≡ Some has.held.node.pair
 
   abbrev pub beside : {S H : Type 0} → Inside K V S H → Beside S
-  beside m = record { hasher = m.hasher; visit = visit_of m.visit; mode = m.mode }
+  beside m = record { hasher = m.hasher; visit = visit_of m.state; mode = m.state.mode }
 
   -- what a contract sees of a map that keeps its pairs in this table
   abbrev pub map_of : {S : Type 0} → TableState (K × V) → Beside S → LinkedMap K V S

@@ -17,7 +17,8 @@ use std::alloc::Global;
 use std::hash::{BuildHasher, Hash};
 
 impl<K: Eq + Hash, V, S: BuildHasher> LinkedHashMap<K, V, S> {
-    /// Inserts the items one by one, each as `insert` does, hashing its key once.
+    /// Inserts the items one by one, each as `insert` does, hashing its key once. It is O(m) for m
+    /// items, or up to O(n + m) if it raises the capacity.
     ///
     /// The first refused is the error: the pairs before it stay, and no later item is taken.
     ///
@@ -77,7 +78,8 @@ impl<K: Eq + Hash, V, S: BuildHasher> LinkedHashMap<K, V, S> {
         Ok(())
     }
 
-    /// Inserts copies of the referenced pairs, as `extend` does.
+    /// Inserts copies of the referenced pairs, as `extend` does. It is O(m) for m items, or up to
+    /// O(n + m) if it raises the capacity.
     ///
     /// # Examples
     ///

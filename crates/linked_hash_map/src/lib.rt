@@ -31,22 +31,42 @@
 //!
 //! # Calls by task
 //!
-//! - Create: `new`, `with_capacity`, `with_hasher`, `from_iter`, `.collect(alloc)`, `clone`.
-//! - Insert: `insert`, `insert_front`, `extend`, `extend_refs`, or by an [`Entry`];
-//!   `insert_within_capacity` if there is room; `append` moves all pairs of another map, or none.
-//!   After `set_mode(Mode::Keep)` a present key keeps its place. `replace_key` stores a key in place
-//!   of one that is the same.
-//! - Look up: `get`, `get_key_value`, `get_mut`, `contains_key`, `map[&key]`, `front`, `back`,
-//!   `front_mut`, `back_mut`, or `get_refresh`, which moves the pair to the back. [`Equivalent`]
+//! - Create: [`new`](LinkedHashMap::new), [`with_capacity`](LinkedHashMap::with_capacity),
+//!   [`with_hasher`](LinkedHashMap::with_hasher), [`from_iter`](LinkedHashMap::from_iter),
+//!   `.collect(alloc)`, [`clone`](LinkedHashMap::clone).
+//! - Insert: [`insert`](LinkedHashMap::insert), [`insert_front`](LinkedHashMap::insert_front),
+//!   [`extend`](LinkedHashMap::extend), [`extend_refs`](LinkedHashMap::extend_refs), or by an
+//!   [`Entry`]; [`insert_within_capacity`](LinkedHashMap::insert_within_capacity) if there is room;
+//!   [`append`](LinkedHashMap::append) moves all pairs of another map, or none. After
+//!   [`set_mode(Mode::Keep)`](LinkedHashMap::set_mode) a present key keeps its place.
+//!   [`replace_key`](LinkedHashMap::replace_key) stores a key in place of one that is the same.
+//! - Look up: [`get`](LinkedHashMap::get), [`get_key_value`](LinkedHashMap::get_key_value),
+//!   [`get_mut`](LinkedHashMap::get_mut), [`contains_key`](LinkedHashMap::contains_key),
+//!   `map[&key]`, [`front`](LinkedHashMap::front), [`back`](LinkedHashMap::back),
+//!   [`front_mut`](LinkedHashMap::front_mut), [`back_mut`](LinkedHashMap::back_mut), or
+//!   [`get_refresh`](LinkedHashMap::get_refresh), which moves the pair to the back. [`Equivalent`]
 //!   has what a lookup takes: a reference to a key, or `&str` for a `String`.
-//! - Remove: `remove`, `remove_entry`, `pop_front`, `pop_back`, `retain`, `clear`, `drain`, or by
-//!   `front_entry` or `back_entry`.
-//! - Reorder: `move_to_back`, `move_to_front`, `move_before`, `move_after`, `rotate_left`,
-//!   `reverse`, `sort_by`, `sort_by_key`, `sort_keys`.
-//! - Iterate: `iter`, `iter_mut`, `keys`, `values`, `values_mut`, `into_iter`, `into_keys`,
-//!   `into_values`; `iter_from` or `iter_back_from`, in an `Option`, from the pair of a key on;
-//!   `entries` or `visit` to remove or move pairs on the way.
-//! - Memory: `capacity`, `reserve`, `shrink_to_fit`.
+//! - Remove: [`remove`](LinkedHashMap::remove), [`remove_entry`](LinkedHashMap::remove_entry),
+//!   [`pop_front`](LinkedHashMap::pop_front), [`pop_back`](LinkedHashMap::pop_back),
+//!   [`retain`](LinkedHashMap::retain), [`clear`](LinkedHashMap::clear),
+//!   [`drain`](LinkedHashMap::drain), or by [`front_entry`](LinkedHashMap::front_entry) or
+//!   [`back_entry`](LinkedHashMap::back_entry).
+//! - Reorder: [`move_to_back`](LinkedHashMap::move_to_back),
+//!   [`move_to_front`](LinkedHashMap::move_to_front), [`move_before`](LinkedHashMap::move_before),
+//!   [`move_after`](LinkedHashMap::move_after), [`rotate_left`](LinkedHashMap::rotate_left),
+//!   [`reverse`](LinkedHashMap::reverse), [`sort_by`](LinkedHashMap::sort_by),
+//!   [`sort_by_key`](LinkedHashMap::sort_by_key),
+//!   [`sort_by_cached_key`](LinkedHashMap::sort_by_cached_key),
+//!   [`sort_keys`](LinkedHashMap::sort_keys).
+//! - Iterate: [`iter`](LinkedHashMap::iter), [`iter_mut`](LinkedHashMap::iter_mut),
+//!   [`keys`](LinkedHashMap::keys), [`values`](LinkedHashMap::values),
+//!   [`values_mut`](LinkedHashMap::values_mut), [`into_iter`](LinkedHashMap::into_iter),
+//!   [`into_keys`](LinkedHashMap::into_keys), [`into_values`](LinkedHashMap::into_values);
+//!   [`iter_from`](LinkedHashMap::iter_from) or [`iter_back_from`](LinkedHashMap::iter_back_from),
+//!   in an `Option`, from the pair of a key on; [`entries`](LinkedHashMap::entries) or
+//!   [`visit`](LinkedHashMap::visit) to remove or move pairs on the way.
+//! - Memory: [`capacity`](LinkedHashMap::capacity), [`reserve`](LinkedHashMap::reserve),
+//!   [`shrink_to_fit`](LinkedHashMap::shrink_to_fit).
 //! - Besides: [`replay`] runs commands, and [`sessions`] has a table with a limit on weights.
 //!
 //! # Costs and refusals

@@ -19,13 +19,14 @@ mod remove;
 mod replace;
 mod sort;
 
-use self::cursor::Visit;
+use self::cursor::State;
 pub use self::get::Probe;
 use crate::iter::IntoIter;
 use lhm_ring::table::Table;
 use std::alloc::Global;
 use std::hash::{BuildHasher, BuildHasherDefault, FoldHasher, Hash};
 use std::marker::Model;
+use std::mem::size_of;
 
 /// The largest capacity of a map: 2^59. A call that would need more is refused without allocating.
 ///
@@ -99,11 +100,12 @@ pub struct LinkedHashMap<K: Eq + Hash, V, S: BuildHasher = DefaultHashBuilder> {
     // The pairs in order, with the hashes of their keys, and where each key is.
     table: Table<K, V>,
     hasher: S,
-    // Where a cursor or an entry stands.
-    visit: Visit<K, V>,
-    // Whether inserting a present key moves its pair.
-    mode: Mode,
+    // The mode, and where a cursor or an entry stands.
+    state: State,
 }
+
+// What a map takes beside its pairs.
+const _: () = prove!(size_of::<LinkedHashMap<u64, u64>>() == 208);
 
 /// Drops the pairs and the hasher, and frees all memory, in O(capacity).
 impl<K: Eq + Hash + Drop, V: Drop, S: BuildHasher + Drop> Drop for LinkedHashMap<K, V, S> {
@@ -111,8 +113,7 @@ impl<K: Eq + Hash + Drop, V: Drop, S: BuildHasher + Drop> Drop for LinkedHashMap
         let LinkedHashMap {
             table,
             hasher: _,
-            visit: _,
-            mode: _,
+            state: _,
         } = self;
         let mut pairs = table.into_pairs();
         'pairs: while let Some((_, key, value)) = pairs.take_first() {
@@ -136,7 +137,7 @@ impl<K: Eq + Hash, V, S: BuildHasher> Model for LinkedHashMap<K, V, S> {
 
     ghost invariant = { λ m.
         IsKept K.eq (hash_by S.Hasher.finish S.Hasher.write S.build_hasher K.hash_input m.hasher)
-        (bare m.table.held) m.table.capacity (visit_of m.visit) };
+        (bare m.table.held) m.table.capacity (visit_of m.state) };
 }
 
 impl<K: Eq + Hash, V, S: BuildHasher> LinkedHashMap<K, V, S> {
@@ -155,8 +156,7 @@ impl<K: Eq + Hash, V, S: BuildHasher> LinkedHashMap<K, V, S> {
         LinkedHashMap {
             table,
             hasher,
-            visit: Visit::none(),
-            mode: Mode::Touch,
+            state: State::new(Mode::Touch),
         }
     }
 
@@ -170,8 +170,7 @@ impl<K: Eq + Hash, V, S: BuildHasher> LinkedHashMap<K, V, S> {
         let LinkedHashMap {
             table,
             hasher: _,
-            visit: _,
-            mode: _,
+            state: _,
         } = self;
         IntoIter::new(table.into_iter())
     }
@@ -267,7 +266,7 @@ impl<K: Eq + Hash, V, S: BuildHasher> LinkedHashMap<K, V, S> {
         ensures mode { result ≡ self.now.mode }
         ensures valid { IsValid K.eq self.now }
     {
-        self.mode
+        self.state.mode
     }
 
     /// Sets the mode, in O(1). The order stays.
@@ -291,6 +290,6 @@ impl<K: Eq + Hash, V, S: BuildHasher> LinkedHashMap<K, V, S> {
         ensures valid { IsValid K.eq self.old }
         ensures stays_valid { IsValid K.eq self.new }
     {
-        self.mode = mode;
+        self.state.mode = mode;
     }
 }

@@ -2,13 +2,13 @@
 use denote.Param.Always.{always_mut, mut_by, mut_next}
 use Rattle.std.proofs.Common.{◌≡◌, ◌+◌, ◌<◌, Bool, List, [], ◌∷◌, length, Bor, filter, refl, sym, ap, ap₂, ◌∙◌, arith}
 use Rattle.std.specs.Cmp.{IsStrictWeakOrder}
-use Rattle.std.specs.Fn.{Mut, Called, CalledAtTwo, ComparesAs}
+use Rattle.std.specs.Fn.{Mut, Called, CalledAt, CalledAtTwo, ComparesAs, ComputesKey}
 use Rattle.std.specs.List.Sorted.{IsSortedBy, IsStableBy, ties}
 use Rattle.std.specs.Map.{keys_of}
 use Rattle.std.proofs.lemmas.List.{get_or-map, length-map}
 use Rattle.std.specs.declared.cmp.Ordering.{Ordering}
 use Rattle.std.proofs.lemmas.Fn.{answers_by}
-use Rattle.linked_hash_map.specs.Sort.{ComparesPairsAs}
+use Rattle.linked_hash_map.specs.Sort.{ComparesPairsAs, ComputesFromPair}
 
 -- what a comparison of two pairs takes
 abbrev TwoPairs : Type 0 → Type 0 → Type 0
@@ -34,6 +34,25 @@ module _ {F C T V : Type 0} (g : Mut F (Bor T × (Bor T × Unit {0})) Ordering)
       let both : Bor T × (Bor T × Unit {0}) = (call.first, (call.second, tt)) in (
         (compared.at (both ∷ []) r (inner t) call.called).0 ∙ ap₂ lt call.shows.0 call.shows.1,
         record { at = λ xs. (compared.at (both ∷ xs) r (inner t) call.called).1 },
+      ))
+
+-- a closure that makes something of each pair by the one in it, of the key
+module _ {F C T V K : Type 0} (g : Mut F (Bor T × Unit {0}) K)
+    (of_pairs : Mut C (Bor T × (Bor V × Unit {0})) K) (inner : C → F)
+    (says : (s : C) (a : Bor T × (Bor V × Unit {0})) (r : K) (t : C) → Called of_pairs s a r t
+    → CalledAt g (inner s) a.0.now r (inner t)) where
+  pub callable_once : ((s : C) (a : Bor T × (Bor V × Unit {0})) → always_mut g (inner s) → of_pairs.pre s a)
+      → (s : C) → always_mut g (inner s) → always_mut of_pairs s
+  callable_once asks = mut_by of_pairs (λ s. always_mut g (inner s)) asks
+      (λ s a r t always called.
+      let call = says s a r t called in mut_next g (inner s) (call.shown, tt) r (inner t) (inner t) call.called refl always)
+
+  pub computes : (key : T → K) (s : C) → ComputesKey g key (inner s) → ComputesFromPair of_pairs (λ pair. key pair.0) s
+  computes key = answers_by of_pairs _ (λ s. ComputesKey g key (inner s))
+      (λ s a r t called always.
+      let call = says s a r t called in (
+        (always.at ((call.shown, tt) ∷ []) r (inner t) call.called).0 ∙ ap key call.shows,
+        record { at = λ xs. (always.at ((call.shown, tt) ∷ xs) r (inner t) call.called).1 },
       ))
 
 module _ {T V : Type 0} where

@@ -31,20 +31,37 @@
 //!
 //! # Calls by task
 //!
-//! - Create: `new`, `with_capacity`, `with_hasher`, `from_iter`, `.collect(alloc)`, `clone`.
-//! - Insert: `insert`, `extend`, `get_or_insert` and `get_or_insert_with`, which move a present
-//!   item to the back; `insert_front`, which moves it to the front; `insert_if_absent` and
-//!   `replace`, which leave it in its place. `append` moves all items of another set.
-//! - Look up: `contains`, `get`, `front`, `back`. [`Equivalent`] has what a lookup takes: a
-//!   reference to an item, or `&str` for a `String`.
-//! - Remove: `remove`, `take`, `pop_front`, `pop_back`, `retain`, `clear`, `drain`.
-//! - Reorder: `to_back`, `refresh`, `to_front`, `move_before`, `move_after`, `reverse`, `sort`,
-//!   `sort_by`.
-//! - Operate on two sets: `difference`, `symmetric_difference`, `intersection`, `union`,
-//!   `is_subset`, `is_superset`, `is_disjoint`, `==`.
-//! - Iterate: `iter`, `into_iter`; `iter_from` or `iter_back_from`, in an `Option`, from an item
-//!   on.
-//! - Memory: `capacity`, `reserve`, `shrink_to_fit`.
+//! - Create: [`new`](LinkedHashSet::new), [`with_capacity`](LinkedHashSet::with_capacity),
+//!   [`with_hasher`](LinkedHashSet::with_hasher), [`from_iter`](LinkedHashSet::from_iter),
+//!   `.collect(alloc)`, [`clone`](LinkedHashSet::clone).
+//! - Insert: [`insert`](LinkedHashSet::insert), [`extend`](LinkedHashSet::extend),
+//!   [`get_or_insert`](LinkedHashSet::get_or_insert) and
+//!   [`get_or_insert_with`](LinkedHashSet::get_or_insert_with), which move a present item to the
+//!   back; [`insert_front`](LinkedHashSet::insert_front), which moves it to the front;
+//!   [`insert_if_absent`](LinkedHashSet::insert_if_absent) and [`replace`](LinkedHashSet::replace),
+//!   which leave it in its place. [`append`](LinkedHashSet::append) moves all items of another set.
+//! - Look up: [`contains`](LinkedHashSet::contains), [`get`](LinkedHashSet::get),
+//!   [`front`](LinkedHashSet::front), [`back`](LinkedHashSet::back). [`Equivalent`] has what a
+//!   lookup takes: a reference to an item, or `&str` for a `String`.
+//! - Remove: [`remove`](LinkedHashSet::remove), [`take`](LinkedHashSet::take),
+//!   [`pop_front`](LinkedHashSet::pop_front), [`pop_back`](LinkedHashSet::pop_back),
+//!   [`retain`](LinkedHashSet::retain), [`clear`](LinkedHashSet::clear),
+//!   [`drain`](LinkedHashSet::drain).
+//! - Reorder: [`to_back`](LinkedHashSet::to_back), [`refresh`](LinkedHashSet::refresh),
+//!   [`to_front`](LinkedHashSet::to_front), [`move_before`](LinkedHashSet::move_before),
+//!   [`move_after`](LinkedHashSet::move_after), [`reverse`](LinkedHashSet::reverse),
+//!   [`sort`](LinkedHashSet::sort), [`sort_by`](LinkedHashSet::sort_by),
+//!   [`sort_by_cached_key`](LinkedHashSet::sort_by_cached_key).
+//! - Operate on two sets: [`difference`](LinkedHashSet::difference),
+//!   [`symmetric_difference`](LinkedHashSet::symmetric_difference),
+//!   [`intersection`](LinkedHashSet::intersection), [`union`](LinkedHashSet::union),
+//!   [`is_subset`](LinkedHashSet::is_subset), [`is_superset`](LinkedHashSet::is_superset),
+//!   [`is_disjoint`](LinkedHashSet::is_disjoint), `==`.
+//! - Iterate: [`iter`](LinkedHashSet::iter), [`into_iter`](LinkedHashSet::into_iter);
+//!   [`iter_from`](LinkedHashSet::iter_from) or [`iter_back_from`](LinkedHashSet::iter_back_from),
+//!   in an `Option`, from an item on.
+//! - Memory: [`capacity`](LinkedHashSet::capacity), [`reserve`](LinkedHashSet::reserve),
+//!   [`shrink_to_fit`](LinkedHashSet::shrink_to_fit).
 //!
 //! # The two originals
 //!

@@ -23,15 +23,20 @@
 //!
 //! # Calls by task
 //!
-//! - Create: `new`, `with_hasher`, `clone`.
-//! - Insert: `insert`; `put`, which returns the pair that goes; `extend`.
-//! - Look up: `get`, `get_mut` and `contains_key`, which use the pair; `peek` and `peek_mut`, which
-//!   do not.
-//! - Remove: `remove`, `remove_lru`, `retain`, `clear`, `drain`.
-//! - Iterate, the pair used least recently first: `iter`, `iter_mut`, `into_iter`.
-//! - The limit: `capacity`, `set_capacity`.
-//! - Memory: `reserve`, `room`.
-//! - Besides: `len`, `is_empty`; [`replay`] runs commands.
+//! - Create: [`new`](LruCache::new), [`with_hasher`](LruCache::with_hasher),
+//!   [`clone`](LruCache::clone).
+//! - Insert: [`insert`](LruCache::insert); [`put`](LruCache::put), which returns the pair that
+//!   goes; [`extend`](LruCache::extend).
+//! - Look up: [`get`](LruCache::get), [`get_mut`](LruCache::get_mut) and
+//!   [`contains_key`](LruCache::contains_key), which use the pair; [`peek`](LruCache::peek) and
+//!   [`peek_mut`](LruCache::peek_mut), which do not.
+//! - Remove: [`remove`](LruCache::remove), [`remove_lru`](LruCache::remove_lru),
+//!   [`retain`](LruCache::retain), [`clear`](LruCache::clear), [`drain`](LruCache::drain).
+//! - Iterate, the pair used least recently first: [`iter`](LruCache::iter),
+//!   [`iter_mut`](LruCache::iter_mut), [`into_iter`](LruCache::into_iter).
+//! - The limit: [`capacity`](LruCache::capacity), [`set_capacity`](LruCache::set_capacity).
+//! - Memory: [`reserve`](LruCache::reserve), [`room`](LruCache::room).
+//! - Besides: [`len`](LruCache::len), [`is_empty`](LruCache::is_empty); [`replay`] runs commands.
 #![tactic(auto)]
 
 mod cache;

@@ -1,6 +1,5 @@
 //! What no line of `driver` can be: keys of other types, callers with contracts, signatures,
-//! writers that fail, maps of many pairs, and the ring and its table (`nodes`, `refusals`, `rings`,
-//! `sorts`).
+//! writers that fail, maps of many pairs, and the ring and its table (`refusals`, `rings`, `sorts`).
 
 mod absent_keys;
 mod borrowed;
@@ -8,14 +7,11 @@ mod caches;
 mod calling;
 mod chains;
 mod compare;
-mod defaults;
-mod drains;
 mod entries;
 mod equivalents;
 mod failing_checks;
 mod formats;
 mod growths;
-mod nodes;
 mod references;
 mod refusals;
 mod rings;

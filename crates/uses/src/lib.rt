@@ -24,7 +24,6 @@ pub mod playlist;
 pub mod prices;
 pub mod printing;
 pub mod queue;
-pub mod recent;
 pub mod refusal;
 pub mod replaying;
 pub mod retains;

@@ -1,12 +1,12 @@
 //! A playlist: songs by number, in the order in which they are played.
-ghost use Rattle.std.specs.Prelude.{◌≡◌, ◌++◌, ◌∷◌, ℕ, List, [], Some, None, true, false, filter, filter_map, nat_eq, not, reverse, is_some, ◌&&◌, slice_get, IfErr, IfOk, IsFalse, IsTrue, OnErr, OnOk};
+ghost use Rattle.std.specs.Prelude.{◌≡◌, ◌++◌, ◌∷◌, ℕ, List, [], Some, None, true, false, filter, filter_map, nat_eq, not, reverse, is_some, ◌&&◌, ◌/◌, slice_get, IfErr, IfOk, IsFalse, IsTrue, OnErr, OnOk};
 ghost use Rattle.std.specs.List.{IsDistinct, list_any};
 ghost use Rattle.std.specs.List.Sorted.{IsNonDecreasingBy, IsPermutation};
 ghost use Rattle.std.specs.Map.{keys_of};
 ghost use Rattle.linked_hash_map.specs.Pairs.{find, from, put, to_after, to_before, value_at};
 ghost use Rattle.uses.specs.declared.playlist.Song.{Song};
 
-use linked_hash_map::{IterBackFrom, IterFrom, LinkedHashMap, Refused};
+use linked_hash_map::{IterBackFrom, IterFrom, LinkedHashMap, NoRoom, Refused};
 use std::alloc::Global;
 
 /// A song.
@@ -161,6 +161,19 @@ impl Playlist {
         ensures same { IsPermutation self.old.songs.pairs self.new.songs.pairs }
     {
         self.songs.sort_by_key(|_number, song| song.seconds);
+    }
+
+    /// Sorts the songs by their full minutes, which it computes once for each. If there is no
+    /// memory for them, nothing changes.
+    pub fn sort_by_minutes(&mut self) -> Result<(), NoRoom>
+        ensures sorted { OnOk result
+            (IsNonDecreasingBy (λ song. song.1.seconds / 60) self.new.songs.pairs) }
+        ensures same { IsPermutation self.old.songs.pairs self.new.songs.pairs }
+        ensures unchanged { OnErr result (self.new ≡ self.old) }
+    {
+        self.songs
+            .sort_by_cached_key(|_number, song| song.seconds / 60)?;
+        Ok(())
     }
 }
 

@@ -1,11 +1,11 @@
 //! Tasks in the order in which they came, from which those that are done leave.
-ghost use Rattle.std.specs.Prelude.{◌≡◌, ◌/◌, [], false, filter, nat_eq, nat_lt, not, true, IfOk, IfErr, IfSome, OnOk, OnErr};
+ghost use Rattle.std.specs.Prelude.{◌≡◌, ◌/◌, ◌%◌, [], false, filter, nat_eq, nat_lt, not, true, IfOk, IfErr, IfSome, OnOk, OnErr};
 ghost use Rattle.std.specs.List.{IsDistinct};
 ghost use Rattle.std.specs.List.Sorted.{IsNonDecreasingBy, IsPermutation, IsSorted};
 ghost use Rattle.linked_hash_map.specs.Pairs.{first, without_first};
 ghost use Rattle.linked_hash_set.specs.Items.{contains, push_if_absent, without};
 
-use linked_hash_set::{LinkedHashSet, Refused};
+use linked_hash_set::{LinkedHashSet, NoRoom, Refused};
 use std::alloc::Global;
 use std::hash::Hash;
 
@@ -123,4 +123,15 @@ pub fn sort_by_group(tasks: &mut Tasks<u64>)
     tasks
         .open
         .sort_by(|task, other| (*task / 100).cmp(&(*other / 100)));
+}
+
+/// Sorts the tasks by their last two digits, which it computes once for each. Tasks with the same
+/// ones keep their order. If there is no memory for them, nothing changes.
+pub fn sort_by_digits(tasks: &mut Tasks<u64>) -> Result<(), NoRoom>
+    ensures sorted { OnOk result (IsNonDecreasingBy (λ task. task % 100) tasks.new.open.items) }
+    ensures same { IsPermutation tasks.old.open.items tasks.new.open.items }
+    ensures unchanged { OnErr result (tasks.new ≡ tasks.old) }
+{
+    tasks.open.sort_by_cached_key(|task| *task % 100)?;
+    Ok(())
 }

@@ -1,7 +1,6 @@
 -- The heads of the buckets, as positions and as pointers.
-use Rattle.std.proofs.Common.{subst, T, ltb→lt, ◌^◌, ◌≡◌, ℕ, zero, suc, ◌+◌, ◌<◌, List, [], ◌∷◌}
-use Rattle.std.proofs.Common.{◌++◌, map, refl, sym, ◌∙◌, ap, arith, length, get_or, set, Some, None}
-use Rattle.std.proofs.Common.{true}
+use Rattle.std.proofs.Common.{subst, T, ltb→lt, ◌^◌, ◌≡◌, ℕ, zero, suc, ◌+◌, ◌<◌, List, [], ◌∷◌, ◌++◌, map, refl, sym, arith, length}
+use Rattle.std.proofs.Common.{get_or, set, Some, None, true}
 use denote.RawPtr.{Ptr, block_ptr, null_ptr, Testable, InBlock}
 use Rattle.lhm_ring.specs.declared.bucket_block.Head.{Head}
 use Rattle.std.proofs.lemmas.List.{length-map}
@@ -14,12 +13,10 @@ use Rattle.lhm_ring.specs.Pointer.{led_to}
 pub length-words : (heads : List Head) (words : List Word) {s : BucketState}
     → record { heads = map leads_to heads; words = map bits_of words } ≡ s
     → length words ≡ length heads → length s.heads ≡ length (map bits_of words)
-length-words heads words seen same =
-    ap (λ (z : BucketState). length z.heads) (sym seen) ∙ length-map heads leads_to ∙ sym same ∙ sym (length-map words bits_of)
+length-words heads words seen same = grind (arith, length-map)
 
 -- one more empty bucket
-pub get_or-pushed : (xs : List Head) (h : Head) → leads_to h ≡ None
-    → ((b : ℕ) → get_or (map leads_to xs) b None ≡ None) → (b : ℕ)
+pub get_or-pushed : (xs : List Head) (h : Head) → leads_to h ≡ None → ((b : ℕ) → get_or (map leads_to xs) b None ≡ None) → (b : ℕ)
     → get_or (map leads_to (xs ++ h ∷ [])) b None ≡ None
 get_or-pushed [] h e a zero = e
 get_or-pushed [] h e a (suc b) = refl
@@ -27,9 +24,8 @@ get_or-pushed (x ∷ xs) h e a zero = a 0
 get_or-pushed (x ∷ xs) h e a (suc b) = get_or-pushed xs h e (λ c. a (suc c)) b
 
 -- one more bucket is emptied
-pub get_or-cleared : (xs : List Head) (i : ℕ) (h : Head) → leads_to h ≡ None
-    → ((b : ℕ) → b < i → get_or (map leads_to xs) b None ≡ None) → (b : ℕ) → b < i + 1
-    → get_or (map leads_to (set xs i h)) b None ≡ None
+pub get_or-cleared : (xs : List Head) (i : ℕ) (h : Head) → leads_to h ≡ None → ((b : ℕ) → b < i → get_or (map leads_to xs) b None ≡ None)
+    → (b : ℕ) → b < i + 1 → get_or (map leads_to (set xs i h)) b None ≡ None
 get_or-cleared [] i h e a b l = refl
 get_or-cleared (x ∷ xs) zero h e a zero l = e
 get_or-cleared (x ∷ xs) zero h e a (suc b) l = absurd (omega (arith, l))

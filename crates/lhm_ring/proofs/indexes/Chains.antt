@@ -1,5 +1,5 @@
 -- One chain of spots, once a node is put on it or removed.
-use Rattle.std.proofs.Common.{◌≡◌, ℕ, List, [], ◌∷◌, ◌++◌, refl, sym, ◌∙◌, ap, subst, true, false, Option, Some, None}
+use Rattle.std.proofs.Common.{◌≡◌, ℕ, List, [], ◌∷◌, ◌++◌, refl, sym, ◌∙◌, ap, subst, true, false, Option, Some, None, arith}
 use Rattle.std.specs.Prelude.{filter}
 use denote.RawPtr.{Ptr}
 use Rattle.lhm_ring.proofs.lists.RearrangedFilters.{filter-PutsIn, PutsIn-filter_in}
@@ -31,25 +31,16 @@ HasChain-push {n = n} {b = b} s xs ys c e t p = record {
 
 pub HasChain-other : {h : Option Ptr} {n b : ℕ} (s : Spot) (xs ys : List Spot) → HasChain h n b xs
     → is_in n b s ≡ false → PutsIn s xs ys → HasChain h n b ys
-HasChain-other {n = n} {b = b} s xs ys c t p = record {
-  chain = c.chain;
-  linked = c.linked;
-  holds = subst (λ (v : List Spot). IsRearranged c.chain v) (sym (filter-PutsIn (is_in n b) s xs ys p t)) c.holds;
-}
+HasChain-other s xs ys c t p = grind (arith, filter-PutsIn)
 
 -- the same, with the spot taken away
 pub HasChain-other_removed : {h : Option Ptr} {n b : ℕ} (s : Spot) (xs ys : List Spot)
     → HasChain h n b ys → is_in n b s ≡ false → PutsIn s xs ys → HasChain h n b xs
-HasChain-other_removed {n = n} {b = b} s xs ys c t p = record {
-  chain = c.chain;
-  linked = c.linked;
-  holds = subst (λ (v : List Spot). IsRearranged c.chain v) (filter-PutsIn (is_in n b) s xs ys p t) c.holds;
-}
+HasChain-other_removed s xs ys c t p = grind (arith, filter-PutsIn)
 
 -- a later spot is removed: the one before it is linked past it
-pub IsChain-linked_past : (h : Option Ptr) (done : List Spot) (y y' s : Spot) (rest : List Spot)
-    → y'.at ≡ y.at → y'.link ≡ s.link → IsChain h (done ++ y ∷ s ∷ rest)
-    → IsChain h (done ++ y' ∷ rest)
+pub IsChain-linked_past : (h : Option Ptr) (done : List Spot) (y y' s : Spot) (rest : List Spot) → y'.at ≡ y.at → y'.link ≡ s.link
+    → IsChain h (done ++ y ∷ s ∷ rest) → IsChain h (done ++ y' ∷ rest)
 IsChain-linked_past h [] y y' s rest a l c = (c.0 ∙ ap Some (sym a), subst (λ (v : Option Ptr). IsChain v rest) (sym l) c.1.1)
 IsChain-linked_past h (d ∷ done) y y' s rest a l c = (c.0, IsChain-linked_past d.link done y y' s rest a l c.1)
 

@@ -1,6 +1,6 @@
 -- Nodes with no chain link: what a change of chain links alone leaves.
 use Rattle.std.proofs.Common.{◌≡◌, ℕ, List, [], ◌∷◌, ◌++◌, refl, sym, ◌∙◌, ap, Bool, Option, None}
-use Rattle.std.proofs.Common.{◌%◌, true, false, cond, length, map, Some, subst, eqb, arith}
+use Rattle.std.proofs.Common.{◌%◌, true, false, length, map, subst, eqb, arith}
 use denote.RawPtr.{Ptr}
 use Rattle.std.specs.Prelude.{count_by}
 use Rattle.std.proofs.lemmas.List.{map-append, length-map}
@@ -8,19 +8,15 @@ use Rattle.lhm_ring.proofs.lists.RearrangedCounts.{count_by-cons}
 use Rattle.lhm_ring.specs.Ring.{Held, IsHeld, AtHeld, linked_to, first_at, last_at, last_of, change_at, triples, SplitAt, revalued}
 use Rattle.lhm_ring.specs.Index.{OfNodeAt, entries, spot, spots, count_with_hash, count_in_bucket}
 use Rattle.lhm_ring.specs.Search.{HasKey, LacksKey, Compares, CountsSome, CountsAll}
-use Rattle.lhm_ring.specs.Nodes.{same_ptr}
 
-pub entries-link : {K V : Type 0} (before : List (Held (K × V))) (x : Held (K × V))
-    (after : List (Held (K × V))) (l : Option Ptr) → entries (before ++ linked_to l x ∷ after)
-    ≡ entries (before ++ x ∷ after)
+pub entries-link : {K V : Type 0} (before : List (Held (K × V))) (x : Held (K × V)) (after : List (Held (K × V))) (l : Option Ptr)
+    → entries (before ++ linked_to l x ∷ after) ≡ entries (before ++ x ∷ after)
 entries-link [] x after l = refl
 entries-link (y ∷ before) x after l = ap (λ v. linked_to None y ∷ v) (entries-link before x after l)
 
-pub entries-linked_to : {K V : Type 0} (old new : List (Held (K × V))) (p : Ptr) (l : Option Ptr)
-    → IsHeld old p → AtHeld old p (λ before x after. new ≡ before ++ linked_to l x ∷ after)
-    → entries new ≡ entries old
-entries-linked_to old new p l h s =
-    ap entries (s h.before h.node h.after h.is h.at_is) ∙ entries-link h.before h.node h.after l ∙ ap entries (sym h.is)
+pub entries-linked_to : {K V : Type 0} (old new : List (Held (K × V))) (p : Ptr) (l : Option Ptr) → IsHeld old p
+    → AtHeld old p (λ before x after. new ≡ before ++ linked_to l x ∷ after) → entries new ≡ entries old
+entries-linked_to old new p l h s = grind (arith, entries-link)
 
 module _ {K V : Type 0} where
   pub entries-append : (xs ys : List (Held (K × V))) → entries (xs ++ ys) ≡ entries xs ++ entries ys
@@ -91,36 +87,26 @@ module _ {K V : Type 0} where
   triples-entries (t ∷ hs) = ap (λ ts. (t.hash, t.pair) ∷ ts) (triples-entries hs)
 
   pub first_at-entries : (hs : List (Held (K × V))) → first_at (entries hs) ≡ first_at hs
-  first_at-entries [] = refl
-  first_at-entries (t ∷ hs) = refl
+  first_at-entries hs = grind arith
 
   last_of-entries : (t : Held (K × V)) (hs : List (Held (K × V))) → last_of (linked_to None t) (entries hs) ≡ last_of t hs
   last_of-entries t [] = refl
   last_of-entries t (u ∷ hs) = last_of-entries u hs
 
   pub last_at-entries : (hs : List (Held (K × V))) → last_at (entries hs) ≡ last_at hs
-  last_at-entries [] = refl
-  last_at-entries (t ∷ hs) = ap Some (last_of-entries t hs)
+  last_at-entries hs = grind (arith, last_of-entries)
 
   pub entries-change_at : (p : Ptr) (w : V) (hs : List (Held (K × V)))
       → entries (change_at p (revalued w) hs) ≡ change_at p (revalued w) (entries hs)
   entries-change_at p w [] = refl
-  entries-change_at p w (t ∷ hs) =
-      elim (same_ptr t.at p) as (λ b. linked_to None (cond b (revalued w t) t) ∷ entries
-      (change_at p (revalued w) hs) ≡ cond b (revalued w (linked_to None t)) (linked_to None t) ∷
-      change_at p (revalued w) (entries hs)) [
-        | true ↦ ap (λ ys. linked_to None (revalued w t) ∷ ys) (entries-change_at p w hs)
-        | false ↦ ap (λ ys. linked_to None t ∷ ys) (entries-change_at p w hs)
-      ]
+  entries-change_at p w (t ∷ hs) = grind (arith, entries-change_at p w hs)
 
   -- what lies at a position of the entries
   pub IsHeld-entries : (hs : List (Held (K × V))) (p : Ptr) → IsHeld (entries hs) p → IsHeld hs p
   IsHeld-entries hs p h = IsHeld-kept (entries hs) hs p (sym (entries-entries hs)) h
 
-  pub AtHeld-entries : (hs : List (Held (K × V))) (p : Ptr) (P : List (Held (K × V)) → Held (K × V)
-      → List (Held (K × V)) → Type 0)
-      → AtHeld hs p (λ xs t ys. P (entries xs) (linked_to None t) (entries ys))
-      → AtHeld (entries hs) p P
+  pub AtHeld-entries : (hs : List (Held (K × V))) (p : Ptr) (P : List (Held (K × V)) → Held (K × V) → List (Held (K × V)) → Type 0)
+      → AtHeld hs p (λ xs t ys. P (entries xs) (linked_to None t) (entries ys)) → AtHeld (entries hs) p P
   AtHeld-entries hs p P h xs t ys e at =
       let i : EntriesCut hs xs t ys = EntriesCut-split hs xs t ys e in
       let k = i.split in
@@ -157,22 +143,14 @@ module _ {K V : Type 0} where
   count_in_bucket-entries hs n hash = count_by-entries (λ m. eqb (m % n) (hash % n)) hs
 
   pub CountsSome-entries : (hs : List (Held (K × V))) (m n hash visited compared : ℕ) → m ≡ n
-      → CountsSome (spots hs) m hash visited compared → CountsSome (spots (entries hs)) n hash
-      visited compared
+      → CountsSome (spots hs) m hash visited compared → CountsSome (spots (entries hs)) n hash visited compared
   CountsSome-entries hs m n hash visited compared wide c =
       let all = count_with_hash-entries hs hash in
       let near = count_in_bucket-entries hs m hash in
-      let here = ap (λ k. count_in_bucket (spots (entries hs)) k hash) wide in
-      record {
-        some = c.some;
-        compared_few = omega (arith, all, c.compared_few);
-        order = c.order;
-        visited_few = omega (arith, near, here, c.visited_few);
-      }
+      grind arith
 
-  pub CountsAll-entries : (hs : List (Held (K × V))) (m n hash visited compared : ℕ) → m ≡ n
-      → CountsAll (spots hs) m hash visited compared → CountsAll (spots (entries hs)) n hash visited
-      compared
+  pub CountsAll-entries : (hs : List (Held (K × V))) (m n hash visited compared : ℕ) → m ≡ n → CountsAll (spots hs) m hash visited compared
+      → CountsAll (spots (entries hs)) n hash visited compared
   CountsAll-entries hs m n hash visited compared wide c = record {
     visited_all = c.visited_all ∙ sym (count_in_bucket-entries hs m hash) ∙ ap (λ k. count_in_bucket (spots (entries hs)) k hash) wide;
     compared_all = c.compared_all ∙ sym (count_with_hash-entries hs hash);

@@ -1,8 +1,7 @@
 -- Filters: bits that are set and cleared, and the spots that they cover.
-use Rattle.std.proofs.Common.{◌≡◌, ◌≢◌, ℕ, ◌*◌, ◌/◌, ◌%◌, ◌^◌, ◌<◌, Bool, true, false, List, [], ◌∷◌, ◌++◌, length, map, get_or, set}
-use Rattle.std.proofs.Common.{eqb, cond, refl, sym, ap, ◌∙◌, subst, inl, inr, arith, w16, length-set, get_or-set_same, get_or-set_other}
-use Rattle.std.proofs.Common.{eq-eqb, ne_eqb, true≢false}
-use Rattle.std.specs.Prelude.{bit_or, filter, ◌&&◌}
+use Rattle.std.proofs.Common.{◌≡◌, ◌≢◌, ℕ, ◌*◌, ◌/◌, ◌%◌, ◌^◌, ◌<◌, Bool, true, false, List, [], ◌∷◌, ◌++◌, length, map, get_or, set, eqb}
+use Rattle.std.proofs.Common.{cond, refl, sym, ap, ◌∙◌, subst, inl, inr, arith, w16, length-set, get_or-set_same, get_or-set_other, eq-eqb}
+use Rattle.std.specs.Prelude.{bit_or, filter}
 use Rattle.std.specs.Int.{bit_at}
 use Rattle.std.proofs.lemmas.Bool.{cases_eq, eqb-false}
 use Rattle.std.proofs.lemmas.List.{length-map, map-set, get_or-map}
@@ -24,13 +23,10 @@ module _ (words : List ℕ) (b word : ℕ) where
   may_contain-set hash = ap (λ n. has_bit (get_or (set words b word) (hash % n) 0) hash) (length-set words b word)
 
   may_contain-set_same : (hash : ℕ) → hash % length words ≡ b → b < length words → may_contain (set words b word) hash ≡ has_bit word hash
-  may_contain-set_same hash e l =
-      may_contain-set hash ∙ ap (λ n. has_bit (get_or (set words b word) n 0) hash) e
-      ∙ ap (λ x. has_bit x hash) (get_or-set_same words b word 0 l)
+  may_contain-set_same hash e l = grind (arith, may_contain-set, get_or-set_same)
 
   may_contain-set_other : (hash : ℕ) → hash % length words ≢ b → may_contain (set words b word) hash ≡ may_contain words hash
-  may_contain-set_other hash other = may_contain-set hash ∙ ap (λ x. has_bit x hash)
-      (get_or-set_other words b (hash % length words) word 0 other)
+  may_contain-set_other hash other = grind (arith, may_contain-set, get_or-set_other)
 
 -- the bit of a hash is set
 module _ (words : List ℕ) (hash : ℕ) where
@@ -64,16 +60,7 @@ module _ (words : List ℕ) (hash : ℕ) (small : hash / 2 ^ 60 < 16) (within : 
 pub SetsBit-with_bit : (words : List ℕ) (hash bucket number : ℕ) → bucket ≡ hash % length words → bucket < length words
     → number ≡ hash / 2 ^ 60 → number < 16
     → SetsBit words (set words bucket (bit_or (get_or words bucket 0) (1 * 2 ^ number % 2 ^ 16))) hash
-SetsBit-with_bit words hash bucket number is inside bit small =
-    subst (λ (n : ℕ). SetsBit words (set words bucket (bit_or (get_or words bucket 0) (1 * 2 ^ n % 2 ^ 16))) hash) (sym bit)
-    (subst (λ (b : ℕ). SetsBit words (set words b (bit_or (get_or words b 0) (1 * 2 ^ (hash / 2 ^ 60) % 2 ^ 16))) hash) (sym is)
-    (let few : hash / 2 ^ 60 < 16 = subst (λ n. n < 16) bit small in
-    let within : hash % length words < length words = subst (λ b. b < length words) is inside in
-    record {
-      set = may_contain-inserted words hash few within;
-      others = may_contain-inserted_other words hash few within;
-      count = length-set words (hash % length words) _;
-    }))
+SetsBit-with_bit words hash bucket number is inside bit small = grind (arith, may_contain-inserted, may_contain-inserted_other, length-set)
 
 -- the same in the words that the buckets have
 pub SetsBit-written : (items : List Word) (bucket hash number : ℕ) {old : Word} → bucket ≡ hash % length (map bits_of items)
@@ -145,8 +132,7 @@ module _ (words : List ℕ) where
         let own : may_contain words x.hash ≡ true = may_contain-covered (spot x)
         (spots (before ++ after)) (spots (before ++ x ∷ after)) (PutsIn-spots before x after) covers
         in
-        let other : x.hash ≢ hash = λ is. true≢false (sym own ∙ ap (may_contain words) is ∙ lacks) in
-        sym (ap (λ b. b && is_key x.pair.0) (ne_eqb x.hash hash other))
+        grind arith
 
 pub CoversAll-more : (old new : List ℕ) → ((hash : ℕ) → may_contain old hash ≡ true → may_contain new hash ≡ true) → (xs : List Spot)
     → CoversAll old xs → CoversAll new xs
@@ -154,12 +140,10 @@ CoversAll-more old new more [] c = tt
 CoversAll-more old new more (x ∷ xs) c = (more x.hash c.0, CoversAll-more old new more xs c.1)
 
 false-cond : (b : Bool) (s : Spot) (rest : List Spot) → cond b (s ∷ rest) rest ≡ [] → b ≡ false
-false-cond true s rest e = absurd (cc)
-false-cond false s rest e = refl
+false-cond b s rest e = grind arith
 
 none-cond : (b : Bool) (s : Spot) (rest : List Spot) → cond b (s ∷ rest) rest ≡ [] → rest ≡ []
-none-cond true s rest e = absurd (cc)
-none-cond false s rest e = e
+none-cond b s rest e = grind arith
 
 -- the bits of a bucket without spots are cleared
 pub CoversAll-cleared : (old new : List ℕ) (n b : ℕ) → ((hash : ℕ) → hash % n ≢ b → may_contain new hash ≡ may_contain old hash)

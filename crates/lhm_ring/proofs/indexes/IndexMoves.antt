@@ -1,6 +1,6 @@
 -- What the ring's own changes leave of the index: a node put last, unlinked, moved, or its value
 -- written.
-use Rattle.std.proofs.Common.{◌≡◌, List, [], ◌∷◌, ◌++◌, refl, sym, ◌∙◌, ap, subst, Bool, true, false, cond, length, Option, append-nil}
+use Rattle.std.proofs.Common.{◌≡◌, List, [], ◌∷◌, ◌++◌, refl, sym, ◌∙◌, ap, subst, Bool, true, false, length, Option, append-nil, arith}
 use Rattle.std.specs.Prelude.{filter}
 use denote.RawPtr.{Ptr}
 use Rattle.lhm_ring.proofs.lists.Rearranged.{IsRearranged-again}
@@ -8,7 +8,6 @@ use Rattle.lhm_ring.proofs.lists.RearrangedFilters.{PutsIn-filter_in, filter-Put
 use Rattle.lhm_ring.proofs.indexes.Spots.{PutsIn-spots}
 use Rattle.lhm_ring.specs.Ring.{Held, change_at, revalued, rekeyed, set_held_values}
 use Rattle.lhm_ring.specs.Index.{PutsIn, IsRearranged, is_in, HasChains, Spot, spot, spots}
-use Rattle.lhm_ring.specs.Nodes.{same_ptr}
 
 -- a spot that stands elsewhere in the list
 HasChains-elsewhere : (heads : List (Option Ptr)) (s : Spot) (zs xs ys : List Spot) → PutsIn s zs xs
@@ -41,18 +40,12 @@ pub HasChains-moved : {K V : Type 0} (heads : List (Option Ptr)) (before : List 
     (x : Held (K × V)) (after : List (Held (K × V))) {moved : List Spot}
     → PutsIn (spot x) (spots (before ++ after)) moved
     → HasChains heads (spots (before ++ x ∷ after)) → HasChains heads moved
-HasChains-moved heads before x after {moved} puts h =
-    HasChains-elsewhere heads (spot x) (spots (before ++ after)) (spots (before ++ x ∷ after)) moved
-    (PutsIn-spots before x after) puts h
+HasChains-moved heads before x after puts h = grind (arith, HasChains-elsewhere, PutsIn-spots)
 
 -- the value at p written
 pub spots-value : {K V : Type 0} (p : Ptr) (w : V) (nodes : List (Held (K × V))) → spots (change_at p (revalued w) nodes) ≡ spots nodes
 spots-value p w [] = refl
-spots-value p w (x ∷ nodes) =
-    elim (same_ptr x.at p) as (λ b. spot (cond b (revalued w x) x) ∷ spots (change_at p (revalued w) nodes) ≡ spot x ∷ spots nodes) [
-      | true ↦ ap (λ v. spot x ∷ v) (spots-value p w nodes)
-      | false ↦ ap (λ v. spot x ∷ v) (spots-value p w nodes)
-    ]
+spots-value p w (x ∷ nodes) = grind (arith, spots-value p w nodes)
 
 -- a key written
 pub spots-rekeyed : {K V : Type 0} (k : K) (before : List (Held (K × V))) (x : Held (K × V))

@@ -1,7 +1,6 @@
 -- A node is put into its chain, and all nodes are, one after another.
-use Rattle.std.proofs.Common.{◌≡◌, ℕ, ◌+◌, ◌%◌, ◌<◌, ◌≤◌, List, [], ◌∷◌, ◌++◌, inl, inr, refl, sym, ◌∙◌, ap, subst, length, get_or, arith}
+use Rattle.std.proofs.Common.{◌≡◌, ℕ, ◌+◌, ◌%◌, ◌<◌, ◌≤◌, List, [], ◌∷◌, ◌++◌, refl, sym, ◌∙◌, ap, subst, length, get_or, arith}
 use Rattle.std.proofs.Common.{Option, Some, None, append_assoc, length-append, append-nil}
-use Rattle.std.proofs.lemmas.Bool.{cases_lt}
 use Rattle.std.proofs.lemmas.List.{length-set}
 use denote.RawPtr.{Ptr}
 use Rattle.lhm_ring.proofs.rings.Ends.{First, First-first_at}
@@ -15,9 +14,8 @@ use Rattle.lhm_ring.specs.Index.{Indexes, spot, spots, entries, HoldsOthers, IsP
 
 module _ {K V : Type 0} where
   -- the node that comes last is the one that the buckets lack
-  pub HoldsOthers-last : {i : BucketState} {nodes : List (Held (K × V))} (old : List (Held (K × V)))
-      (t : Held (K × V)) → nodes ≡ old ++ t ∷ []
-      → Indexes i (spots old) → HoldsOthers i nodes t.at
+  pub HoldsOthers-last : {i : BucketState} {nodes : List (Held (K × V))} (old : List (Held (K × V))) (t : Held (K × V))
+      → nodes ≡ old ++ t ∷ [] → Indexes i (spots old) → HoldsOthers i nodes t.at
   HoldsOthers-last {i} old t last indexed = record {
     held = record { before = old; node = t; after = []; is = last; at_is = refl };
     others = subst (λ hs. Indexes i (spots hs)) (sym (append-nil old)) indexed;
@@ -35,14 +33,10 @@ module _ {K V : Type 0} where
         (PutsIn-spots h.before x h.after) k.heads_is k.words_is)
 
     pub entries-put_first : IsHeld nodes p → entries nodes' ≡ entries nodes
-    entries-put_first h =
-        let k = put h.before h.node h.after h.is h.at_is in
-        ap entries k.nodes_is ∙ entries-link h.before h.node h.after _ ∙ ap entries (sym h.is)
+    entries-put_first h = grind (arith, entries-link)
 
     pub length-put_first : IsHeld nodes p → length new.heads ≡ length old.heads
-    length-put_first h =
-        let k = put h.before h.node h.after h.is h.at_is in
-        ap length k.heads_is ∙ length-set old.heads _ _
+    length-put_first h = grind (arith, length-set)
 
 -- the first nodes are rehashed, and the rest begins at pointer
 pub record IsRehashing {K V : Type 0} (i : BucketState) (old nodes : List (Held (K × V)))
@@ -75,19 +69,10 @@ module _ {K V : Type 0} {i : BucketState} {old nodes : List (Held (K × V))} {po
     count-rehashing =
         let g : IsHeld nodes p = IsHeld-rehashing in
         let a : length nodes ≡ length old = length-same_entries nodes old w.kept in
-        let b : length nodes ≡ length (w.done ++ g.node ∷ g.after) = ap length g.is in
-        let c = length-append w.done (g.node ∷ g.after) in
-        let d = w.count_is in
-        omega (arith, a, b, c, d)
+        grind (arith, length-append)
 
     pub length-rehashing : (buckets ≡ 0 → old ≡ []) → 0 < length i.heads
-    length-rehashing none =
-        let r : count + 1 ≤ length old = count-rehashing in
-        let b : length i.heads ≡ buckets = w.buckets_is in
-        elim (cases_lt 0 buckets) [
-          | inl l ↦ omega arith
-          | inr l ↦ absurd (let z : length old ≡ 0 = ap length (none (omega arith)) in omega arith)
-        ]
+    length-rehashing none = grind (arith, count-rehashing)
 
     pub IsRehashing-step : (i' : BucketState) (nodes' : List (Held (K × V))) (next : Option Ptr) → 0 < length i.heads
         → PutsFirst p i i' nodes nodes' → AtHeld nodes p (λ before x after. next ≡ first_at after)

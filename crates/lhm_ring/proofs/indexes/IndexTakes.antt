@@ -1,9 +1,7 @@
 -- A node is removed from its chain.
-use Rattle.std.proofs.Common.{◌≡◌, ℕ, ◌%◌, ◌<◌, List, [], ◌∷◌, ◌++◌, inl, inr, sym, ◌∙◌, ap, subst}
-use Rattle.std.proofs.Common.{Bool, true, length, get_or, set, arith, Option, Some, None}
-use Rattle.std.proofs.Common.{append_assoc}
+use Rattle.std.proofs.Common.{◌≡◌, ℕ, ◌%◌, ◌<◌, List, [], ◌∷◌, ◌++◌, sym, ◌∙◌, ap, subst, Bool, true, length, get_or, set, arith, Option}
+use Rattle.std.proofs.Common.{Some, None, append_assoc}
 use Rattle.std.specs.Prelude.{filter}
-use Rattle.std.proofs.lemmas.Bool.{cases_lt}
 use Rattle.std.proofs.Math.Nat.{mod-lt}
 use denote.RawPtr.{Ptr}
 use Rattle.lhm_ring.proofs.lists.Rearranged.{IsRearranged-less_middle, PutsIn-later}
@@ -25,12 +23,9 @@ pub record OnNode {K V : Type 0} (n b : ℕ) (s : Spot) (nodes : List (Held (K �
   pub passes : is_in n b s ≡ true
   pub of : NodeOf s ws nodes
 
-pub OnNode-rearranged : {K V : Type 0} (n b : ℕ) (done : List Spot) (s : Spot) (rest : List Spot)
-    (nodes : List (Held (K × V))) → IsRearranged (done ++ s ∷ rest)
-    (filter (is_in n b) (spots nodes)) → OnNode n b s nodes
-OnNode-rearranged n b done s rest nodes h =
-    let t = PutsPassing-rearranged (is_in n b) done s rest (spots nodes) h in
-    record { ws = t.without; puts = t.puts; passes = t.passes; of = NodeOf-spot s t.without nodes t.puts }
+pub OnNode-rearranged : {K V : Type 0} (n b : ℕ) (done : List Spot) (s : Spot) (rest : List Spot) (nodes : List (Held (K × V)))
+    → IsRearranged (done ++ s ∷ rest) (filter (is_in n b) (spots nodes)) → OnNode n b s nodes
+OnNode-rearranged n b done s rest nodes h = grind (arith, PutsPassing-rearranged, NodeOf-spot)
 
 no_puts : {X : Type 0} (x : X) (xs : List X) → PutsIn x xs [] → ⊥
 no_puts x xs h = h
@@ -38,31 +33,17 @@ no_puts x xs h = h
 -- with a spot there is a bucket
 pub length-HasChains : {heads : List (Option Ptr)} {xs : List Spot} (s : Spot) (ws : List Spot)
     → HasChains heads xs → PutsIn s ws xs → 0 < length heads
-length-HasChains {heads} s ws h p =
-    elim (cases_lt 0 (length heads)) [
-      | inl l ↦ l
-      | inr l ↦ absurd (no_puts s ws (subst (PutsIn s ws) (h.none (omega arith)) p))
-    ]
+length-HasChains s ws h p = grind (arith, no_puts)
 
 -- the one before, if there is one
 abbrev HasBefore : List Spot → Ptr → Type 0
 HasBefore = SplitLast (λ s. s.at)
 
 HasBefore-last : (before : Option Ptr) (done : List Spot) (q : Ptr) → before ≡ Some q → IsLast before done → HasBefore done q
-HasBefore-last before done q e (inl h) = absurd (let f : before ≡ None = h.1 in cc)
-HasBefore-last before done q e (inr h) =
-    record {
-      before = h.before;
-      node = h.node;
-      is = h.is;
-      at_is = (let f : Some h.node.at ≡ before =
-          h.at_is in cc);
-    }
+HasBefore-last before done q e h = grind arith
 
-none-IsLast : (before : Option Ptr) (done : List Spot) → before ≡ None → IsLast before done
-    → done ≡ []
-none-IsLast before done e (inl h) = h.0
-none-IsLast before done e (inr h) = absurd (let f : Some h.node.at ≡ before = h.at_is in cc)
+none-IsLast : (before : Option Ptr) (done : List Spot) → before ≡ None → IsLast before done → done ≡ []
+none-IsLast before done e h = grind arith
 
 -- the chain is split at the one before
 module _ {heads : List (Option Ptr)} {hash : ℕ} {xs : List Spot} {before : Option Ptr} {p q : Ptr}
@@ -77,8 +58,7 @@ module _ {heads : List (Option Ptr)} {hash : ℕ} {xs : List Spot} {before : Opt
 
   IsRearranged-before : IsRearranged (HasBefore-on_chain.before ++ HasBefore-on_chain.node ∷ w.here ∷ w.rest)
       (filter (is_in (length heads) (hash % length heads)) xs)
-  IsRearranged-before =
-      subst (λ (v : List Spot). IsRearranged v (filter (is_in (length heads) (hash % length heads)) xs)) append-before w.holds
+  IsRearranged-before = grind (arith, append-before)
 
 module _ {K V : Type 0} {heads : List (Option Ptr)} {hash : ℕ} {nodes : List (Held (K × V))} {before : Option Ptr} {p : Ptr}
     (w : IsOnChain heads hash (spots nodes) before p) where

@@ -1,7 +1,6 @@
 -- A chain that is cut behind one of its nodes, so that the node is its last.
-use Rattle.std.proofs.Common.{◌≡◌, ℕ, ◌+◌, ◌%◌, ◌<◌, ◌≤◌, List, [], ◌∷◌, ◌++◌, inl, inr, refl, sym}
-use Rattle.std.proofs.Common.{◌∙◌, ap, subst, Bool, length, get_or, arith, Option, Some, None}
-use Rattle.std.proofs.Common.{append_assoc, length-append}
+use Rattle.std.proofs.Common.{◌≡◌, ℕ, ◌+◌, ◌%◌, ◌<◌, ◌≤◌, List, [], ◌∷◌, ◌++◌, inl, inr, refl, sym, ◌∙◌, ap, subst, Bool, length, get_or}
+use Rattle.std.proofs.Common.{arith, Option, Some, None, append_assoc, length-append}
 use Rattle.std.specs.Prelude.{filter}
 use Rattle.std.proofs.Math.Nat.{mod-lt}
 use denote.RawPtr.{Ptr}
@@ -43,9 +42,7 @@ push-injective (w ∷ []) u [] v e = absurd (cc)
 push-injective (w ∷ z ∷ us) u [] v e = absurd (cc)
 push-injective (w ∷ us) u (z ∷ vs) v e =
     let f : us ++ u ∷ [] ≡ vs ++ v ∷ [] = cc in
-    let g : w ≡ z = cc in
-    let i : us ≡ vs = push-injective us u vs v f in
-    cc
+    grind (arith, push-injective us u vs v f)
 
 -- ---- chains
 
@@ -57,14 +54,7 @@ IsChain-cut h (u ∷ us) s t vs a l c = (c.0, IsChain-cut u.link us s t vs a l c
 ChainFirst-cut : (here : Ptr) (us : List Spot) (s t : Spot) (vs : List Spot) → t.at ≡ s.at
     → IsChain (Some here) (us ++ s ∷ vs) → ChainFirst (us ++ t ∷ []) here
 ChainFirst-cut here [] s t vs a c = record { node = t; after = []; is = refl; at_is = (let e : Some here ≡ Some s.at = c.0 in cc) }
-ChainFirst-cut here (u ∷ us) s t vs a c =
-    record {
-      node = u;
-      after = us ++ t ∷ [];
-      is = refl;
-      at_is =
-          (let e : Some here ≡ Some u.at = c.0 in cc);
-    }
+ChainFirst-cut here (u ∷ us) s t vs a c = grind arith
 
 -- the chain has a head
 has_head : (h : Option Ptr) (us : List Spot) (s : Spot) (vs : List Spot) → IsChain h (us ++ s ∷ vs) → (q : Ptr) × (h ≡ Some q)
@@ -147,8 +137,7 @@ module _ {K V : Type 0} {heads : List (Option Ptr)} {hash : ℕ} {nodes cut : Li
       let a = length-in_bucket (is_in (length heads) (hash % length heads)) (us ++ spot w.held.node ∷ w.chain.vs) nodes w.chain.holds in
       let b = length-append us (spot w.held.node ∷ w.chain.vs) in
       let c = length-append us (spot (linked_to None w.held.node) ∷ []) in
-      let d = length-append w.on.before (w.on.node ∷ w.on.after) in
-      omega (arith, a, b, c, d, ap length w.on.is, w.passed_is)
+      grind (arith, length-append)
 
   -- the rest of the chain, by the link that is read
   IsChain-todo : (read next : Option Ptr) → OfNodeAt cut here (λ x. read ≡ x.link) → read ≡ next → IsChain next w.on.after
@@ -201,16 +190,13 @@ module _ {K V : Type 0} {heads : List (Option Ptr)} {hash : ℕ} {nodes cut : Li
 
   -- the link is put back
   pub nodes-mended : (new : List (Held (K × V))) → AtHeld cut p (λ before' x after. new ≡ before' ++ linked_to link x ∷ after) → new ≡ nodes
-  nodes-mended new s =
-      s w.held.before (linked_to None w.held.node) w.held.after w.cut_is w.held.at_is
-      ∙ ap (λ (l : Option Ptr). w.held.before ++ linked_to l w.held.node ∷ w.held.after) w.link_is ∙ sym w.held.is
+  nodes-mended new s = grind arith
 
   pub IsHeld-towards_cut : IsHeld cut p
   IsHeld-towards_cut = record {
     before = w.held.before;
     node = linked_to None w.held.node;
-    after =
-        w.held.after;
+    after = w.held.after;
     is = w.cut_is;
     at_is = w.held.at_is;
   }

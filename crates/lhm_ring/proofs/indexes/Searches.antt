@@ -1,13 +1,10 @@
 -- The steps of a search along a chain.
-use Rattle.std.proofs.Common.{◌≡◌, ℕ, ◌+◌, ◌%◌, ◌<◌, ◌≤◌, ◌&&◌, List, [], ◌∷◌, ◌++◌, inl, inr, refl}
-use Rattle.std.proofs.Common.{sym, ◌∙◌, ap, subst, Bool, true, false, not, cond, length, get_or}
-use Rattle.std.proofs.Common.{arith, Option, Some, None, eqb, append_assoc, length-append}
-use Rattle.std.proofs.Common.{append-nil}
-use Rattle.std.proofs.lemmas.Bool.{false≢true}
+use Rattle.std.proofs.Common.{◌≡◌, ℕ, ◌+◌, ◌%◌, ◌<◌, ◌≤◌, ◌&&◌, List, [], ◌∷◌, ◌++◌, inl, inr, refl, sym, ◌∙◌, ap, subst, Bool, true, false}
+use Rattle.std.proofs.Common.{not, cond, length, get_or, arith, Option, Some, None, eqb, append_assoc, length-append, append-nil}
+use Rattle.std.proofs.lemmas.Bool.{false≢true, eqb-true, ne_eqb, eq-eqb}
 use Rattle.std.proofs.lemmas.List.{length-map}
 use Rattle.std.specs.Prelude.{filter}
 use Rattle.std.proofs.lemmas.List.Sums.{length-filter, count_by-le-length}
-use Rattle.std.proofs.lemmas.Bool.{eqb-true, ne_eqb, eq-eqb}
 use Rattle.std.proofs.lemmas.Bool.Decides.{eqb_tells}
 use denote.RawPtr.{Ptr}
 use Rattle.lhm_ring.proofs.indexes.Chains.{ChainFirst, ChainFirst-some, IsChain-tail, none-IsChain}
@@ -44,13 +41,11 @@ count_with_hash-filter n hash (x ∷ xs) =
 
 pub count_with_hash-chain : (chain xs : List Spot) (n hash : ℕ) → IsRearranged chain (filter (is_in n (hash % n)) xs)
     → count_with_hash chain hash ≡ count_with_hash xs hash
-count_with_hash-chain chain xs n hash h =
-    count_by-IsRearranged (λ v. eqb v.hash hash) chain (filter (is_in n (hash % n)) xs) h ∙ count_with_hash-filter n hash xs
+count_with_hash-chain chain xs n hash h = grind (arith, count_by-IsRearranged, count_with_hash-filter)
 
 pub length-chain : (chain xs : List Spot) (n hash : ℕ)
     → IsRearranged chain (filter (is_in n (hash % n)) xs) → length chain ≡ count_in_bucket xs n hash
-length-chain chain xs n hash h =
-    length-IsRearranged chain (filter (is_in n (hash % n)) xs) h ∙ length-filter (is_in n (hash % n)) xs
+length-chain chain xs n hash h = grind (arith, length-IsRearranged, length-filter)
 
 -- ---- the search
 
@@ -64,24 +59,19 @@ IsHeld-head {K} {V} {heads} {nodes} {p} bucket within i head =
     IsHeld-spot (OnNode-rearranged n bucket [] b.node b.after nodes
     (subst (λ (v : List Spot). IsRearranged v (filter (is_in n bucket) (spots nodes))) b.is h.holds)).of b.at_is
 
-DifferAll-push : {K V : Type 0} (is_key : K → Bool) (hash : ℕ)
-    (nodes : List (Held (K × V))) (ss : List Spot) (s : Spot) → DifferAll is_key hash nodes ss
-    → OfNodeAt nodes s.at (λ x. Compares is_key hash x false) → DifferAll is_key hash nodes
-    (ss ++ s ∷ [])
+DifferAll-push : {K V : Type 0} (is_key : K → Bool) (hash : ℕ) (nodes : List (Held (K × V))) (ss : List Spot) (s : Spot)
+    → DifferAll is_key hash nodes ss → OfNodeAt nodes s.at (λ x. Compares is_key hash x false) → DifferAll is_key hash nodes (ss ++ s ∷ [])
 DifferAll-push is_key hash nodes [] s h k = (k, tt)
 DifferAll-push is_key hash nodes (x ∷ ss) s h k = (h.0, DifferAll-push is_key hash nodes ss s h.1 k)
 
 and-left : (a b : Bool) → true ≡ (a && b) → a ≡ true
-and-left true b e = refl
-and-left false b e = sym e
+and-left a b e = grind arith
 
 and-right : (a b : Bool) → true ≡ (a && b) → b ≡ true
-and-right true b e = sym e
-and-right false b e = absurd (cc)
+and-right a b e = grind arith
 
 not-left : (a b : Bool) → (not a && b) ≡ true → a ≡ false
-not-left true b e = absurd (cc)
-not-left false b e = refl
+not-left a b e = grind arith
 
 -- a search that stands at p
 module _ {K V : Type 0} {is_key : K → Bool} {hash : ℕ} {heads : List (Option Ptr)} {nodes : List (Held (K × V))}
@@ -109,16 +99,10 @@ module _ {K V : Type 0} {is_key : K → Bool} {hash : ℕ} {heads : List (Option
 
   -- one more is visited
   visited-more : visited + 1 + length IsOnChain-part.rest ≡ count_in_bucket (spots nodes) (length heads) hash
-  visited-more =
-      let b : IsOnChain heads hash (spots nodes) before p = IsOnChain-part in
-      let l = length-chain (b.done ++ b.here ∷ b.rest) (spots nodes) (length heads) hash b.holds in
-      let a = length-append b.done (b.here ∷ b.rest) in
-      omega (arith, l, a, w.visited_is)
+  visited-more = grind (arith, length-chain, length-append)
 
   pub visited-below : visited + 1 ≤ length nodes
-  visited-below =
-      let m = count_by-le-length (is_in (length heads) (hash % length heads)) (spots nodes) in
-      omega (arith, visited-more, m, length-map nodes spot)
+  visited-below = grind (arith, count_by-le-length, visited-more, length-map)
 
   -- its node is visited, and compared
   module _ {visited' compared' : ℕ} {equal : Bool} (v : visited' ≡ visited + 1)
@@ -183,17 +167,10 @@ module _ {K V : Type 0} {is_key : K → Bool} {hash : ℕ} {heads : List (Option
   pub IsPart-passed : (other : ℕ) (follows : Bool) {link : Option Ptr} → OfNodeAt nodes p (λ x. other ≡ x.hash)
       → (not (eqb other hash) && follows) ≡ true → OfNodeAt nodes p (λ x. link ≡ x.link)
       → IsPart is_key hash heads nodes (Some p) link (visited + 1) compared
-  IsPart-passed other follows h t l =
-      let off : OfNodeAt nodes p (λ x. eqb x.hash hash ≡ false) =
-      λ xs x ys i j. ap (λ u. eqb u hash) (sym (h xs x ys i j)) ∙ not-left (eqb other hash) follows t in
-      IsPart-more {equal = false} refl
-      (λ xs x ys i j. let none : count_with_hash (spot x ∷ []) hash ≡ 0 = ap (λ u. 0 + cond {A = ℕ} u 1 0) (off xs x ys i j) in omega arith)
-      (λ xs x ys i j. sym (ap (λ u. u && is_key x.pair.0) (off xs x ys i j))) refl l
+  IsPart-passed other follows h t l = grind (arith, not-left, IsPart-more)
 
-OfNodeAt-differs : {K V : Type 0} (is_key : K → Bool) (hash : ℕ)
-    (nodes : List (Held (K × V))) (us : List Spot) (s : Spot) (vs : List Spot)
-    → DifferAll is_key hash nodes (us ++ s ∷ vs)
-    → OfNodeAt nodes s.at (λ x. Compares is_key hash x false)
+OfNodeAt-differs : {K V : Type 0} (is_key : K → Bool) (hash : ℕ) (nodes : List (Held (K × V))) (us : List Spot) (s : Spot) (vs : List Spot)
+    → DifferAll is_key hash nodes (us ++ s ∷ vs) → OfNodeAt nodes s.at (λ x. Compares is_key hash x false)
 OfNodeAt-differs is_key hash nodes [] s vs h = h.0
 OfNodeAt-differs is_key hash nodes (u ∷ us) s vs h = OfNodeAt-differs is_key hash nodes us s vs h.1
 

@@ -1,5 +1,5 @@
 -- The spots of nodes, and the node of a spot.
-use Rattle.std.proofs.Common.{◌≡◌, ℕ, ◌%◌, ◌≤◌, List, length, arith, Bool, [], ◌∷◌, ◌++◌, inl, inr, refl, sym, ◌∙◌, ap, subst}
+use Rattle.std.proofs.Common.{◌≡◌, ℕ, ◌%◌, ◌≤◌, List, length, arith, Bool, [], ◌∷◌, ◌++◌, inl, inr, refl, sym, ◌∙◌, ap}
 use Rattle.std.specs.Prelude.{filter}
 use Rattle.std.proofs.lemmas.Bool.{eq-eqb}
 use Rattle.std.proofs.lemmas.List.{length-map}
@@ -11,25 +11,20 @@ use Rattle.lhm_ring.proofs.lists.RearrangedFilters.{PutsIn-filter_in}
 use Rattle.lhm_ring.specs.Ring.{Held, IsHeld, SplitAt}
 use Rattle.lhm_ring.specs.Index.{PutsIn, IsRearranged, Spot, spot, spots, is_in, OfNodeAt}
 
-pub PutsIn-spots : {K V : Type 0} (before : List (Held (K × V))) (x : Held (K × V))
-    (after : List (Held (K × V))) → PutsIn (spot x) (spots (before ++ after))
-    (spots (before ++ x ∷ after))
+pub PutsIn-spots : {K V : Type 0} (before : List (Held (K × V))) (x : Held (K × V)) (after : List (Held (K × V)))
+    → PutsIn (spot x) (spots (before ++ after)) (spots (before ++ x ∷ after))
 PutsIn-spots [] x after = inl (refl, refl)
-PutsIn-spots (y ∷ before) x after = PutsIn-there (spot x) (spot y) (spots (before ++ after))
-    (spots (before ++ x ∷ after)) (PutsIn-spots before x after)
+PutsIn-spots (y ∷ before) x after = grind (arith, PutsIn-there, PutsIn-spots before x after)
 
 -- the same of nodes that are known by an equation, of all of them and of those of a bucket
 module _ {K V : Type 0} {nodes : List (Held (K × V))} (before : List (Held (K × V))) (x : Held (K × V)) (after : List (Held (K × V)))
     (is : nodes ≡ before ++ x ∷ after) where
   pub PutsIn-spots_of : PutsIn (spot x) (spots (before ++ after)) (spots nodes)
-  PutsIn-spots_of = subst (λ (v : List (Held (K × V))). PutsIn (spot x) (spots (before ++ after))
-      (spots v)) (sym is) (PutsIn-spots before x after)
+  PutsIn-spots_of = grind (arith, PutsIn-spots)
 
   pub PutsIn-bucket : (n : ℕ) {hash : ℕ} → hash ≡ x.hash
       → PutsIn (spot x) (filter (is_in n (hash % n)) (spots (before ++ after))) (filter (is_in n (hash % n)) (spots nodes))
-  PutsIn-bucket n {hash} e =
-      PutsIn-filter_in (is_in n (hash % n)) (spot x) (spots (before ++ after)) (spots nodes) PutsIn-spots_of
-      (eq-eqb (x.hash % n) (hash % n) (ap (λ v. v % n) (sym e)))
+  PutsIn-bucket n e = grind (arith, PutsIn-filter_in, PutsIn-spots_of, eq-eqb)
 
 -- the node of a spot, and the spots of the others
 pub record NodeOf {K V : Type 0} (s : Spot) (ws : List Spot) (nodes : List (Held (K × V))) : Type 0 where
@@ -44,8 +39,7 @@ IsHeld-spot n at = let k = n.split in
       node = k.node;
       after = k.after;
       is = k.is;
-      at_is =
-          ap (λ v. v.at) k.at_is ∙ at;
+      at_is = ap (λ v. v.at) k.at_is ∙ at;
     }
 
 pub NodeOf-spot : {K V : Type 0} (s : Spot) (ws : List Spot) (nodes : List (Held (K × V))) → PutsIn s ws (spots nodes) → NodeOf s ws nodes
@@ -66,15 +60,9 @@ NodeOf-spot s ws (x ∷ nodes) (inr h) =
 -- what is true of the spot of the node at p
 pub OfNodeAt-spot : {K V : Type 0} {s : Spot} {ws : List Spot} {nodes : List (Held (K × V))} {p : Ptr} (Q : Spot → Type 0)
     → NodeOf s ws nodes → s.at ≡ p → OfNodeAt nodes p (λ x. Q (spot x)) → Q s
-OfNodeAt-spot Q n at f =
-    let h = IsHeld-spot n at in subst Q n.split.at_is (f h.before h.node h.after h.is h.at_is)
+OfNodeAt-spot Q n at f = grind arith
 
 -- a chain is no longer than the list of the nodes
 pub length-in_bucket : {K V : Type 0} (q : Spot → Bool) (chain : List Spot) (nodes : List (Held (K × V)))
     → IsRearranged chain (filter q (spots nodes)) → length chain ≤ length nodes
-length-in_bucket q chain nodes h =
-    let a = length-IsRearranged chain (filter q (spots nodes)) h in
-    let b = length-filter q (spots nodes) in
-    let c = count_by-le-length q (spots nodes) in
-    let d = length-map nodes spot in
-    omega (arith, a, b, c, d)
+length-in_bucket q chain nodes h = grind (arith, length-IsRearranged, length-filter, count_by-le-length, length-map)

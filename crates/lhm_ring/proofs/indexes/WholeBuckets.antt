@@ -1,21 +1,18 @@
 -- What the buckets have, chains and bits together, once a node is put in, moved or removed.
-use Rattle.std.proofs.Common.{◌≡◌, ◌≢◌, ℕ, ◌%◌, ◌<◌, List, [], ◌∷◌, ◌++◌, refl, sym, ◌∙◌, ap, subst}
-use Rattle.std.proofs.Common.{arith, length, get_or, set, Option, Some, None}
-use Rattle.std.proofs.Common.{length-set, get_or-set_same}
+use Rattle.std.proofs.Common.{◌≡◌, ◌≢◌, ℕ, ◌%◌, ◌<◌, List, [], ◌∷◌, ◌++◌, refl, sym, ◌∙◌, ap, subst, arith, length, get_or, set, Option}
+use Rattle.std.proofs.Common.{Some, None, length-set, get_or-set_same}
 use Rattle.std.specs.Prelude.{filter, is_some}
 use Rattle.std.specs.Option.{IsSome}
 use denote.RawPtr.{Ptr}
 use Rattle.lhm_ring.proofs.indexes.Chains.{none-IsChain}
-use Rattle.lhm_ring.proofs.indexes.Filters.{CoversAll-put, CoversAll-others, CoversAll-more}
-use Rattle.lhm_ring.proofs.indexes.Filters.{CoversAll-cleared, CoversAll-entries}
+use Rattle.lhm_ring.proofs.indexes.Filters.{CoversAll-put, CoversAll-others, CoversAll-more, CoversAll-cleared, CoversAll-entries}
 use Rattle.lhm_ring.proofs.indexes.Filters.{may_contain-covered}
 use Rattle.lhm_ring.proofs.indexes.IndexMoves.{HasChains-moved}
 use Rattle.lhm_ring.proofs.indexes.IndexTakes.{HasOtherChains}
 use Rattle.lhm_ring.proofs.indexes.Spots.{PutsIn-spots}
 use Rattle.lhm_ring.proofs.indexes.WholeIndex.{HasChains-put, HasChains-none, get_or-none_indexed}
 use Rattle.lhm_ring.specs.Buckets.{BucketState, HasNoChain, SetsBit, may_contain}
-use Rattle.lhm_ring.specs.Index.{PutsIn, IsRearranged, IsChain, is_in, HasChain, HasChains}
-use Rattle.lhm_ring.specs.Index.{CoversAll, Indexes, HoldsOthers, Spot, spot, spots, entries}
+use Rattle.lhm_ring.specs.Index.{PutsIn, IsRearranged, is_in, HasChains, CoversAll, Indexes, HoldsOthers, Spot, spot, spots, entries}
 use Rattle.lhm_ring.specs.Ring.{Held}
 
 pub Indexes-none : (i : BucketState) → HasNoChain i → length i.words ≡ length i.heads → Indexes i []
@@ -24,15 +21,10 @@ Indexes-none i empty count = record { chains = HasChains-none i.heads empty; cov
 pub HasNoChain-indexed : (i : BucketState) → Indexes i [] → HasNoChain i
 HasNoChain-indexed i h = get_or-none_indexed i.heads h.chains
 
-pub Indexes-put : {old : BucketState} (new : BucketState) (s : Spot) {xs : List Spot} (ys : List Spot)
-    → Indexes old xs → 0 < length old.heads
-    → s.link ≡ get_or old.heads (s.hash % length old.heads) None → PutsIn s xs ys
+pub Indexes-put : {old : BucketState} (new : BucketState) (s : Spot) {xs : List Spot} (ys : List Spot) → Indexes old xs
+    → 0 < length old.heads → s.link ≡ get_or old.heads (s.hash % length old.heads) None → PutsIn s xs ys
     → new.heads ≡ set old.heads (s.hash % length old.heads) (Some s.at) → SetsBit old.words new.words s.hash → Indexes new ys
-Indexes-put {old} new s {xs} ys h some link p heads words = record {
-  chains = subst (λ (hs : List (Option Ptr)). HasChains hs ys) (sym heads) (HasChains-put old.heads s xs ys h.chains some link p);
-  covers = CoversAll-put new.words s xs ys p words.set (CoversAll-more old.words new.words words.others xs h.covers);
-  count = words.count ∙ h.count ∙ sym (ap length heads ∙ length-set old.heads _ _);
-}
+Indexes-put new s ys h some link p heads words = grind (arith, HasChains-put, CoversAll-put, CoversAll-more, length-set)
 
 -- the bits of all but one
 module _ {K V : Type 0} (words : List ℕ) (before : List (Held (K × V))) (x : Held (K × V)) (after : List (Held (K × V))) where
@@ -50,29 +42,21 @@ module _ {K V : Type 0} (words : List ℕ) (before : List (Held (K × V))) (x : 
 pub Indexes-moved : {K V : Type 0} (i : BucketState) (before : List (Held (K × V))) (x : Held (K × V)) (after : List (Held (K × V)))
     {moved : List Spot} → PutsIn (spot x) (spots (before ++ after)) moved
     → Indexes i (spots (before ++ x ∷ after)) → Indexes i moved
-Indexes-moved i before x after {moved} puts h = record {
-  chains = HasChains-moved i.heads before x after puts h.chains;
-  covers = CoversAll-moved i.words before x after moved puts h.covers;
-  count = h.count;
-}
+Indexes-moved i before x after puts h = grind (arith, HasChains-moved, CoversAll-moved)
 
 none-IsRearranged : (chain ys : List Spot) → chain ≡ [] → IsRearranged chain ys → ys ≡ []
-none-IsRearranged [] ys e r = r
-none-IsRearranged (s ∷ chain) ys e r = absurd (cc)
+none-IsRearranged chain ys e r = grind arith
 
 -- a bucket without a head has no spot
 filter-no_head : (heads : List (Option Ptr)) (b : ℕ) (xs : List Spot) → HasChains heads xs → b < length heads → get_or heads b None ≡ None
     → filter (is_in (length heads) b) xs ≡ []
-filter-no_head heads b xs h within none =
-    let c : HasChain (get_or heads b None) (length heads) b xs = h.chains b within in
-    none-IsRearranged c.chain _ (none-IsChain c.chain (subst (λ (o : Option Ptr). IsChain o c.chain) none c.linked)) c.holds
+filter-no_head heads b xs h within none = grind (arith, none-IsRearranged, none-IsChain)
 
 -- the node at p was removed from its chain
 module _ {K V : Type 0} {nodes : List (Held (K × V))} {p : Ptr} where
   -- from behind another node: that one has a new chain link
-  pub HoldsOthers-next : (old : List (Held (K × V))) (i : BucketState) → Indexes i (spots old)
-      → entries nodes ≡ entries old → HasOtherChains i.heads nodes p
-      → HoldsOthers i nodes p
+  pub HoldsOthers-next : (old : List (Held (K × V))) (i : BucketState) → Indexes i (spots old) → entries nodes ≡ entries old
+      → HasOtherChains i.heads nodes p → HoldsOthers i nodes p
   HoldsOthers-next old i h same w =
       let k = w.held in
       let c = subst (λ (hs : List (Held (K × V))). CoversAll i.words (spots hs)) k.is (CoversAll-entries i.words old nodes same h.covers) in
@@ -99,11 +83,8 @@ module _ {old new : BucketState} {bucket : ℕ} {head : Option Ptr} (sets : Sets
   CoversAll-head xs w c None e =
       let inside : bucket < length new.heads = omega (arith, long, sets.within) in
       let none : get_or new.heads bucket None ≡ None =
-      ap (λ (hs : List (Option Ptr)). get_or hs bucket None) sets.heads
-      ∙ get_or-set_same old.heads bucket head None sets.within ∙ e in
-      CoversAll-cleared old.words new.words (length new.heads) bucket
-      (λ hash away. sets.others hash (λ f. away (ap (λ n. hash % n) long ∙ f)))
-      xs (filter-no_head new.heads bucket xs w inside none) c
+      grind (arith, get_or-set_same) in
+      grind (arith, CoversAll-cleared, long, filter-no_head)
 
   pub HoldsOthers-head : {K V : Type 0} {nodes : List (Held (K × V))} {p : Ptr}
       → Indexes old (spots nodes) → HasOtherChains new.heads nodes p → HoldsOthers new nodes p

@@ -1,18 +1,14 @@
 -- The whole index, once a node is put in or removed.
-use Rattle.std.proofs.Common.{◌≡◌, ◌≢◌, ℕ, ◌%◌, ◌<◌, List, [], ◌∷◌, ◌++◌, inl, inr, refl, sym, ◌∙◌}
-use Rattle.std.proofs.Common.{ap, subst, Bool, true, false, length, get_or, set, arith, Option}
-use Rattle.std.proofs.Common.{Some, None}
+use Rattle.std.proofs.Common.{◌≡◌, ◌≢◌, ℕ, ◌%◌, ◌<◌, List, [], ◌∷◌, ◌++◌, refl, sym, ◌∙◌, ap, subst, Bool, true, false, length, get_or, set}
+use Rattle.std.proofs.Common.{arith, Option, Some, None, eqb}
 use Rattle.std.specs.Prelude.{filter}
-use Rattle.std.proofs.Common.{eqb}
 use Rattle.std.proofs.lemmas.Bool.{eqb-true, ne_eqb, eq-eqb}
-use Rattle.std.proofs.lemmas.Bool.Decides.{eqb_tells}
 use Rattle.std.proofs.lemmas.List.{get_or-set_same, get_or-set_other, length-set}
 use Rattle.std.proofs.Math.Nat.{mod-lt}
 use denote.RawPtr.{Ptr}
 use Rattle.lhm_ring.proofs.indexes.Chains.{HasChain-other, HasChain-push, HasChain-other_removed, IsChain-linked_past, none-unchained}
-use Rattle.lhm_ring.proofs.lists.Rearranged.{PutsIn-here, PutsIn-there, IsRearranged-less}
-use Rattle.lhm_ring.proofs.lists.Rearranged.{IsRearranged-less_middle, IsRearranged-more_middle}
-use Rattle.lhm_ring.proofs.lists.Rearranged.{PutsIn-under}
+use Rattle.lhm_ring.proofs.lists.Rearranged.{PutsIn-here, PutsIn-there, IsRearranged-less, IsRearranged-less_middle}
+use Rattle.lhm_ring.proofs.lists.Rearranged.{IsRearranged-more_middle, PutsIn-under}
 use Rattle.lhm_ring.proofs.lists.RearrangedFilters.{PutsPassing, PutsIn-filter_in, PutsPassing-rearranged}
 use Rattle.lhm_ring.specs.Index.{PutsIn, IsRearranged, IsChain, is_in, HasChain, HasChains, Spot}
 
@@ -24,14 +20,7 @@ is_in-other n b c s t ne = ne_eqb (s.hash % n) c (λ e. ne (sym (eqb-true (s.has
 HasChains-each : (heads : List (Option Ptr)) (b : ℕ) (xs : List Spot) → b < length heads
     → HasChain (get_or heads b None) (length heads) b xs
     → ((c : ℕ) → c < length heads → b ≢ c → HasChain (get_or heads c None) (length heads) c xs) → HasChains heads xs
-HasChains-each heads b xs l own others = record {
-  chains = λ c m.
-      elim (eqb_tells b c) [
-        | inl e ↦ subst (λ v. HasChain (get_or heads v None) (length heads) v xs) e.1 own
-        | inr e ↦ others c m e.1
-      ];
-  none = λ z. absurd (omega (arith, z, l));
-}
+HasChains-each heads b xs l own others = grind arith
 
 -- the same, once the bucket has a new head
 HasChains-set : (heads : List (Option Ptr)) (b : ℕ) (head : Option Ptr) (xs : List Spot) → b < length heads
@@ -59,9 +48,8 @@ HasChains-put heads s xs ys h l e p =
 
 -- the first of a chain is removed: its chain link is the new head
 pub HasChains-take_first : {heads : List (Option Ptr)} (b : ℕ) (s : Spot) (rest ys : List Spot) {xs : List Spot} → HasChains heads xs
-    → b < length heads
-    → IsChain (get_or heads b None) (s ∷ rest) → IsRearranged (s ∷ rest) (filter (is_in (length heads) b) xs) → PutsIn s ys xs
-    → HasChains (set heads b s.link) ys
+    → b < length heads → IsChain (get_or heads b None) (s ∷ rest) → IsRearranged (s ∷ rest) (filter (is_in (length heads) b) xs)
+    → PutsIn s ys xs → HasChains (set heads b s.link) ys
 HasChains-take_first {heads} b s rest ys {xs} h l linked holds p =
     let n : ℕ = length heads in
     let q : Spot → Bool = is_in n b in

@@ -1,5 +1,5 @@
 -- Pointers are told apart, and lists of them are apart.
-use Rattle.std.proofs.Common.{◌≡◌, true, false, ◌&&◌, ◌==◌, ◌++◌, ◌∙◌, Bool, refl, sym, subst, eqb→eq, T}
+use Rattle.std.proofs.Common.{◌≡◌, true, false, ◌&&◌, ◌==◌, ◌++◌, ◌∙◌, Bool, refl, eqb→eq, T, arith}
 use lib.Dec.{eqb_refl}
 use denote.RawPtr.{Ptr, block_ptr, null_ptr}
 use Rattle.std.specs.Prelude.{List, [], ◌∷◌}
@@ -8,17 +8,14 @@ use Rattle.lhm_ring.proofs.lists.ForAll.{AllByRecursion-append, AllByRecursion-l
 use Rattle.lhm_ring.specs.Nodes.{same_ptr, IsApart}
 
 true-of : (b : Bool) → T b → b ≡ true
-true-of true t = refl
-true-of false t = absurd t
+true-of b t = grind arith
 
 pub same_ptr-reflexive : (p : Ptr) → same_ptr p p ≡ true
 same_ptr-reflexive (block_ptr b o) = λ i. true-of (b == b) (eqb_refl b) i && true-of (o == o) (eqb_refl o) i
 same_ptr-reflexive null_ptr = refl
 
 both : (x y : Bool) → (x && y) ≡ true → T x × T y
-both true true e = (tt, tt)
-both true false e = cc
-both false y e = cc
+both x y e = grind arith
 
 pub same_ptr-equal : (p q : Ptr) → same_ptr p q ≡ true → p ≡ q
 same_ptr-equal (block_ptr b o) (block_ptr c p) e = let t = both (b == c) (o == p) e in λ i. block_ptr (eqb→eq b c t.0 i) (eqb→eq o p t.1 i)
@@ -27,14 +24,10 @@ same_ptr-equal null_ptr (block_ptr c p) e = cc
 same_ptr-equal null_ptr null_ptr e = refl
 
 Bool-alike : (x y : Bool) → (x ≡ true → y ≡ true) → (y ≡ true → x ≡ true) → x ≡ y
-Bool-alike true y f g = sym (f refl)
-Bool-alike false true f g = g refl
-Bool-alike false false f g = refl
+Bool-alike x y f g = grind arith
 
 pub same_ptr-symmetric : (p q : Ptr) → same_ptr p q ≡ same_ptr q p
-same_ptr-symmetric p q = Bool-alike (same_ptr p q) (same_ptr q p)
-    (λ e. subst (λ r. same_ptr r p ≡ true) (same_ptr-equal p q e) (same_ptr-reflexive p))
-    (λ e. subst (λ r. same_ptr r q ≡ true) (same_ptr-equal q p e) (same_ptr-reflexive q))
+same_ptr-symmetric p q = grind (arith, Bool-alike, same_ptr-equal, same_ptr-reflexive)
 
 pub IsApart-none : IsApart []
 unfolding IsDistinct
@@ -88,8 +81,7 @@ IsApart-inserted (x ∷ xs) p ys h d =
     (AllByRecursion-left P xs ys f) (same_ptr-flip p x h.0, AllByRecursion-right P xs ys f))
     (IsApart-inserted xs p ys h.1 (IsApart-tail x (xs ++ ys) d))
 
-pub AllByRecursion-fresh_across : (xs ys : List Ptr) → IsApart (xs ++ ys)
-    → AllByRecursion (λ x. IsFresh x ys) xs
+pub AllByRecursion-fresh_across : (xs ys : List Ptr) → IsApart (xs ++ ys) → AllByRecursion (λ x. IsFresh x ys) xs
 AllByRecursion-fresh_across [] ys d = tt
 AllByRecursion-fresh_across (x ∷ xs) ys d = (
   AllByRecursion-right (λ q. same_ptr x q ≡ false) xs ys (IsFresh-head x (xs ++ ys) d),

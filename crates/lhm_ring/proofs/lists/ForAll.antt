@@ -1,5 +1,5 @@
 -- A fact of each element of a list.
-use Rattle.std.proofs.Common.{List, [], ◌∷◌, ◌++◌}
+use Rattle.std.proofs.Common.{List, [], ◌∷◌, ◌++◌, arith}
 use Rattle.std.specs.List.{AllByRecursion}
 
 module _ {X : Type 0} (P : X → Type 0) where
@@ -16,8 +16,7 @@ module _ {X : Type 0} (P : X → Type 0) where
   AllByRecursion-right (x ∷ xs) ys a = AllByRecursion-right xs ys a.1
 
   pub AllByRecursion-removed : (xs : List X) (x : X) (ys : List X) → AllByRecursion P (xs ++ x ∷ ys) → AllByRecursion P (xs ++ ys)
-  AllByRecursion-removed xs x ys a =
-      AllByRecursion-append xs ys (AllByRecursion-left xs (x ∷ ys) a) (AllByRecursion-right xs (x ∷ ys) a).1
+  AllByRecursion-removed xs x ys a = grind (arith, AllByRecursion-append, AllByRecursion-left, AllByRecursion-right)
 
   pub AllByRecursion-inserted : (xs : List X) (x : X) (ys : List X) → P x → AllByRecursion P (xs ++ ys) → AllByRecursion P (xs ++ x ∷ ys)
   AllByRecursion-inserted [] x ys h a = (h, a)

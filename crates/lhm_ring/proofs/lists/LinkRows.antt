@@ -1,10 +1,10 @@
 -- A row of links: it is cut in two and put together, and its pointers and contents are read.
-use Rattle.std.proofs.Common.{◌≡◌, List, [], ◌∷◌, ◌++◌, length, refl, sym, ap, ◌∙◌, append_assoc}
+use Rattle.std.proofs.Common.{◌≡◌, List, [], ◌∷◌, ◌++◌, length, refl, ap, ◌∙◌, arith}
 use denote.RawPtr.{Ptr}
 use Rattle.lhm_ring.specs.declared.ring.Links.{Links}
 use Rattle.lhm_ring.proofs.lists.Last.{first_from, last_from}
 use Rattle.lhm_ring.specs.Nodes.{Cell}
-use Rattle.lhm_ring.specs.Links.{content_at, AreNeighbours, AreLinked, follow, listed, one_of}
+use Rattle.lhm_ring.specs.Links.{AreNeighbours, AreLinked, follow, listed}
 
 -- a row of links, cut before p
 pub record RowCut {B : Type 0} (cs : List (Cell Links B)) (x : Ptr) (xs : List Ptr) (p : Ptr) (ys : List Ptr) : Type 0 where
@@ -16,18 +16,15 @@ module _ {B : Type 0} where
   module _ (cs : List (Cell Links B)) where
     pub RowCut-linked : (x : Ptr) (xs : List Ptr) (p : Ptr) (ys : List Ptr) → AreLinked cs (x ∷ (xs ++ p ∷ ys)) → RowCut cs x xs p ys
     RowCut-linked x [] p ys l = record { before = tt; edge = l.0; after = l.1 }
-    RowCut-linked x (y ∷ xs) p ys l = let on = RowCut-linked y xs p ys l.1 in
-        record { before = (l.0, on.before); edge = on.edge; after = on.after }
+    RowCut-linked x (y ∷ xs) p ys l = grind (arith, RowCut-linked y xs p ys l.1)
 
     -- a row to z, cut in two
     pub AreNeighbours-cut : (x : Ptr) (xs : List Ptr) (z : Ptr) (ys : List Ptr) → AreLinked cs (x ∷ (xs ++ (ys ++ z ∷ [])))
         → AreNeighbours cs (last_from x xs) (first_from z ys)
-    AreNeighbours-cut x xs z [] l = (RowCut-linked x xs z [] l).edge
-    AreNeighbours-cut x xs z (y ∷ ys) l = (RowCut-linked x xs y (ys ++ z ∷ []) l).edge
+    AreNeighbours-cut x xs z ys l = grind (arith, RowCut-linked)
 
-    pub AreLinked-glued : (x : Ptr) (xs : List Ptr) (p : Ptr) (ys : List Ptr)
-        → AreLinked cs (x ∷ xs) → AreNeighbours cs (last_from x xs) p → AreLinked cs (p ∷ ys)
-        → AreLinked cs (x ∷ (xs ++ p ∷ ys))
+    pub AreLinked-glued : (x : Ptr) (xs : List Ptr) (p : Ptr) (ys : List Ptr) → AreLinked cs (x ∷ xs) → AreNeighbours cs (last_from x xs) p
+        → AreLinked cs (p ∷ ys) → AreLinked cs (x ∷ (xs ++ p ∷ ys))
     AreLinked-glued x [] p ys l e m = (e, m)
     AreLinked-glued x (y ∷ xs) p ys l e m = (l.0, AreLinked-glued y xs p ys l.1 e m)
 
@@ -35,11 +32,9 @@ module _ {B : Type 0} where
     pub follow-row : (x : Ptr) (xs : List Ptr) (z : Ptr) → AreLinked cs (x ∷ (xs ++ z ∷ [])) → follow cs (length xs) x ≡ xs
     unfolding follow
     follow-row x [] z l = refl
-    follow-row x (y ∷ ys) z l =
-        ap (λ q. q ∷ follow cs (length ys) q) l.0.0 ∙ ap (λ qs. y ∷ qs) (follow-row y ys z l.1)
+    follow-row x (y ∷ ys) z l = ap (λ q. q ∷ follow cs (length ys) q) l.0.0 ∙ ap (λ qs. y ∷ qs) (follow-row y ys z l.1)
 
   pub listed-append : (cs : List (Cell Links B)) (xs ys : List Ptr) → listed cs (xs ++ ys) ≡ listed cs xs ++ listed cs ys
   unfolding listed
   listed-append cs [] ys = refl
-  listed-append cs (x ∷ xs) ys = ap (λ l. one_of (content_at cs x) ++ l) (listed-append cs xs ys)
-      ∙ sym (append_assoc (one_of (content_at cs x)) (listed cs xs) (listed cs ys))
+  listed-append cs (x ∷ xs) ys = grind (arith, listed-append cs xs ys)

@@ -1,5 +1,5 @@
 -- Lists that are one another in another order.
-use Rattle.std.proofs.Common.{◌≡◌, List, [], ◌∷◌, ◌++◌, ◌⊎◌, inl, inr, refl, sym, ◌∙◌, ap, subst}
+use Rattle.std.proofs.Common.{◌≡◌, List, [], ◌∷◌, ◌++◌, ◌⊎◌, inl, inr, refl, sym, ◌∙◌, ap, subst, arith}
 use Rattle.lhm_ring.specs.Index.{PutsIn, IsRearranged}
 use Rattle.lhm_ring.proofs.lists.Splits.{SplitAround}
 
@@ -24,18 +24,8 @@ module _ {X : Type 0} where
   pub PutsIn-exchange : (a b : X) (l m k : List X) → PutsIn a l k → PutsIn b m k → ((a ≡ b) × (l ≡ m)) ⊎ PutsEach a b l m
   PutsIn-exchange a b l m [] p q = absurd p
   PutsIn-exchange a b l m (y ∷ k) (inl p) (inl q) = inl (p.0 ∙ sym q.0, p.1 ∙ sym q.1)
-  PutsIn-exchange a b l m (y ∷ k) (inl p) (inr q) =
-      inr (record {
-        without = q.rest;
-        puts_b = subst (PutsIn b q.rest) (sym p.1) q.puts;
-        puts_a = subst (PutsIn a q.rest) (sym q.is) (inl (p.0, refl));
-      })
-  PutsIn-exchange a b l m (y ∷ k) (inr p) (inl q) =
-      inr (record {
-        without = p.rest;
-        puts_b = subst (PutsIn b p.rest) (sym p.is) (inl (q.0, refl));
-        puts_a = subst (PutsIn a p.rest) (sym q.1) p.puts;
-      })
+  PutsIn-exchange a b l m (y ∷ k) (inl p) (inr q) = grind arith
+  PutsIn-exchange a b l m (y ∷ k) (inr p) (inl q) = grind arith
   PutsIn-exchange a b l m (y ∷ k) (inr p) (inr q) =
       elim (PutsIn-exchange a b p.rest q.rest k p.puts q.puts) [
         | inl e ↦ inl (e.0, p.is ∙ ap (λ v. y ∷ v) e.1 ∙ sym q.is)
@@ -77,20 +67,11 @@ module _ {X : Type 0} where
   -- an element of the first list may come first
   pub IsRearranged-from : (x : X) (xs zs ys : List X) → PutsIn x xs zs → IsRearranged zs ys → IsRearranged (x ∷ xs) ys
   IsRearranged-from x xs [] ys p h = absurd p
-  IsRearranged-from x xs (y ∷ zs) ys (inl p) h = record {
-    without = h.without;
-    puts = subst (λ (v : X). PutsIn v h.without ys) (sym p.0) h.puts;
-    others = subst (λ (v : List X). IsRearranged v h.without) (sym p.1) h.others;
-  }
+  IsRearranged-from x xs (y ∷ zs) ys (inl p) h = grind arith
   IsRearranged-from x xs (y ∷ zs) ys (inr p) h =
       let i = IsRearranged-from x p.rest zs h.without p.puts h.others in
       let j = PutsBoth-commute x y i.without h.without ys i.puts h.puts in
-      record {
-        without = j.between;
-        puts = j.puts_a;
-        others = subst (λ (v : List X). IsRearranged v j.between) (sym p.is)
-            (record { without = i.without; puts = j.puts_b; others = i.others });
-      }
+      grind arith
 
   -- an element of the second list may stand elsewhere
   pub IsRearranged-again : (x : X) (xs n zs ys : List X) → IsRearranged xs zs → PutsIn x n zs → PutsIn x n ys → IsRearranged xs ys
@@ -100,12 +81,7 @@ module _ {X : Type 0} where
         | inl e ↦ record { without = n; puts = subst (λ (v : X). PutsIn v n ys) (sym e.0) q; others = subst (IsRearranged xs) e.1 h.others }
         | inr r ↦
             let j : PutsBoth x a r.without ys = PutsBoth-commute a x r.without n ys r.puts_a q in
-            record {
-              without = j.between;
-              puts = j.puts_a;
-              others =
-                  IsRearranged-again x xs r.without h.without j.between h.others r.puts_b j.puts_b;
-            }
+            grind (arith, IsRearranged-again x xs r.without h.without j.between h.others r.puts_b j.puts_b)
       ]
 
   -- one element less in both
@@ -129,8 +105,7 @@ module _ {X : Type 0} where
         | inr r ↦ record {
           without = r.without;
           puts = r.puts_a;
-          others =
-              IsRearranged-less x p.rest xs' r.without h.without p.puts r.puts_b h.others;
+          others = IsRearranged-less x p.rest xs' r.without h.without p.puts r.puts_b h.others;
         }
       ])
 
@@ -142,12 +117,7 @@ module _ {X : Type 0} where
   IsRearranged-more x xs (y ∷ xs') ys ys' (inr p) q h =
       let h' : IsRearranged (y ∷ p.rest) ys = subst (λ (v : List X). IsRearranged v ys) p.is h in
       let j : PutsBoth x y h'.without ys' = PutsBoth-commute y x h'.without ys ys' h'.puts q in
-      record {
-        without = j.between;
-        puts = j.puts_a;
-        others = IsRearranged-more x p.rest xs'
-            h'.without j.between p.puts j.puts_b h'.others;
-      }
+      grind (arith, IsRearranged-more x p.rest xs' h'.without j.between p.puts j.puts_b h'.others)
 
   -- the same in the middle of the first list
   pub IsRearranged-less_middle : (us : List X) (x : X) (vs ys ys' : List X) → PutsIn x ys ys' → IsRearranged (us ++ x ∷ vs) ys'
@@ -176,9 +146,7 @@ module _ {X : Type 0} where
 
   pub IsRearranged-member : (us : List X) (x : X) (vs zs : List X) → IsRearranged (us ++ x ∷ vs) zs → (ws : List X) × PutsIn x ws zs
   IsRearranged-member [] x vs zs h = (h.without, h.puts)
-  IsRearranged-member (u ∷ us) x vs zs h =
-      let i = IsRearranged-member us x vs h.without h.others in
-      PutsIn-later x u i.0 h.without zs i.1 h.puts
+  IsRearranged-member (u ∷ us) x vs zs h = grind (arith, PutsIn-later, IsRearranged-member us x vs h.without h.others)
 
   -- the other way: an element of the second list is in the first
   pub SplitAround-rearranged : (xs : List X) (x : X) (ws zs : List X) → IsRearranged xs zs → PutsIn x ws zs → SplitAround xs x

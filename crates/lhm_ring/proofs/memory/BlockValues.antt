@@ -1,13 +1,10 @@
 -- An empty block by value, and a pointer. Assumes `Logic`.
-use Rattle.lhm_ring.proofs.memory.Steps.{◌≡◌, ℕ, ◌+◌, ◌<◌, true, List, [], ◌∷◌, ◌++◌, refl, ◌∙◌}
-use Rattle.lhm_ring.proofs.memory.Steps.{subst, T, full_share, Val, SProp, size, ◌∵◌, ‵, ◌⊛◌, ◌$◌}
-use Rattle.lhm_ring.proofs.memory.Steps.{ !, qed, by, move, keep, drop, use1, split, fsplit, feq_l}
-use Rattle.lhm_ring.proofs.memory.Steps.{fact, layout, Ptr, block_ptr, ptr_val, lies_at, room_for}
-use Rattle.lhm_ring.proofs.memory.Steps.{word, arith, froom, sem, RattleType, via, emp, never}
-use Rattle.lhm_ring.proofs.memory.Steps.{part_at, Fml, vstruct, vcons, vnil, pick, some, fat, given}
-use Rattle.lhm_ring.proofs.memory.Steps.{learn, Good, ent, Ura, Logic, sep, false, has_ty, WT}
-use Rattle.lhm_ring.proofs.memory.Steps.{Struct, fact_i, never_e, fst∗, Item, Goal, fpick, null_ptr}
-use Rattle.lhm_ring.proofs.memory.Steps.{makes_shadow, shape, knows}
+use Rattle.lhm_ring.proofs.memory.Steps.{◌≡◌, ℕ, ◌+◌, ◌<◌, true, List, [], ◌∷◌, ◌++◌, refl, ◌∙◌, subst, T, full_share, Val, SProp, size}
+use Rattle.lhm_ring.proofs.memory.Steps.{◌∵◌, ‵, ◌⊛◌, ◌$◌, !, qed, by, move, keep, drop, use1, split, fsplit, feq_l, fact, layout, Ptr}
+use Rattle.lhm_ring.proofs.memory.Steps.{block_ptr, ptr_val, lies_at, room_for, word, arith, froom, sem, RattleType, via, emp, never}
+use Rattle.lhm_ring.proofs.memory.Steps.{part_at, Fml, vstruct, vcons, vnil, pick, some, fat, given, learn, Good, ent, Ura, Logic, sep}
+use Rattle.lhm_ring.proofs.memory.Steps.{false, has_ty, WT, Struct, fact_i, never_e, fst∗, Item, Goal, fpick, null_ptr, makes_shadow, shape}
+use Rattle.lhm_ring.proofs.memory.Steps.{knows}
 use mir.Val.{of_list}
 use mir.Syntax.{ty_ptr, ty_struct, tcons, tnil}
 use mir.Raw.{raw as bare}
@@ -44,8 +41,7 @@ module _ (T' Z : RattleType) (g : Ghosts Z.Denot) where
 
   module _ {M : Type 1} {𝓤 : Ura M} {𝓛 : Logic 𝓤} {K : Type 0} {Γ : List (Item 𝓤)} {G : Goal 𝓤 𝓛.H} where
     pub block_known : K → (r : BlockType.Denot) (vs : List Val)
-        → (vs ≡ block_val r.ptr ∷ []
-        → Seq K 𝓛 (‵ (block_owns T' (g.dealloc_token r.alloc) r.ptr r.count) ∷ Γ) G)
+        → (vs ≡ block_val r.ptr ∷ [] → Seq K 𝓛 (‵ (block_owns T' (g.dealloc_token r.alloc) r.ptr r.count) ∷ Γ) G)
         → Seq K 𝓛 (‵ (BlockType.own_val r vs) ∷ Γ) G
     block_known t r vs k = fsplit t $ fpick t
         (λ vss. fsplit t $ feq_l t
@@ -59,8 +55,7 @@ module _ {M : Type 1} {𝓤 : Ura M} (𝓛 : Logic 𝓤) (𝓜 : Model 𝓤 𝓛
   New p = room_for (bare (layout E.links)) (links_address (RL E) (RK E) (RV E) p)
 
   clash : (p : Ptr) (x : E.links.Denot)
-      → ent 𝓤 (sep 𝓤 (sem 𝓛 (New p))
-      (sem 𝓛 (lies_at (RL E) full_share (links_address (RL E) (RK E) (RV E) p) x))) (never 𝓤)
+      → ent 𝓤 (sep 𝓤 (sem 𝓛 (New p)) (sem 𝓛 (lies_at (RL E) full_share (links_address (RL E) (RK E) (RV E) p) x))) (never 𝓤)
   clash (block_ptr b o) x = let at : ℕ = o + lo E in
       qed 𝓛 (‵ (froom (bare (layout E.links)) b at) ∷ ‵ (part_at (RL E) full_share x b at) ∷ []) ∵
       use1 𝓛 (‵ (froom (layout E.links) b at)) (𝓛.laws.raw-room (layout E.links) b at) $ move !

@@ -1,5 +1,5 @@
 -- Nodes with other bodies: what is read of their links stays.
-use Rattle.std.proofs.Common.{◌≡◌, ℕ, true, false, cond, List, [], ◌∷◌, map, length, suc, Option, Some, refl, ap}
+use Rattle.std.proofs.Common.{◌≡◌, ℕ, true, false, cond, List, [], ◌∷◌, map, length, suc, Option, Some, refl, ap, arith}
 use Rattle.std.specs.List.{AllByRecursion}
 use denote.RawPtr.{Ptr}
 use Rattle.lhm_ring.specs.declared.ring.Links.{Links}
@@ -27,15 +27,9 @@ module _ {B : Type 0} (f : Ptr → Option B → Option B) where
     pub links_at-rebodied : (cs : List (Cell L B)) (q : Ptr) → links_at (rebodied cs) q ≡ links_at cs q
     unfolding cell_at
     links_at-rebodied [] q = refl
-    links_at-rebodied (c ∷ cs) q =
-        elim (same_ptr c.at q) as (λ y. links_of (cond y (Some (cell c.at c.links (f c.at c.body))) (cell_at (rebodied cs) q))
-        ≡ links_of (cond y (Some c) (cell_at cs q))) [
-          | true ↦ refl
-          | false ↦ links_at-rebodied cs q
-        ]
+    links_at-rebodied (c ∷ cs) q = grind (arith, links_at-rebodied cs q)
 
-    pub body_at-rebodied : (cs : List (Cell L B)) (q : Ptr) (l : L) → links_at cs q ≡ Some l
-        → body_at (rebodied cs) q ≡ f q (body_at cs q)
+    pub body_at-rebodied : (cs : List (Cell L B)) (q : Ptr) (l : L) → links_at cs q ≡ Some l → body_at (rebodied cs) q ≡ f q (body_at cs q)
     unfolding cell_at
     body_at-rebodied [] q l e = absurd (none_some l e)
     body_at-rebodied (c ∷ cs) q l e =

@@ -1,10 +1,8 @@
 -- The land of nodes is taken apart from them, and the memory of a chunk is cut into places, and
 -- made of them again. Assumes `Logic`.
-use Rattle.lhm_ring.proofs.memory.Steps.{ℕ, ◌+◌, List, [], ◌∷◌, ◌++◌, refl, sym, full_share, ftrue}
-use Rattle.lhm_ring.proofs.memory.Steps.{◌∵◌, ‵, ◌⊛◌, ◌$◌, !, qed, by, move, keep, drop, use1, use2}
-use Rattle.lhm_ring.proofs.memory.Steps.{split, fsplit, fjoin, rewrite, layout, Ptr, block_ptr}
-use Rattle.lhm_ring.proofs.memory.Steps.{lies_at, room_for, id⊢, ty_array, froom, sem, in_a_block}
-use Rattle.lhm_ring.proofs.memory.Steps.{never, Fml, fjoin3, nothing, ent, Ura, Logic, sep, done}
+use Rattle.lhm_ring.proofs.memory.Steps.{ℕ, ◌+◌, List, [], ◌∷◌, ◌++◌, refl, sym, full_share, ftrue, ◌∵◌, ‵, ◌⊛◌, ◌$◌, !, qed, by, move}
+use Rattle.lhm_ring.proofs.memory.Steps.{keep, drop, use1, use2, split, fsplit, fjoin, rewrite, layout, Ptr, block_ptr, lies_at, room_for}
+use Rattle.lhm_ring.proofs.memory.Steps.{id⊢, ty_array, froom, sem, in_a_block, never, Fml, fjoin3, nothing, ent, Ura, Logic, sep, done}
 use Rattle.lhm_ring.proofs.memory.Steps.{as_raw}
 use Rattle.std.proofs.Common.{zero, suc}
 use Rattle.lhm_ring.proofs.memory.PlaceCut.{block, block_glue}

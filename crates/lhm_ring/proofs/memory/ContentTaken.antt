@@ -1,8 +1,6 @@
 -- What one node holds is moved out of what is lent. Assumes `Logic`.
-use Rattle.lhm_ring.proofs.memory.Steps.{◌≡◌, true, List, [], ◌∷◌, ◌++◌, refl, sym, ap, ◌∙◌, None}
-use Rattle.lhm_ring.proofs.memory.Steps.{◌∵◌, ‵, ◌⊛◌, ◌$◌, !, qed, move, use1, use2, split, fsplit}
-use Rattle.lhm_ring.proofs.memory.Steps.{fjoin, Ptr, id⊢, sem, Some, Fml, Option, ent, Ura, Logic}
-use Rattle.lhm_ring.proofs.memory.Steps.{sep, done, false}
+use Rattle.lhm_ring.proofs.memory.Steps.{◌≡◌, true, List, [], ◌∷◌, ◌++◌, refl, sym, ap, ◌∙◌, None, ◌∵◌, ‵, ◌⊛◌, ◌$◌, !, qed, move, use1}
+use Rattle.lhm_ring.proofs.memory.Steps.{use2, split, fsplit, fjoin, Ptr, id⊢, sem, Some, Fml, Option, ent, Ura, Logic, sep, done, false}
 use Rattle.std.proofs.Common.{cond}
 use Rattle.lhm_ring.proofs.lists.Apart.{same_ptr-equal}
 use Rattle.lhm_ring.proofs.memory.NodeFields.{Three, RL, RK, RV}

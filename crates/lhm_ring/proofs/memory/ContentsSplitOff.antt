@@ -4,16 +4,12 @@
 --     uninitialised memory
 --     BareRow      the nodes without bodies, as a type: what a `&` to nodes of holes shows is what
 --     a `&` to it shows
-use Rattle.lhm_ring.proofs.memory.Steps.{ℕ, ◌+◌, List, [], ◌∷◌, refl, None, full_share, Val, ◌∵◌, ‵}
-use Rattle.lhm_ring.proofs.memory.Steps.{raw, ◌⊛◌, ◌$◌, !, qed, by, move, keep, drop, use1, use2}
-use Rattle.lhm_ring.proofs.memory.Steps.{split, fsplit, fsplit3, fjoin, feq_i, layout, Ptr}
-use Rattle.lhm_ring.proofs.memory.Steps.{block_ptr, lies_at, id⊢, ty_array, froom, sem, RattleType}
-use Rattle.lhm_ring.proofs.memory.Steps.{emp, Some, part_at, Fml, fsep, fjoin3, Option, vstruct}
-use Rattle.lhm_ring.proofs.memory.Steps.{vcons, vnil, Lft, SemTy, mem, fseps, fpack, fat, ent, Ura}
-use Rattle.lhm_ring.proofs.memory.Steps.{Logic, sep, done, part_of, Struct, as_raw, never_e, Item}
-use Rattle.lhm_ring.proofs.memory.Steps.{Goal, fpick, null_ptr, makes_shadow, Incl, Valss, Laws}
-use Rattle.lhm_ring.proofs.memory.Steps.{Shares-less, Lends, lent_at, Lends-lies, Lends-first}
-use Rattle.lhm_ring.proofs.memory.Steps.{within}
+use Rattle.lhm_ring.proofs.memory.Steps.{ℕ, ◌+◌, List, [], ◌∷◌, refl, None, full_share, Val, ◌∵◌, ‵, raw, ◌⊛◌, ◌$◌, !, qed, by, move, keep}
+use Rattle.lhm_ring.proofs.memory.Steps.{drop, use1, use2, split, fsplit, fsplit3, fjoin, feq_i, layout, Ptr, block_ptr, lies_at, id⊢}
+use Rattle.lhm_ring.proofs.memory.Steps.{ty_array, froom, sem, RattleType, emp, Some, part_at, Fml, fsep, fjoin3, Option, vstruct, vcons}
+use Rattle.lhm_ring.proofs.memory.Steps.{vnil, Lft, SemTy, mem, fseps, fpack, fat, ent, Ura, Logic, sep, done, part_of, Struct, as_raw}
+use Rattle.lhm_ring.proofs.memory.Steps.{never_e, Item, Goal, fpick, null_ptr, makes_shadow, Incl, Valss, Laws, Shares-less, Lends, lent_at}
+use Rattle.lhm_ring.proofs.memory.Steps.{Lends-lies, Lends-first, within}
 use types.SemTy.{Body as Borrowed}
 use base.Fml.{GName, ffalse, fex}
 use types.Kit.{Step, step}

@@ -3,19 +3,14 @@
 --     Field      a field of the nodes, and what the function that shows it asks and tells
 --     Seen, field_seen      what is found at the pointer passed, and that a function of this code
 --     then meets its contract
-use Rattle.lhm_ring.proofs.memory.Steps.{◌≡◌, ℕ, ◌+◌, List, [], ◌∷◌, ◌++◌, refl, sym, ap, ◌∙◌}
-use Rattle.lhm_ring.proofs.memory.Steps.{subst, Val, vptr, inst_fn, SProp, flft, ◌∵◌, ‵, raw, ◌⊛◌}
-use Rattle.lhm_ring.proofs.memory.Steps.{at_ret, ◌$◌, !, qed, by, move, keep, drop, use1, split}
-use Rattle.lhm_ring.proofs.memory.Steps.{join, fsplit, fjoin, rewrite, feq_i, stop, fld, addr}
-use Rattle.lhm_ring.proofs.memory.Steps.{of_opd, first, blocks, exec, returns, alloc_all, pass_all}
-use Rattle.lhm_ring.proofs.memory.Steps.{free_all, look_at, get, get_in, through, sets, sets_last}
-use Rattle.lhm_ring.proofs.memory.Steps.{is, env, sub, whole, tables, fact, yes, owns, types_at}
-use Rattle.lhm_ring.proofs.memory.Steps.{plain, Ptr, ptr_val, heard, Stays, stay_dropped, walk_of}
-use Rattle.lhm_ring.proofs.memory.Steps.{Goes-dropped, after, word, word-Good, proved_at, leaves}
-use Rattle.lhm_ring.proofs.memory.Steps.{id⊢, sem, RattleType, in_a_block, snd∗, via, Some, never}
-use Rattle.lhm_ring.proofs.memory.Steps.{Option, named, Lft, ◌⊑◌, hide, Bor, enter, ent, Ura, Logic}
-use Rattle.lhm_ring.proofs.memory.Steps.{sep, Ty, RefOf, Args, param, fst∗, lent_at, WpFn, suffices}
-use Rattle.lhm_ring.proofs.memory.Steps.{states, all_spent, tokens}
+use Rattle.lhm_ring.proofs.memory.Steps.{◌≡◌, ℕ, ◌+◌, List, [], ◌∷◌, ◌++◌, refl, sym, ap, ◌∙◌, subst, Val, vptr, inst_fn, SProp, flft, ◌∵◌}
+use Rattle.lhm_ring.proofs.memory.Steps.{‵, raw, ◌⊛◌, at_ret, ◌$◌, !, qed, by, move, keep, drop, use1, split, join, fsplit, fjoin, rewrite}
+use Rattle.lhm_ring.proofs.memory.Steps.{feq_i, stop, fld, addr, of_opd, first, blocks, exec, returns, alloc_all, pass_all, free_all}
+use Rattle.lhm_ring.proofs.memory.Steps.{look_at, get, get_in, through, sets, sets_last, is, env, sub, whole, tables, fact, yes, owns}
+use Rattle.lhm_ring.proofs.memory.Steps.{types_at, plain, Ptr, ptr_val, heard, Stays, stay_dropped, walk_of, Goes-dropped, after, word}
+use Rattle.lhm_ring.proofs.memory.Steps.{word-Good, proved_at, leaves, id⊢, sem, RattleType, in_a_block, snd∗, via, Some, never, Option}
+use Rattle.lhm_ring.proofs.memory.Steps.{named, Lft, ◌⊑◌, hide, Bor, enter, ent, Ura, Logic, sep, Ty, RefOf, Args, param, fst∗, lent_at}
+use Rattle.lhm_ring.proofs.memory.Steps.{WpFn, suffices, states, all_spent, tokens}
 use mathlib.Core.Option.{some}
 use mir.Syntax.{Sym, ty_ptr, ty_ref, imm, erased, local, value_local, seq, assign, block, return}
 use mir.Syntax.{place, field, deref, copy, rv_opd, addr_of, Fn, Callee}

@@ -1,15 +1,11 @@
 -- A vector is made of the memory of others by `lodge`, and gives it back by `dislodge`. Assumes `Logic`.
-use Rattle.lhm_ring.proofs.memory.Steps.{◌≡◌, ℕ, ◌+◌, ◌*◌, ◌<◌, ◌^◌, List, [], ◌∷◌, refl, ap, ◌∙◌}
-use Rattle.lhm_ring.proofs.memory.Steps.{arith, Ura, ftrue, fsep, flft, full_share, ent, emp}
-use Rattle.lhm_ring.proofs.memory.Steps.{SProp, id⊢, w64, ty_array, a_type, Val, vptr, vint, ◌∵◌}
-use Rattle.lhm_ring.proofs.memory.Steps.{‵, raw, ◌⊛◌, ◌$◌, !, qed, move, keep, drop, use0, use1, use2}
-use Rattle.lhm_ring.proofs.memory.Steps.{split, join, fsplit, fjoin, rewrite, feq_i, feq_l, flt_l}
-use Rattle.lhm_ring.proofs.memory.Steps.{flt_i, later, pick, await, split3, some, done, updating, now}
-use Rattle.lhm_ring.proofs.memory.Steps.{Logic, sem, ◌⊑◌, fact, fact_i, usize, part_at, froom}
-use Rattle.lhm_ring.proofs.memory.Steps.{layout, layouts, param, Laws, RattleType, block_ptr, nothing}
-use Rattle.lhm_ring.proofs.memory.Steps.{heard, as_raw, Item, Goal, T, has_ty, WT, Struct, Valss}
-use Rattle.lhm_ring.proofs.memory.Steps.{within, fpack, vstruct, vcons, vnil, fpick, by, never_e, Ptr}
-use Rattle.lhm_ring.proofs.memory.Steps.{null_ptr, room_for}
+use Rattle.lhm_ring.proofs.memory.Steps.{◌≡◌, ℕ, ◌+◌, ◌*◌, ◌<◌, ◌^◌, List, [], ◌∷◌, refl, ap, ◌∙◌, arith, Ura, ftrue, fsep, flft}
+use Rattle.lhm_ring.proofs.memory.Steps.{full_share, ent, emp, SProp, id⊢, w64, ty_array, a_type, Val, vptr, vint, ◌∵◌, ‵, raw, ◌⊛◌, ◌$◌}
+use Rattle.lhm_ring.proofs.memory.Steps.{ !, qed, move, keep, drop, use0, use1, use2, split, join, fsplit, fjoin, rewrite, feq_i, feq_l}
+use Rattle.lhm_ring.proofs.memory.Steps.{flt_l, flt_i, later, pick, await, split3, some, done, updating, now, Logic, sem, ◌⊑◌, fact, fact_i}
+use Rattle.lhm_ring.proofs.memory.Steps.{usize, part_at, froom, layout, layouts, param, Laws, RattleType, block_ptr, nothing, heard, as_raw}
+use Rattle.lhm_ring.proofs.memory.Steps.{Item, Goal, T, has_ty, WT, Struct, Valss, within, fpack, vstruct, vcons, vnil, fpick, by, never_e}
+use Rattle.lhm_ring.proofs.memory.Steps.{Ptr, null_ptr, room_for}
 use Rattle.std.specs.Allocator.{array_of}
 use Rattle.std.proofs.Common.{◌≤◌, ◌-◌}
 use base.Logic.{ex, guard}

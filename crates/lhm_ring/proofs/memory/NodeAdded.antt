@@ -8,7 +8,7 @@ use Rattle.lhm_ring.proofs.lists.ForAll.{AllByRecursion-append, AllByRecursion-l
 use Rattle.lhm_ring.proofs.memory.OneNodeChanged.{AreLinked-other, IsSpareList-other, AllByRecursion-content_other, listed-other}
 use Rattle.lhm_ring.proofs.rings.RingCells.{same_ptr-null, cell_at-ring_cells}
 use Rattle.lhm_ring.specs.Nodes.{Cell, cell, cell_at, same_ptr, pointers, links_of, is_block, IsApart}
-use Rattle.lhm_ring.specs.Links.{ends_links, ring_cells, link_of, has_links, link_at, IsSpareList, IsRing, listed, IsThere}
+use Rattle.lhm_ring.specs.Links.{ring_cells, link_of, has_links, link_at, IsSpareList, IsRing, listed, IsThere}
 
 false_true : false ≡ true → ⊥
 false_true e = cc
@@ -23,8 +23,7 @@ module _ {B : Type 0} (e : Ends) (nodes : List (Cell Links B)) (p : Ptr) (l : Li
 
   cell_at-other : (q : Ptr) → same_ptr p q ≡ false → cell_at ds q ≡ cell_at cs q
   unfolding cell_at
-  cell_at-other q n = ap (λ y. cond (same_ptr null_ptr q) (Some (cell null_ptr (ends_links e) None))
-      (cond y (Some (cell p l None)) (cell_at nodes q))) n
+  cell_at-other q n = grind arith
 
   cell_at-newest : cell_at (cell p l None ∷ nodes) p ≡ Some (cell p l None)
   unfolding cell_at

@@ -4,14 +4,11 @@
 --     marker_made      a value of no bytes
 --     value_known, forgotten      a value in memory is machine memory and what it owns, and
 --     memory that holds nothing
-use Rattle.lhm_ring.proofs.memory.Steps.{◌≡◌, ℕ, ◌+◌, List, [], ◌∷◌, ◌++◌, refl, ap, ◌∙◌, None}
-use Rattle.lhm_ring.proofs.memory.Steps.{full_share, Val, ◌∵◌, ‵, ◌⊛◌, ◌$◌, !, qed, move, drop}
-use Rattle.lhm_ring.proofs.memory.Steps.{use1, split, fsplit, fjoin, feq_i, layout, param_laws}
-use Rattle.lhm_ring.proofs.memory.Steps.{block_ptr, word, froom, sem, RattleType, emp, Some}
-use Rattle.lhm_ring.proofs.memory.Steps.{part_at, Fml, nothing, Option, vstruct, vcons, vnil, pick}
-use Rattle.lhm_ring.proofs.memory.Steps.{some, fpack, fat, given, learn, Good, ent, Ura, Logic, sep}
-use Rattle.lhm_ring.proofs.memory.Steps.{done, Ty, Is, Struct, Args, a_type, layouts, param, as_raw}
-use Rattle.lhm_ring.proofs.memory.Steps.{Item, Goal, makes_shadow, shape, Valss, Laws, within}
+use Rattle.lhm_ring.proofs.memory.Steps.{◌≡◌, ℕ, ◌+◌, List, [], ◌∷◌, ◌++◌, refl, ap, ◌∙◌, None, full_share, Val, ◌∵◌, ‵, ◌⊛◌, ◌$◌, !, qed}
+use Rattle.lhm_ring.proofs.memory.Steps.{move, drop, use1, split, fsplit, fjoin, feq_i, layout, param_laws, block_ptr, word, froom, sem}
+use Rattle.lhm_ring.proofs.memory.Steps.{RattleType, emp, Some, part_at, Fml, nothing, Option, vstruct, vcons, vnil, pick, some, fpack, fat}
+use Rattle.lhm_ring.proofs.memory.Steps.{given, learn, Good, ent, Ura, Logic, sep, done, Ty, Is, Struct, Args, a_type, layouts, param}
+use Rattle.lhm_ring.proofs.memory.Steps.{as_raw, Item, Goal, makes_shadow, shape, Valss, Laws, within}
 use mir.Val.{of_list}
 use base.Logic.{ex, guard}
 use types.Kit.{Seq, Step, step, check, show}
@@ -23,6 +20,7 @@ use borrow.Table.OneValue.{part_in, part_out}
 use Rattle.lhm_ring.specs.contracts.nodes.Nodes as N-type
 use Rattle.lhm_ring.specs.contracts.pointer.NodePointer as P-type
 use Rattle.lhm_ring.specs.Nodes.{Cell, links_offset, key_offset, value_offset, body_owns, land_owns, cell_owns, cells_own}
+use Rattle.std.proofs.Common.{arith}
 
 pub record Three : Type 2 where
   pub links : RattleType
@@ -88,9 +86,7 @@ marker_made E 𝓛 = makes_shadow 𝓛 ((Marker E).own_val (tt, tt) (marker ∷ 
     (λ vss. (tt, ((λ uss. (tt, tt)), tt))) ((vstruct vnil ∷ [], tt), (refl, ((tt, (refl, tt)), tt)))
 
 pub alone : (τ : Ty) (vs : List Val) → Typed (τ ∷ []) vs → (v : Val) × ((vs ≡ v ∷ []) × Good τ v)
-alone τ [] t = absurd t
-alone τ (v ∷ []) t = (v, (refl, t.0))
-alone τ (v ∷ w ∷ vs) t = absurd t.1
+alone τ vs t = grind arith
 
 module _ (i : ℕ) (Y : RattleType) (L : Laws Y) {M : Type 1} {𝓤 : Ura M} (𝓛 : Logic 𝓤) where
   open 𝓛 use {H}
@@ -107,15 +103,13 @@ module _ (i : ℕ) (Y : RattleType) (L : Laws Y) {M : Type 1} {𝓤 : Ura M} (�
       (v ∷ []) p).0 $ move ! (1 ∷ 0 ∷ []) $ done !))
 
   pub value_in : (x : Y.Denot) (b o : ℕ) (v : Val)
-      → ent 𝓤 (sep 𝓤 (H.at full_share (layout Y) b o v) (sem 𝓛 (Y.own_val x (v ∷ []))))
-      (sem 𝓛 (part_at (param i Y) full_share x b o))
+      → ent 𝓤 (sep 𝓤 (H.at full_share (layout Y) b o v) (sem 𝓛 (Y.own_val x (v ∷ [])))) (sem 𝓛 (part_at (param i Y) full_share x b o))
   value_in x b o v = part_in 𝓛 (param i Y) refl full_share x b o v
 
 module _ {M : Type 1} {𝓤 : Ura M} {𝓛 : Logic 𝓤} {K : Type 0} {Γ : List (Item 𝓤)} {G : Goal 𝓤 𝓛.H} where
   module _ (i : ℕ) (Y : RattleType) (L : Laws Y) (x : Y.Denot) (b o : ℕ) where
     -- a value in memory is machine memory and what the value owns
-    pub value_known : K → ((v : Val) → Good (layout Y) v
-        → Seq K 𝓛 (‵ (fat full_share (layout Y) b o v) ∷ ‵ (Y.own_val x (v ∷ [])) ∷ Γ) G)
+    pub value_known : K → ((v : Val) → Good (layout Y) v → Seq K 𝓛 (‵ (fat full_share (layout Y) b o v) ∷ ‵ (Y.own_val x (v ∷ [])) ∷ Γ) G)
         → Seq K 𝓛 (‵ (part_at (param i Y) full_share x b o) ∷ Γ) G
     value_known t k = use1 𝓛
         (some (λ (v : Val). given (Good (layout Y) v) (‵ (fat full_share (layout Y) b o v) ⊛ ‵

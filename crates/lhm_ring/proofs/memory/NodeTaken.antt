@@ -1,7 +1,6 @@
 -- One node is taken out of the nodes, and put back, changed. Assumes `Logic`.
-use Rattle.lhm_ring.proofs.memory.Steps.{◌≡◌, List, [], ◌∷◌, ◌++◌, sym, subst, ◌∵◌, ‵, ◌⊛◌, ◌$◌, ! }
-use Rattle.lhm_ring.proofs.memory.Steps.{qed, move, use1, use2, split, fsplit, fjoin, Ptr, id⊢, sem}
-use Rattle.lhm_ring.proofs.memory.Steps.{snd∗, via, Fml, Lft, ent, Ura, Logic, sep, done, fst∗}
+use Rattle.lhm_ring.proofs.memory.Steps.{◌≡◌, List, [], ◌∷◌, ◌++◌, sym, subst, ◌∵◌, ‵, ◌⊛◌, ◌$◌, !, qed, move, use1, use2, split, fsplit}
+use Rattle.lhm_ring.proofs.memory.Steps.{fjoin, Ptr, id⊢, sem, snd∗, via, Fml, Lft, ent, Ura, Logic, sep, done, fst∗}
 use Rattle.lhm_ring.specs.declared.nodes.Nodes.{Nodes}
 use Rattle.lhm_ring.proofs.memory.NodeFields.{Three, RL, RK, RV, Node, One, Cells}
 use Rattle.lhm_ring.proofs.rings.Lookup.{Cut}
@@ -29,16 +28,14 @@ module _ {L K V : Type 0} (n : Nodes L K V) where
 module _ {M : Type 1} {𝓤 : Ura M} (𝓛 : Logic 𝓤) (E : Three) where
   module _ (Z : Fml) where
     cells_cut : (xs : List (Node E)) (c : Node E) (ys : List (Node E))
-        → ent 𝓤 (sem 𝓛 (Cells E Z (xs ++ c ∷ ys)))
-        (sep 𝓤 (sem 𝓛 (One E c)) (sem 𝓛 (Cells E Z (xs ++ ys))))
+        → ent 𝓤 (sem 𝓛 (Cells E Z (xs ++ c ∷ ys))) (sep 𝓤 (sem 𝓛 (One E c)) (sem 𝓛 (Cells E Z (xs ++ ys))))
     cells_cut [] c ys = id⊢ 𝓤 _
     cells_cut (x ∷ xs) c ys = qed 𝓛 (‵ (Cells E Z (x ∷ xs ++ c ∷ ys)) ∷ []) ∵ fsplit ! $ move ! (1 ∷ []) $
         use1 𝓛 (‵ (One E c) ⊛ ‵ (Cells E Z (xs ++ ys))) (cells_cut xs c ys) $ split ! $ move !
         (2 ∷ 1 ∷ []) $ fjoin ! $ move ! (1 ∷ []) $ done !
 
     cells_glue : (xs : List (Node E)) (c : Node E) (ys : List (Node E))
-        → ent 𝓤 (sep 𝓤 (sem 𝓛 (One E c)) (sem 𝓛 (Cells E Z (xs ++ ys))))
-        (sem 𝓛 (Cells E Z (xs ++ c ∷ ys)))
+        → ent 𝓤 (sep 𝓤 (sem 𝓛 (One E c)) (sem 𝓛 (Cells E Z (xs ++ ys)))) (sem 𝓛 (Cells E Z (xs ++ c ∷ ys)))
     cells_glue [] c ys = id⊢ 𝓤 _
     cells_glue (x ∷ xs) c ys = qed 𝓛 (‵ (One E c) ∷ ‵ (Cells E Z (x ∷ xs ++ ys)) ∷ []) ∵ move ! (1 ∷ []) $ fsplit ! $ move ! (2 ∷ 1 ∷ []) $
         use2 𝓛 (‵ (Cells E Z (xs ++ c ∷ ys))) (cells_glue xs c ys) $ move ! (1 ∷ 0 ∷ []) $ fjoin ! $ done !
@@ -53,15 +50,13 @@ module _ {M : Type 1} {𝓤 : Ura M} (𝓛 : Logic 𝓤) (E : Three) where
           (sem 𝓛 Others))) (sym k.split.is) (cells_cut k.split.before k.split.node k.split.after)
 
       pub node_glue : (f : Node E → Node E)
-          → ent 𝓤 (sep 𝓤 (sem 𝓛 (One E (f k.split.node))) (sem 𝓛 Others))
-          (sem 𝓛 (Cells E Z (change p f cs)))
+          → ent 𝓤 (sep 𝓤 (sem 𝓛 (One E (f k.split.node))) (sem 𝓛 Others)) (sem 𝓛 (Cells E Z (change p f cs)))
       node_glue f = subst (λ ds. ent 𝓤 (sep 𝓤 (sem 𝓛 (One E (f k.split.node))) (sem 𝓛 Others))
           (sem 𝓛 (Cells E Z ds))) (sym (k.changed f))
           (cells_glue k.split.before (f k.split.node) k.split.after)
 
   -- seen through a `&`
   pub cell_seen : (κ : Lft) (xs : List (Node E)) (c : Node E) (ys : List (Node E))
-      → ent 𝓤 (sem 𝓛 (cells_lent (RL E) (RK E) (RV E) (xs ++ c ∷ ys) κ))
-      (sem 𝓛 (cell_lent (RL E) (RK E) (RV E) c κ))
+      → ent 𝓤 (sem 𝓛 (cells_lent (RL E) (RK E) (RV E) (xs ++ c ∷ ys) κ)) (sem 𝓛 (cell_lent (RL E) (RK E) (RV E) c κ))
   cell_seen κ [] c ys = fst∗ 𝓤 _ (sem 𝓛 (cells_lent (RL E) (RK E) (RV E) ys κ))
   cell_seen κ (x ∷ xs) c ys = via 𝓤 _ (snd∗ 𝓤 (sem 𝓛 (cell_lent (RL E) (RK E) (RV E) x κ)) _) (cell_seen κ xs c ys)

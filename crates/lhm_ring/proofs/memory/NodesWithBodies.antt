@@ -1,5 +1,5 @@
 -- Nodes with the bodies of a run in them, and nodes with none.
-use Rattle.std.proofs.Common.{◌≡◌, ℕ, true, false, cond, List, [], ◌∷◌, length, Option, Some, None, refl, sym, ap, ◌∙◌, subst, arith}
+use Rattle.std.proofs.Common.{◌≡◌, ℕ, true, false, cond, List, [], ◌∷◌, length, Option, Some, None, refl, ◌∙◌, arith}
 use Rattle.std.specs.List.{AllByRecursion}
 use denote.RawPtr.{Ptr}
 use Rattle.lhm_ring.specs.declared.ring.Links.{Links}
@@ -11,29 +11,16 @@ use Rattle.lhm_ring.specs.Links.{HasContent, IsOwned}
 use Rattle.lhm_ring.specs.ContentLoan.{body_in, without_body, bodies_of, with_bodies, cleared}
 
 module _ {B : Type 0} where
-  body_in-without_body : (p : Ptr) (run : List (Ptr × Option B))
-      → body_in (without_body p run) p ≡ None
+  body_in-without_body : (p : Ptr) (run : List (Ptr × Option B)) → body_in (without_body p run) p ≡ None
   unfolding body_in without_body
   body_in-without_body p [] = refl
-  body_in-without_body p (c ∷ run) =
-      (elim (same_ptr c.0 p) as (λ y. same_ptr c.0 p ≡ y → body_in (cond y ((c.0, None) ∷ run) (c ∷ without_body p run)) p ≡ None) [
-        | true ↦ λ t. ap (λ z. cond z None (body_in run p)) t
-        | false ↦ λ n. ap (λ z. cond z c.1 (body_in (without_body p run) p)) n ∙ body_in-without_body p run
-      ]) refl
+  body_in-without_body p (c ∷ run) = grind (arith, body_in-without_body p run)
 
   body_in-without_body_other : (p q : Ptr) (run : List (Ptr × Option B)) → same_ptr p q ≡ false
       → body_in (without_body p run) q ≡ body_in run q
   unfolding body_in without_body
   body_in-without_body_other p q [] n = refl
-  body_in-without_body_other p q (c ∷ run) n =
-      (elim (same_ptr c.0 p) as (λ y. same_ptr c.0 p ≡ y
-      → body_in (cond y ((c.0, None) ∷ run) (c ∷ without_body p run)) q ≡ cond (same_ptr c.0 q) c.1
-      (body_in run q)) [
-        | true ↦ λ t. let far = ap (λ r. same_ptr r q) (same_ptr-equal c.0 p t) ∙ n in
-            ap (λ z. cond z None (body_in run q)) far
-            ∙ sym (ap (λ z. cond z c.1 (body_in run q)) far)
-        | false ↦ λ _. ap (λ r. cond (same_ptr c.0 q) c.1 r) (body_in-without_body_other p q run n)
-      ]) refl
+  body_in-without_body_other p q (c ∷ run) n = grind (arith, same_ptr-equal, body_in-without_body_other p q run n)
 
 module _ {L B : Type 0} where
   pub links_at-with_bodies : (cs : List (Cell L B)) (run : List (Ptr × Option B)) (q : Ptr)
@@ -63,9 +50,8 @@ module _ {L B : Type 0} where
   with_bodies-far p run [] f = refl
   with_bodies-far p run (c ∷ cs) f = λ i. cell c.at c.links (body_in-without_body_other p c.at run f.0 i) ∷ with_bodies-far p run cs f.1 i
 
-  pub with_bodies-without_body : (p : Ptr) (run : List (Ptr × Option B)) (cs : List (Cell L B))
-      → IsApart (pointers cs) → with_bodies cs (without_body p run) ≡ with_body p None
-      (with_bodies cs run)
+  pub with_bodies-without_body : (p : Ptr) (run : List (Ptr × Option B)) (cs : List (Cell L B)) → IsApart (pointers cs)
+      → with_bodies cs (without_body p run) ≡ with_body p None (with_bodies cs run)
   unfolding change
   with_bodies-without_body p run [] d = refl
   with_bodies-without_body p run (c ∷ cs) d =
@@ -73,11 +59,7 @@ module _ {L B : Type 0} where
       → with_bodies (c ∷ cs) (without_body p run) ≡ cond y
       (cell c.at c.links None ∷ with_bodies cs run)
       (cell c.at c.links (body_in run c.at) ∷ with_body p None (with_bodies cs run))) [
-        | true ↦ λ t.
-            let here = ap (body_in (without_body p run)) (same_ptr-equal c.at p t)
-            ∙ body_in-without_body p run in let far = subst (λ q. IsFresh q (pointers cs))
-            (same_ptr-equal c.at p t) (IsFresh-head c.at (pointers cs) d) in
-            λ i. cell c.at c.links (here i) ∷ with_bodies-far p run cs far i
+        | true ↦ grind (arith, same_ptr-equal, body_in-without_body, IsFresh-head, with_bodies-far)
         | false ↦ λ n. λ i. cell c.at c.links (body_in-without_body_other p c.at run
             (same_ptr-symmetric p c.at ∙ n) i) ∷ with_bodies-without_body p run cs
             (IsApart-tail c.at (pointers cs) d) i

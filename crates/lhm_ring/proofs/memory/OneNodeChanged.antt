@@ -1,5 +1,5 @@
 -- A change of one node alone: what is read of the others stays.
-use Rattle.std.proofs.Common.{◌≡◌, true, false, List, [], ◌∷◌, ◌++◌, length, Option, Some, refl, sym, ap, ◌∙◌, subst}
+use Rattle.std.proofs.Common.{◌≡◌, true, false, List, [], ◌∷◌, ◌++◌, length, Option, Some, refl, sym, ap, ◌∙◌, subst, arith}
 use Rattle.std.specs.List.{AllByRecursion}
 use denote.RawPtr.{Ptr}
 use Rattle.lhm_ring.specs.declared.ring.Links.{Links}
@@ -8,8 +8,7 @@ use Rattle.lhm_ring.proofs.lists.ForAll.{AllByRecursion-map}
 use Rattle.lhm_ring.proofs.rings.SameNodes.{SameLink, IsSpareList-same}
 use Rattle.lhm_ring.proofs.rings.Writes.{cell_at-change, cell_at-change_other, length-change, reader-with_links_same, links_of-seen}
 use Rattle.lhm_ring.specs.Nodes.{Cell, cell, same_ptr, cell_at, links_of, body_of, links_at, body_at, with_links, with_body}
-use Rattle.lhm_ring.specs.Links.{next_of, prev_of, link_of, has_links, is_there, content_of}
-use Rattle.lhm_ring.specs.Links.{content_at, AreLinked, IsSpareList, HasContent, listed, one_of}
+use Rattle.lhm_ring.specs.Links.{link_of, has_links, is_there, content_of, content_at, AreLinked, IsSpareList, HasContent, listed, one_of}
 use Rattle.lhm_ring.specs.Links.{IsThere}
 
 -- every node except the one at p is as it was
@@ -38,11 +37,7 @@ module _ {B : Type 0} where
     body_at-with_body = ap body_of (cell_at-change p put (λ c. refl) cs there_is.0 there_is.1)
 
     pub OnlyAt-with_body : OnlyAt cs (with_body p b cs) p
-    OnlyAt-with_body = record {
-      other = λ q n. cell_at-change_other p put (λ c. refl) q n cs;
-      there = λ q. ap has_links (links_at-with_body q);
-      count = length-change p put cs;
-    }
+    OnlyAt-with_body = grind (arith, cell_at-change_other, links_at-with_body, length-change)
 
   pub OnlyAt-with_links : (p : Ptr) (l : Links) (cs : List (Cell Links B)) (la : Links)
       → links_at cs p ≡ Some la → OnlyAt cs (with_links p l cs) p
@@ -53,26 +48,13 @@ module _ {B : Type 0} where
   }
 
   pub OnlyAt-both : (cs ds es : List (Cell Links B)) (p : Ptr) → OnlyAt cs ds p → OnlyAt ds es p → OnlyAt cs es p
-  OnlyAt-both cs ds es p a b =
-      record {
-        other = λ q n. b.other q n ∙ a.other q n;
-        there = λ q. b.there q ∙ a.there q;
-        count =
-            b.count ∙ a.count;
-      }
+  OnlyAt-both cs ds es p a b = grind arith
 
   module _ (cs ds : List (Cell Links B)) (p : Ptr) (other : (q : Ptr) → same_ptr p q ≡ false → cell_at ds q ≡ cell_at cs q) where
     pub AreLinked-other : (s : List Ptr) → IsFresh p s → AreLinked cs s → AreLinked ds s
     AreLinked-other [] f l = tt
     AreLinked-other (x ∷ []) f l = tt
-    AreLinked-other (x ∷ y ∷ r) f l = (
-      (
-        ap (λ z. next_of (links_of z)) (other x f.0) ∙ l.0.0,
-        ap (λ z. prev_of (links_of z))
-            (other y f.1.0) ∙ l.0.1,
-      ),
-      AreLinked-other (y ∷ r) f.1 l.1,
-    )
+    AreLinked-other (x ∷ y ∷ r) f l = grind (arith, AreLinked-other (y ∷ r) f.1 l.1)
 
     pub IsSpareList-other : (h : Option Ptr) (ss : List Ptr) → IsFresh p ss → IsSpareList cs h ss → IsSpareList ds h ss
     IsSpareList-other h ss f = IsSpareList-same cs ds h ss

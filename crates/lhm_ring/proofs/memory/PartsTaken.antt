@@ -1,7 +1,6 @@
 -- A part of each node is taken out of the nodes, and put back. Assumes `Logic`.
-use Rattle.lhm_ring.proofs.memory.Steps.{List, [], ◌∷◌, ◌∵◌, ‵, ◌⊛◌, ◌$◌, !, qed, move, drop, use0}
-use Rattle.lhm_ring.proofs.memory.Steps.{use1, use2, split, fsplit, fjoin, sem, RattleType, emp}
-use Rattle.lhm_ring.proofs.memory.Steps.{Fml, fsep, ent, Ura, Logic, done, map}
+use Rattle.lhm_ring.proofs.memory.Steps.{List, [], ◌∷◌, ◌∵◌, ‵, ◌⊛◌, ◌$◌, !, qed, move, drop, use0, use1, use2, split, fsplit, fjoin, sem}
+use Rattle.lhm_ring.proofs.memory.Steps.{RattleType, emp, Fml, fsep, ent, Ura, Logic, done, map}
 use Rattle.lhm_ring.proofs.memory.Sharing.{parts_own}
 use Rattle.lhm_ring.specs.Nodes.{Cell, cell_owns, cells_own}
 

@@ -1,8 +1,7 @@
 -- A place for a node is cut into its three fields, and made of them again. Assumes `Logic`.
-use Rattle.lhm_ring.proofs.memory.Steps.{ℕ, ◌+◌, [], ◌∷◌, SProp, ftrue, ◌∵◌, ‵, raw, ◌⊛◌, ◌$◌, ! }
-use Rattle.lhm_ring.proofs.memory.Steps.{qed, by, move, keep, use1, use2, split, fsplit3, layout}
-use Rattle.lhm_ring.proofs.memory.Steps.{Ptr, block_ptr, room_for, froom, sem, Fml, fjoin3, nothing}
-use Rattle.lhm_ring.proofs.memory.Steps.{group, split3, ent, Ura, Logic, sep, done, Ty, as_raw}
+use Rattle.lhm_ring.proofs.memory.Steps.{ℕ, ◌+◌, [], ◌∷◌, SProp, ftrue, ◌∵◌, ‵, raw, ◌⊛◌, ◌$◌, !, qed, by, move, keep, use1, use2, split}
+use Rattle.lhm_ring.proofs.memory.Steps.{fsplit3, layout, Ptr, block_ptr, room_for, froom, sem, Fml, fjoin3, nothing, group, split3, ent}
+use Rattle.lhm_ring.proofs.memory.Steps.{Ura, Logic, sep, done, Ty, as_raw}
 use mir.Syntax.{Tys, Sym, ty_struct, tcons, tnil}
 use base.Logic.{wand, apply∗}
 use base.Fml.{fwand}

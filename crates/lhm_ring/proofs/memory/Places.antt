@@ -1,7 +1,6 @@
 -- Where the places of chunks lie.
-use Rattle.std.proofs.Common.{◌≡◌, ℕ, zero, suc, ◌+◌, ◌-◌, ◌*◌, ◌<◌, ◌^◌, List, [], ◌∷◌, ◌++◌}
-use Rattle.std.proofs.Common.{length, length-append, true, refl, sym, ap, ◌∙◌, subst, arith}
-use Rattle.std.proofs.Common.{lt→ltb}
+use Rattle.std.proofs.Common.{◌≡◌, ℕ, zero, suc, ◌+◌, ◌-◌, ◌*◌, ◌<◌, ◌^◌, List, [], ◌∷◌, ◌++◌, length, length-append, true, refl, sym, ap}
+use Rattle.std.proofs.Common.{◌∙◌, subst, arith, lt→ltb}
 use Rattle.std.proofs.lemmas.List.{append-nil, append_assoc}
 use Rattle.std.specs.Prelude.{nat_lt}
 use Rattle.std.proofs.Flags.{T_true}
@@ -57,8 +56,7 @@ nat_lt-near o h = T_true (nat_lt o (2 ^ 63)) (lt→ltb o (2 ^ 63) h)
 pub AreBlocks-row : (b o s n : ℕ) → o + n * s < 2 ^ 63 → AreBlocks (row (block_ptr b o) s n)
 unfolding row
 AreBlocks-row b o s zero h = tt
-AreBlocks-row b o s (suc n) h =
-    (nat_lt-near o (omega (arith, suc-times n s)), AreBlocks-row b (o + s) s n (omega (arith, suc-times n s)))
+AreBlocks-row b o s (suc n) h = (nat_lt-near o (omega (arith, suc-times n s)), AreBlocks-row b (o + s) s n (omega (arith, suc-times n s)))
 
 is_block-first : (p : Ptr) (s n : ℕ) → AreBlocks (row p s (suc n)) → is_block p ≡ true
 unfolding row
@@ -90,8 +88,7 @@ row-more p s n us ps cs h = append_assoc (row p s n) us ps ∙ ap (λ qs. row p 
 pub length-places : (s : ℕ) (cs : List (Ptr × ℕ)) → length (places s cs) ≡ place_count cs
 unfolding places place_count
 length-places s [] = refl
-length-places s (c ∷ cs) = let a = length-append (places s cs) (row c.0 s c.1) in
-    let b = length-places s cs in let d = length-row c.0 s c.1 in omega arith
+length-places s (c ∷ cs) = grind (arith, length-append, length-row, length-places s cs)
 
 pub place_count-last : (cs : List (Ptr × ℕ)) (c : Ptr × ℕ) → place_count (cs ++ c ∷ []) ≡ place_count cs + c.1
 unfolding place_count
@@ -105,14 +102,9 @@ block_ptr-in_block null_ptr e = cc
 -- a ring's chunks stay if its nodes keep theirs
 pub IsLaid-same : {us vs : List Ptr} {cs ds recorded : List (Ptr × ℕ)} {made : ℕ}
     → IsLaid us cs recorded made → vs ≡ us → ds ≡ cs → IsLaid vs ds recorded made
-IsLaid-same l e f = record {
-  none_unused = e ∙ l.none_unused;
-  all_recorded = f ∙ l.all_recorded;
-  all_made = l.all_made ∙ ap place_count (sym f);
-}
+IsLaid-same l e f = grind arith
 
-pub IsLaid-none : {us : List Ptr} {cs recorded : List (Ptr × ℕ)} → us ≡ [] → cs ≡ []
-    → recorded ≡ [] → IsLaid us cs recorded 0
+pub IsLaid-none : {us : List Ptr} {cs recorded : List (Ptr × ℕ)} → us ≡ [] → cs ≡ [] → recorded ≡ [] → IsLaid us cs recorded 0
 unfolding place_count
 IsLaid-none e f k = record { none_unused = e; all_recorded = f ∙ sym k; all_made = sym (ap place_count f) }
 
@@ -125,11 +117,6 @@ pub length-made : {L B : Type 0} (ns : List (Cell L B)) (us : List Ptr) (s : ℕ
 length-made ns us s cs h e = sym (length-map ns (λ n. n.at)) ∙ ap length (ap (λ qs. qs ++ pointers ns) (sym e) ∙ h) ∙ length-places s cs
 
 -- a chunk more
-pub IsLaid-grown : {us vs : List Ptr} {cs ds ks js : List (Ptr × ℕ)} {made : ℕ}
-    (c : Ptr × ℕ) → IsLaid us cs ks made → vs ≡ [] → ds ≡ cs ++ c ∷ []
-    → js ≡ ks ++ c ∷ [] → IsLaid vs ds js (made + c.1)
-IsLaid-grown {cs = cs} {made = made} c l e f k = record {
-  none_unused = e;
-  all_recorded = f ∙ ap (λ zs. zs ++ c ∷ []) l.all_recorded ∙ sym k;
-  all_made = ap (λ (n : ℕ). n + c.1) l.all_made ∙ sym (place_count-last cs c) ∙ sym (ap place_count f);
-}
+pub IsLaid-grown : {us vs : List Ptr} {cs ds ks js : List (Ptr × ℕ)} {made : ℕ} (c : Ptr × ℕ) → IsLaid us cs ks made → vs ≡ []
+    → ds ≡ cs ++ c ∷ [] → js ≡ ks ++ c ∷ [] → IsLaid vs ds js (made + c.1)
+IsLaid-grown c l e f k = grind (arith, place_count-last)

@@ -1,11 +1,8 @@
 -- A `&` to the nodes is made if one to their links, keys and values is. Assumes `Logic`.
-use Rattle.lhm_ring.proofs.memory.Steps.{List, [], ◌∷◌, ◌++◌, None, full_share, ‵, raw, ◌⊛◌, ◌$◌, ! }
-use Rattle.lhm_ring.proofs.memory.Steps.{qed, use1, use2, split, Ptr, lies_at, sem, RattleType}
-use Rattle.lhm_ring.proofs.memory.Steps.{Some, Fml, fsep, Option, Lft, Incl-trans, fbor, later}
-use Rattle.lhm_ring.proofs.memory.Steps.{await, ent, Ura, Logic, sep, done, Incl, meet_⊑_left, lfts}
-use Rattle.lhm_ring.proofs.memory.Steps.{updating, now, Laws, copy_shared, RawPtr, Shares-less}
-use Rattle.lhm_ring.proofs.memory.Steps.{field_copy, Lends, lent_at, Lends-lies, Lends-first}
-use Rattle.lhm_ring.proofs.memory.Steps.{Lends-both, Lends-nothing, of_Lends}
+use Rattle.lhm_ring.proofs.memory.Steps.{List, [], ◌∷◌, ◌++◌, None, full_share, ‵, raw, ◌⊛◌, ◌$◌, !, qed, use1, use2, split, Ptr, lies_at}
+use Rattle.lhm_ring.proofs.memory.Steps.{sem, RattleType, Some, Fml, fsep, Option, Lft, Incl-trans, fbor, later, await, ent, Ura, Logic}
+use Rattle.lhm_ring.proofs.memory.Steps.{sep, done, Incl, meet_⊑_left, lfts, updating, now, Laws, copy_shared, RawPtr, Shares-less}
+use Rattle.lhm_ring.proofs.memory.Steps.{field_copy, Lends, lent_at, Lends-lies, Lends-first, Lends-both, Lends-nothing, of_Lends}
 use contract.BorrowLft.{meet_⊑_right}
 use denote.RattleType.{RowLaws}
 use denote.Sharing.{ShrLaws}

@@ -82,10 +82,8 @@ spent_made 𝓛 (suc n) = qed 𝓛 [] ∵ use0 𝓛 (‵ (spent n)) (spent_made 
 module _ {M : Type 1} {𝓤 : Ura M} {𝓛 : Logic 𝓤} {K : Type 0} {Γ : List (Item 𝓤)} where
   open 𝓛 use {H}
 
-  pub runs_with : K → (C : Calls 𝓤 H) (Λ : Loops 𝓤 H) (f : Fn) (Post : Val → SProp 𝓤)
-      (us : List Val) {ws : List Val} → ws ≡ us
-      → Step K 𝓛 Γ (allocs f.locals (λ E. params' E us (runs C Λ E f.body (at_ret E Post)))) Γ
-      (prop (WpFn 𝓤 H C Λ f ws Post))
+  pub runs_with : K → (C : Calls 𝓤 H) (Λ : Loops 𝓤 H) (f : Fn) (Post : Val → SProp 𝓤) (us : List Val) {ws : List Val} → ws ≡ us
+      → Step K 𝓛 Γ (allocs f.locals (λ E. params' E us (runs C Λ E f.body (at_ret E Post)))) Γ (prop (WpFn 𝓤 H C Λ f ws Post))
   runs_with t C Λ f Post us e = step (λ s.
       subst (λ ws. Seq K 𝓛 Γ (prop (WpFn 𝓤 H C Λ f ws Post))) (sym e) (enter t C Λ f us Post $ s))
 

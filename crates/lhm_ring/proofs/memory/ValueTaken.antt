@@ -1,9 +1,7 @@
 -- One value is taken from those that are lent. Assumes `Logic`.
-use Rattle.lhm_ring.proofs.memory.Steps.{◌≡◌, ℕ, true, List, [], ◌∷◌, ◌++◌, refl, sym, ap, ◌∙◌}
-use Rattle.lhm_ring.proofs.memory.Steps.{full_share, ◌∵◌, ‵, raw, ◌⊛◌, ◌$◌, !, qed, by, move, keep}
-use Rattle.lhm_ring.proofs.memory.Steps.{use1, split, fsplit, fjoin, rewrite, Ptr, block_ptr}
-use Rattle.lhm_ring.proofs.memory.Steps.{lies_at, sem, RattleType, emp, Some, fsep, mem, ent, Ura}
-use Rattle.lhm_ring.proofs.memory.Steps.{Logic, sep, done, false, map, length, never_e}
+use Rattle.lhm_ring.proofs.memory.Steps.{◌≡◌, ℕ, true, List, [], ◌∷◌, ◌++◌, refl, sym, ap, ◌∙◌, full_share, ◌∵◌, ‵, raw, ◌⊛◌, ◌$◌, !, qed}
+use Rattle.lhm_ring.proofs.memory.Steps.{by, move, keep, use1, split, fsplit, fjoin, rewrite, Ptr, block_ptr, lies_at, sem, RattleType, emp}
+use Rattle.lhm_ring.proofs.memory.Steps.{Some, fsep, mem, ent, Ura, Logic, sep, done, false, map, length, never_e}
 use Rattle.std.proofs.Common.{cond}
 use base.Fml.{ffalse}
 use lib.ListN.{take, drop as drop_l}
@@ -19,8 +17,7 @@ module _ {V : Type 0} where
     pub split : SplitAround cs (p, v)
     pub taken : without_value p cs ≡ split.before ++ split.after
 
-  pub CutValue-some : (cs : List (Ptr × V)) (p : Ptr) (v : V) → value_at cs p ≡ Some v
-      → CutValue cs p v
+  pub CutValue-some : (cs : List (Ptr × V)) (p : Ptr) (v : V) → value_at cs p ≡ Some v → CutValue cs p v
   unfolding value_at without_value
   CutValue-some [] p v e = absurd (none_some v e)
   CutValue-some (c ∷ cs) p v e =

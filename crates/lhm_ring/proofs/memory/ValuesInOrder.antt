@@ -1,12 +1,11 @@
 -- The values that a ring lends, in the order of the ring.
-use Rattle.std.proofs.Common.{◌≡◌, Bool, true, false, true≢false, cond, List, [], ◌∷◌, ◌++◌, map, Some, refl, sym, ap, ◌∙◌, subst}
+use Rattle.std.proofs.Common.{◌≡◌, Bool, true, false, true≢false, cond, List, [], ◌∷◌, ◌++◌, map, Some, refl, sym, ap, ◌∙◌, subst, arith}
 use Rattle.std.specs.List.{AllByRecursion}
 use denote.RawPtr.{Ptr}
 use Rattle.lhm_ring.proofs.lists.Apart.{IsFresh, same_ptr-equal, same_ptr-reflexive, same_ptr-symmetric, IsFresh-head, IsApart-tail}
 use Rattle.lhm_ring.proofs.rings.HeldPointers.{pointers_of}
 use Rattle.lhm_ring.proofs.lists.Options.{Some-injective}
-use Rattle.lhm_ring.proofs.memory.ValuesReplaced.{Entries, Triples, at_entries, among, lent}
-use Rattle.lhm_ring.proofs.memory.ValuesReplaced.{lent_then-cases, run_of, taken, value_in}
+use Rattle.lhm_ring.proofs.memory.ValuesReplaced.{Entries, Triples, at_entries, among, lent, lent_then-cases, run_of, taken, value_in}
 use Rattle.lhm_ring.proofs.memory.ValuesReplaced.{revalued_by}
 use Rattle.lhm_ring.specs.Nodes.{Cell, same_ptr, IsApart}
 use Rattle.lhm_ring.specs.ValueLoan.{value_at}
@@ -37,9 +36,8 @@ module _ {K V : Type 0} where
   IsHeld-unvalued us ts p e h = let k = SplitAt-unvalued us h.before h.node h.after (e ∙ ap (map unvalued) h.is) in
       record { before = k.before; node = k.node; after = k.after; is = k.is; at_is = ap (λ z. z.at) k.at_is ∙ h.at_is }
 
-  pub AtHeld-unvalued : (us ts : Triples K V) (p : Ptr) → map unvalued us ≡ map unvalued ts
-      → (P : Held K → Type 0) → AtHeld us p (λ xs t ys. P (unvalued t))
-      → AtHeld ts p (λ xs t ys. P (unvalued t))
+  pub AtHeld-unvalued : (us ts : Triples K V) (p : Ptr) → map unvalued us ≡ map unvalued ts → (P : Held K → Type 0)
+      → AtHeld us p (λ xs t ys. P (unvalued t)) → AtHeld ts p (λ xs t ys. P (unvalued t))
   AtHeld-unvalued us ts p e P a xs t ys q at = let k = SplitAt-unvalued us xs t ys (e ∙ ap (map unvalued) q) in
       subst P k.at_is (a k.before k.node k.after k.is (ap (λ z. z.at) k.at_is ∙ at))
 
@@ -87,22 +85,13 @@ module _ {K V : Type 0} where
   value_in-own : (run : List (Ptr × V)) (hs : Triples K V) (p : Ptr) (v : V)
       → AllByRecursion (HasValue run) hs → value_at run p ≡ Some v → value_in hs p v ≡ v
   value_in-own run [] p v all e = refl
-  value_in-own run (t ∷ hs) p v all e =
-      (elim (same_ptr t.at p) as (λ y. same_ptr t.at p ≡ y → cond y t.pair.1 (value_in hs p v) ≡ v) [
-        | true ↦ λ s. Some-injective t.pair.1 v (sym all.0 ∙ ap (value_at run) (same_ptr-equal t.at p s) ∙ e)
-        | false ↦ λ s. value_in-own run hs p v all.1 e
-      ]) refl
+  value_in-own run (t ∷ hs) p v all e = grind (arith, Some-injective, same_ptr-equal, value_in-own run hs p v all.1 e)
 
-  AllByRecursion-lies_more : (d : Ptr × (K × V)) (es : Entries K V) (cs : Entries K V)
-      → IsFresh d.0 (at_entries cs) → AllByRecursion (HasEntry (run_of es)) cs
-      → AllByRecursion (HasEntry (run_of (d ∷ es))) cs
+  AllByRecursion-lies_more : (d : Ptr × (K × V)) (es : Entries K V) (cs : Entries K V) → IsFresh d.0 (at_entries cs)
+      → AllByRecursion (HasEntry (run_of es)) cs → AllByRecursion (HasEntry (run_of (d ∷ es))) cs
   unfolding value_at
   AllByRecursion-lies_more d es [] f all = tt
-  AllByRecursion-lies_more d es (c ∷ cs) f all = (
-    ap (λ y. cond y (Some d.1.1) (value_at (run_of es) c.0)) f.0
-        ∙ all.0,
-    AllByRecursion-lies_more d es cs f.1 all.1,
-  )
+  AllByRecursion-lies_more d es (c ∷ cs) f all = grind (arith, AllByRecursion-lies_more d es cs f.1 all.1)
 
   AllByRecursion-lies : (es : Entries K V) → IsApart (at_entries es) → AllByRecursion (HasEntry (run_of es)) es
   unfolding value_at
@@ -113,15 +102,13 @@ module _ {K V : Type 0} where
         (AllByRecursion-lies es (IsApart-tail c.0 (at_entries es) d)),
   )
 
-  AllByRecursion-own : (run : List (Ptr × V)) (hs : Triples K V) (es : Entries K V)
-      → AllByRecursion (HasValue run) hs → AllByRecursion (HasEntry run) es
-      → AllByRecursion (HasOwnValue hs) es
+  AllByRecursion-own : (run : List (Ptr × V)) (hs : Triples K V) (es : Entries K V) → AllByRecursion (HasValue run) hs
+      → AllByRecursion (HasEntry run) es → AllByRecursion (HasOwnValue hs) es
   AllByRecursion-own run hs [] all lies = tt
   AllByRecursion-own run hs (c ∷ es) all lies = (value_in-own run hs c.0 c.1.1 all lies.0, AllByRecursion-own run hs es all lies.1)
 
   -- what is lent has its own values
-  pub AllByRecursion-own_values : (hs : Triples K V) (es : Entries K V)
-      → AllByRecursion (HasValue (run_of es)) hs → IsApart (at_entries es)
+  pub AllByRecursion-own_values : (hs : Triples K V) (es : Entries K V) → AllByRecursion (HasValue (run_of es)) hs → IsApart (at_entries es)
       → AllByRecursion (HasOwnValue hs) es
   AllByRecursion-own_values hs es all apart = AllByRecursion-own (run_of es) hs es all (AllByRecursion-lies es apart)
 
@@ -142,8 +129,7 @@ module _ {K V : Type 0} where
       ]) refl
 
   pub taken-by : (ks hs : Triples K V) (es : Entries K V) → AllByRecursion (HasOwnValue hs) es
-      → AllByRecursion (λ c. among (pointers_of hs) c.0 ≡ true) es → taken (revalued_by ks hs) es
-      ≡ taken ks es
+      → AllByRecursion (λ c. among (pointers_of hs) c.0 ≡ true) es → taken (revalued_by ks hs) es ≡ taken ks es
   taken-by ks hs [] own in_ring = refl
   taken-by ks hs (c ∷ es) own in_ring =
       let one = value_in-revalued_by ks hs c.0 c.1.1 in_ring.0 ∙ ap (value_in ks c.0) own.0 in
@@ -152,5 +138,4 @@ module _ {K V : Type 0} where
 pub AllByRecursion-kept : {L K V : Type 0} (keep : Ptr → Bool) (cs : List (Cell L (K × V)))
     → AllByRecursion (λ c. keep c.0 ≡ true) (lent keep cs)
 AllByRecursion-kept keep [] = tt
-AllByRecursion-kept keep (c ∷ cs) = let on = AllByRecursion-kept keep cs in
-    lent_then-cases (AllByRecursion (λ c. keep c.0 ≡ true)) (keep c.at) c.at c.body (lent keep cs) on (λ x e. (e, on))
+AllByRecursion-kept keep (c ∷ cs) = grind (arith, lent_then-cases, AllByRecursion-kept keep cs)

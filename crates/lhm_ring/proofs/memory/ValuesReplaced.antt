@@ -14,10 +14,9 @@ use Rattle.lhm_ring.proofs.lists.ForAll.{AllByRecursion-map}
 use Rattle.lhm_ring.proofs.lists.Options.{none_some}
 use Rattle.lhm_ring.proofs.memory.BodiesChanged.{rebodied, pointers-rebodied, links_at-rebodied, body_at-rebodied, IsOwned-rebodied}
 use Rattle.lhm_ring.proofs.rings.SameNodes.{follow-same}
-use Rattle.lhm_ring.specs.Nodes.{Cell, cell, cell_at, same_ptr, IsApart, pointers, body_of, links_at, body_at}
+use Rattle.lhm_ring.specs.Nodes.{Cell, cell_at, same_ptr, IsApart, pointers, body_of, links_at, body_at}
 use Rattle.lhm_ring.specs.ValueLoan.{value_at, AreLent}
-use Rattle.lhm_ring.specs.Links.{ends_links, ring_cells, one_of, next_of, link_of, content_of}
-use Rattle.lhm_ring.specs.Links.{content_at, HasContent, follow, listed, ring_list, ring_pointers}
+use Rattle.lhm_ring.specs.Links.{ring_cells, one_of, link_of, content_of, content_at, HasContent, follow, listed, ring_list, ring_pointers}
 use Rattle.lhm_ring.specs.Links.{IsOwned}
 use Rattle.lhm_ring.specs.Ring.{Held, held, pair, revalued}
 
@@ -31,10 +30,7 @@ among-more q p ps h = elim (same_ptr p q) as (λ y. cond y true (among ps p) ≡
 
 pub AllByRecursion-among : (ps : List Ptr) → AllByRecursion (λ p. among ps p ≡ true) ps
 AllByRecursion-among [] = tt
-AllByRecursion-among (q ∷ ps) = (
-  ap (λ y. cond y true (among ps q)) (same_ptr-reflexive q),
-  AllByRecursion-map (λ p. among ps p ≡ true) (λ p. among (q ∷ ps) p ≡ true) (λ p. among-more q p ps) ps (AllByRecursion-among ps),
-)
+AllByRecursion-among (q ∷ ps) = grind (arith, same_ptr-reflexive, AllByRecursion-map, among-more, AllByRecursion-among ps)
 
 -- keys and values, each with the pointer of its node; and triples that a ring holds
 abbrev pub Entries : Type 0 → Type 0 → Type 0
@@ -73,13 +69,10 @@ module _ {K V : Type 0} where
 
   pub lent_then-cases : (P : Entries K V → Type 0) (k : Bool) (p : Ptr) (b : Option (K × V)) (r : Entries K V) → P r
       → ((x : K × V) → k ≡ true → P ((p, x) ∷ r)) → P (lent_then k p b r)
-  lent_then-cases P false p b r h f = h
-  lent_then-cases P true p None r h f = h
-  lent_then-cases P true p (Some x) r h f = f x refl
+  lent_then-cases P k p b r h f = grind arith
 
   written_body-none : (k : Bool) (hs : Triples K V) (q : Ptr) → None ≡ written_body k hs q None
-  written_body-none false hs q = refl
-  written_body-none true hs q = refl
+  written_body-none k hs q = grind arith
 
 module _ {L K V : Type 0} (keep : Ptr → Bool) where
   -- what the nodes hold whose pointers pass the test, each with its pointer
@@ -96,8 +89,7 @@ module _ {L K V : Type 0} (keep : Ptr → Bool) where
 
   IsFresh-lent : (q : Ptr) (cs : List (Cell L (K × V))) → IsFresh q (pointers cs) → IsFresh q (at_entries (lent cs))
   IsFresh-lent q [] f = tt
-  IsFresh-lent q (c ∷ cs) f = let on = IsFresh-lent q cs f.1 in
-      lent_then-cases (λ r. IsFresh q (at_entries r)) (keep c.at) c.at c.body (lent cs) on (λ x _. (f.0, on))
+  IsFresh-lent q (c ∷ cs) f = grind (arith, lent_then-cases, IsFresh-lent q cs f.1)
 
   pub IsApart-lent : (cs : List (Cell L (K × V))) → IsApart (pointers cs) → IsApart (at_entries (lent cs))
   IsApart-lent [] d = IsApart-none
@@ -140,14 +132,11 @@ module _ {K V : Type 0} where
 
   one_of-written : (hs : Triples K V) (p : Ptr) (o : Option Links) (b : Option (K × V)) (r s : Triples K V) → r ≡ revalued_by hs s
       → one_of (content_of p o (written_body true hs p b)) ++ r ≡ revalued_by hs (one_of (content_of p o b) ++ s)
-  one_of-written hs p None b r s e = e
-  one_of-written hs p (Some l) None r s e = e
-  one_of-written hs p (Some l) (Some x) r s e = ap (λ us. held p l.hash (link_of (Some l)) (pair x.0 (value_in hs p x.1)) ∷ us) e
+  one_of-written hs p o b r s e = grind arith
 
   content_of-body : (p : Ptr) (o : Option Links) (b c : Option (K × V))
       → ((l : Links) → o ≡ Some l → b ≡ c) → content_of p o b ≡ content_of p o c
-  content_of-body p None b c h = refl
-  content_of-body p (Some l) b c h = ap (content_of p (Some l)) (h l refl)
+  content_of-body p o b c h = grind arith
 
   module _ (keep : Ptr → Bool) where
     module _ (hs : Triples K V) (cs : List (Cell Links (K × V))) where
@@ -166,16 +155,12 @@ module _ {K V : Type 0} where
           )
 
       content_at-written : (p : Ptr) → content_at ds p ≡ content_of p (links_at cs p) (body p (body_at cs p))
-      content_at-written p = ap (λ o. content_of p o (body_at ds p)) (links_at-rebodied body cs p)
-          ∙ content_of-body p (links_at cs p) (body_at ds p) (body p (body_at cs p)) (body_at-rebodied body cs p)
+      content_at-written p = grind (arith, links_at-rebodied, content_of-body, body_at-rebodied)
 
       listed-written : (ps : List Ptr) → AllByRecursion (λ p. keep p ≡ true) ps → listed ds ps ≡ revalued_by hs (listed cs ps)
       unfolding listed
       listed-written [] a = refl
-      listed-written (p ∷ ps) a =
-          ap (λ o. one_of o ++ listed ds ps) (content_at-written p
-          ∙ ap (λ k. content_of p (links_at cs p) (written_body k hs p (body_at cs p))) a.0)
-          ∙ one_of-written hs p (links_at cs p) (body_at cs p) (listed ds ps) (listed cs ps) (listed-written ps a.1)
+      listed-written (p ∷ ps) a = grind (arith, content_at-written, one_of-written, listed-written ps a.1)
 
       IsOwned-written : (spare : Link) (n m : ℕ) → IsOwned cs spare n m → IsOwned ds spare n m
       IsOwned-written spare n m ok = IsOwned-rebodied body cs spare n m ok
@@ -183,19 +168,15 @@ module _ {K V : Type 0} where
 
       ring_list-written : (n : ℕ) → AllByRecursion (λ p. keep p ≡ true) (ring_pointers cs n)
           → ring_list ds n ≡ revalued_by hs (ring_list cs n)
-      ring_list-written n a =
-          ap (listed ds) (follow-same cs ds (λ q. ap next_of (links_at-rebodied body cs q)) n
-          null_ptr) ∙ listed-written (follow cs n null_ptr) a
+      ring_list-written n a = grind (arith, follow-same, links_at-rebodied, listed-written)
 
     -- the node at null holds no value
     lent-ring_cells : (e : Ends) (cs : List (Cell Links (K × V))) → lent keep (ring_cells e cs) ≡ lent keep cs
-    lent-ring_cells e cs = elim (keep null_ptr) as (λ y. lent_then y null_ptr None (lent keep cs)
-        ≡ lent keep cs) [ true ↦ refl | false ↦ refl ]
+    lent-ring_cells e cs = grind arith
 
     written-ring_cells : (hs : Triples K V) (e : Ends) (cs : List (Cell Links (K × V)))
         → written keep hs (ring_cells e cs) ≡ ring_cells e (written keep hs cs)
-    written-ring_cells hs e cs = ap (λ o. cell null_ptr (ends_links e) o ∷ written keep hs cs)
-        (sym (written_body-none (keep null_ptr) hs null_ptr))
+    written-ring_cells hs e cs = grind (arith, written_body-none)
 
     value_at-lent : (cs : List (Cell Links (K × V))) (q : Ptr) (x : K × V) → keep q ≡ true → body_at cs q ≡ Some x
         → value_at (run_of (lent keep cs)) q ≡ Some x.1
@@ -205,11 +186,7 @@ module _ {K V : Type 0} where
         let r = lent keep cs in
         (elim (same_ptr c.at q) as (λ y. same_ptr c.at q ≡ y → body_of (cond y (Some c) (cell_at cs q)) ≡ Some x
         → value_at (run_of (lent keep (c ∷ cs))) q ≡ Some x.1) [
-          | true ↦ λ t z.
-              let kept = ap keep (same_ptr-equal c.at q t) ∙ k in
-              let on : value_at (run_of (lent keep (c ∷ cs))) q ≡ value_at (run_of ((c.at, x) ∷ r)) q =
-              λ i. value_at (run_of (lent_then (kept i) c.at (z i) r)) q in
-              on ∙ ap (λ y. cond y (Some x.1) (value_at (run_of r) q)) t
+          | true ↦ grind (arith, same_ptr-equal)
           | false ↦ λ n z.
               lent_then-cases (λ s. value_at (run_of s) q ≡ value_at (run_of r) q) (keep c.at) c.at c.body r refl
               (λ y _. ap (λ b. cond b (Some y.1) (value_at (run_of r) q)) n) ∙ value_at-lent cs q x k z
@@ -220,11 +197,7 @@ module _ {K V : Type 0} where
       IsLent t = value_at (run_of (lent keep cs)) t.at ≡ Some t.pair.1
 
       value_at-one_lent : (p : Ptr) (h : HasContent cs p) → keep p ≡ true → IsLent h.0
-      value_at-one_lent p h k =
-          let x = Holds-content cs p h.1 in
-          let same : h.0.pair ≡ x.0 = pair-content cs p h.1 x.1 in
-          ap (value_at (run_of (lent keep cs))) (at-content cs p h.1)
-          ∙ value_at-lent cs p x.0 k x.1 ∙ ap (λ (u : K × V). Some u.1) (sym same)
+      value_at-one_lent p h k = grind (arith, Holds-content, pair-content, at-content, value_at-lent)
 
       AllByRecursion-lent : (ps : List Ptr) → AllByRecursion (HasContent cs) ps → AllByRecursion (λ p. keep p ≡ true) ps
           → AllByRecursion IsLent (listed cs ps)

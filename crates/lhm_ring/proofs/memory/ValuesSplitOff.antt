@@ -7,17 +7,12 @@
 --     ring_cut, ring_glue      the same of a whole ring in memory
 --     back, ordered_back      the way back of a loan of a ring's values: the values in the order of
 --     the ring. A type that keeps a ring in a field shares both
-use Rattle.lhm_ring.proofs.memory.Steps.{◌≡◌, ℕ, true, List, [], ◌∷◌, refl, sym, ap, ◌∙◌, subst}
-use Rattle.lhm_ring.proofs.memory.Steps.{None, full_share, Val, SProp, ftrue, ◌∵◌, ‵, raw, ◌⊛◌, ◌$◌}
-use Rattle.lhm_ring.proofs.memory.Steps.{ !, qed, by, move, keep, drop, use1, use2, split, fsplit}
-use Rattle.lhm_ring.proofs.memory.Steps.{fsplit3, fjoin, rewrite, fact, Ptr, block_ptr, lies_at}
-use Rattle.lhm_ring.proofs.memory.Steps.{id⊢, sem, RattleType, via, emp, Some, part_at, Fml, fjoin3}
-use Rattle.lhm_ring.proofs.memory.Steps.{Option, vstruct, vnil, Lft, SemTy, mem, fseps, fpack}
-use Rattle.lhm_ring.proofs.memory.Steps.{given, learn, ent, Ura, Logic, sep, done, part_of, false}
-use Rattle.lhm_ring.proofs.memory.Steps.{Struct, map, length, fact_i, never_e, fst∗, fpick}
-use Rattle.lhm_ring.proofs.memory.Steps.{null_ptr, makes_shadow, Incl, Valss, Laws, Shares-less}
-use Rattle.lhm_ring.proofs.memory.Steps.{Lends, lent_at, Lends-lies, Lends-first, Lends-both}
-use Rattle.lhm_ring.proofs.memory.Steps.{Lends-nothing, within}
+use Rattle.lhm_ring.proofs.memory.Steps.{◌≡◌, ℕ, true, List, [], ◌∷◌, refl, sym, ap, ◌∙◌, subst, None, full_share, Val, SProp, ftrue, ◌∵◌}
+use Rattle.lhm_ring.proofs.memory.Steps.{‵, raw, ◌⊛◌, ◌$◌, !, qed, by, move, keep, drop, use1, use2, split, fsplit, fsplit3, fjoin, rewrite}
+use Rattle.lhm_ring.proofs.memory.Steps.{fact, Ptr, block_ptr, lies_at, id⊢, sem, RattleType, via, emp, Some, part_at, Fml, fjoin3, Option}
+use Rattle.lhm_ring.proofs.memory.Steps.{vstruct, vnil, Lft, SemTy, mem, fseps, fpack, given, learn, ent, Ura, Logic, sep, done, part_of}
+use Rattle.lhm_ring.proofs.memory.Steps.{false, Struct, map, length, fact_i, never_e, fst∗, fpick, null_ptr, makes_shadow, Incl, Valss}
+use Rattle.lhm_ring.proofs.memory.Steps.{Laws, Shares-less, Lends, lent_at, Lends-lies, Lends-first, Lends-both, Lends-nothing, within}
 use Rattle.std.proofs.Common.{Bool, suc}
 use base.Logic.{comm∗}
 use base.Stored.{coded_list}
@@ -45,22 +40,17 @@ use Rattle.lhm_ring.specs.contracts.ring.Ring.TheInside as I-type
 use Rattle.lhm_ring.specs.declared.ring.Ring.TheInside as D-type
 use Rattle.lhm_ring.proofs.memory.NodeFields.{marker}
 use Rattle.lhm_ring.proofs.rings.HeldPointers.{pointers_of, pointers-ring_list}
-use Rattle.lhm_ring.proofs.memory.ValuesReplaced.{Entries, Triples, at_entries, lent_then, lent}
-use Rattle.lhm_ring.proofs.memory.ValuesReplaced.{written_body, written, taken, listing, run_of}
-use Rattle.lhm_ring.proofs.memory.ValuesReplaced.{pointers-written, taken-listing, IsApart-lent}
-use Rattle.lhm_ring.proofs.memory.ValuesReplaced.{among, revalued_by, held_entries}
-use Rattle.lhm_ring.proofs.memory.ValuesReplaced.{IsOwned-held_written, ring_list-held_written}
-use Rattle.lhm_ring.proofs.memory.ValuesReplaced.{AreLent-held_entries}
-use Rattle.lhm_ring.proofs.memory.ValuesInOrder.{HasOwnValue, AllByRecursion-own_values, taken-own}
-use Rattle.lhm_ring.proofs.memory.ValuesInOrder.{taken-by, AllByRecursion-kept, set_held_values-own}
-use Rattle.lhm_ring.proofs.memory.ValuesInOrder.{set_held_values-by, revalued_by-set_held_values, held_values}
+use Rattle.lhm_ring.proofs.memory.ValuesReplaced.{Entries, Triples, at_entries, lent_then, lent, written_body, written, taken, listing}
+use Rattle.lhm_ring.proofs.memory.ValuesReplaced.{run_of, pointers-written, taken-listing, IsApart-lent, among, revalued_by, held_entries}
+use Rattle.lhm_ring.proofs.memory.ValuesReplaced.{IsOwned-held_written, ring_list-held_written, AreLent-held_entries}
+use Rattle.lhm_ring.proofs.memory.ValuesInOrder.{HasOwnValue, AllByRecursion-own_values, taken-own, taken-by, AllByRecursion-kept}
+use Rattle.lhm_ring.proofs.memory.ValuesInOrder.{set_held_values-own, set_held_values-by, revalued_by-set_held_values, held_values}
 use Rattle.lhm_ring.proofs.memory.Sharing.{parts_own, Lends-less, Lends-parts, Thin, Law-thin}
 use Rattle.lhm_ring.proofs.memory.PartsTaken.{Entails, ◌∗◌, parts_cut, parts_glue}
 use Rattle.lhm_ring.proofs.memory.NodeTaken.{with_cells}
 use Rattle.lhm_ring.specs.declared.nodes.Nodes.{Nodes}
-use Rattle.lhm_ring.specs.Nodes.{Cell, cell, IsApart, links_address, key_address, value_address}
-use Rattle.lhm_ring.specs.Nodes.{body_owns, deed_owns, land_owns, cell_owns, cells_own, cell_lent}
-use Rattle.lhm_ring.specs.Nodes.{cells_lent}
+use Rattle.lhm_ring.specs.Nodes.{Cell, cell, IsApart, links_address, key_address, value_address, body_owns, deed_owns, land_owns, cell_owns}
+use Rattle.lhm_ring.specs.Nodes.{cells_own, cell_lent, cells_lent}
 use Rattle.lhm_ring.specs.ValueLoan.{Spread, spread, AreLent}
 use Rattle.lhm_ring.specs.Ring.{State, state, set_held_values}
 use Rattle.lhm_ring.specs.Links.{ring_cells, ring_pointers}
@@ -146,8 +136,7 @@ module _ (R S W : RattleType) where
 
     -- what is lent of a frame shows what a node of holes does
     frame_seen : (κ : Lft) (p : Ptr) (l : R.Denot) (b : Body)
-        → Entails 𝓛 (lent_at R (links_address R S W p) l κ ∗ key_lent p b κ)
-        (cell_lent R S Hr (cell p l b) κ)
+        → Entails 𝓛 (lent_at R (links_address R S W p) l κ ∗ key_lent p b κ) (cell_lent R S Hr (cell p l b) κ)
     frame_seen κ p l None = id⊢ 𝓤 _
     frame_seen κ null_ptr l (Some x) = qed 𝓛 (‵ (lent_at R (links_address R S W null_ptr) l κ) ∷ ‵
         (key_lent null_ptr (Some x) κ) ∷ []) ∵ fsplit ! $ keep ! (0 ∷ []) $ by ! (never_e 𝓤 _)

@@ -1,6 +1,6 @@
 -- A ring of which only what is held at one pointer changes.
-use Rattle.std.proofs.Common.{◌≡◌, ℕ, true, false, cond, List, [], ◌∷◌, ◌++◌, length, Option, Some, None, refl, sym, ap, ◌∙◌, subst}
-use denote.RawPtr.{Ptr, null_ptr}
+use Rattle.std.proofs.Common.{◌≡◌, ℕ, true, false, cond, List, [], ◌∷◌, ◌++◌, length, Option, Some, refl, sym, ap, ◌∙◌, subst, arith}
+use denote.RawPtr.{Ptr}
 use Rattle.lhm_ring.specs.declared.ring.Links.{Links}
 use Rattle.lhm_ring.specs.declared.pointer.Link.{Link}
 use Rattle.lhm_ring.proofs.lists.Apart.{IsFresh, same_ptr-equal, same_ptr-reflexive, same_ptr-symmetric, IsFresh-head, IsApart-tail}
@@ -12,13 +12,11 @@ use Rattle.lhm_ring.proofs.rings.Moves.{IsFresh-spares}
 use Rattle.lhm_ring.proofs.rings.ReadAtPosition.{content_at-held, links_at-held, pair-held}
 use Rattle.lhm_ring.proofs.rings.RingNodes.{NodeAt-held}
 use Rattle.lhm_ring.proofs.rings.SameNodes.{SameLink, follow-same, IsOwned-same}
-use Rattle.lhm_ring.proofs.rings.Writes.{cell_at-change_other, length-change}
-use Rattle.lhm_ring.proofs.rings.Writes.{reader-with_links_same, links_at-with_links}
+use Rattle.lhm_ring.proofs.rings.Writes.{cell_at-change_other, length-change, reader-with_links_same, links_at-with_links}
 use Rattle.lhm_ring.proofs.rings.Writes.{body_at-with_links}
 use Rattle.lhm_ring.specs.Nodes.{Cell, cell, same_ptr, links_of, body_of, links_at, body_at, IsApart, with_links, with_body}
-use Rattle.lhm_ring.specs.Links.{chaining_to, next_of, prev_of, link_of, has_links, next_at}
-use Rattle.lhm_ring.specs.Links.{prev_at, link_at, is_there, content_of, content_at, HasContent}
-use Rattle.lhm_ring.specs.Links.{follow, listed, one_of, ring_list, IsOwned}
+use Rattle.lhm_ring.specs.Links.{chaining_to, next_of, prev_of, link_of, has_links, next_at, prev_at, link_at, is_there, content_of}
+use Rattle.lhm_ring.specs.Links.{content_at, HasContent, listed, one_of, ring_list, IsOwned}
 use Rattle.lhm_ring.specs.Ring.{State, state, Held, held, IsHeld, ChangesOnly, change_at, pair, revalued, rekeyed}
 use Rattle.lhm_ring.specs.Pointer.{target}
 
@@ -57,8 +55,7 @@ module _ {B : Type 0} {cs ds : List (Cell Links B)} {p : Ptr} {t u : Held B} (j 
 
     change_at-other : (q : Ptr) (o : Option (Held B)) → same_ptr p q ≡ false
         → ((z : Held B) → o ≡ Some z → z.at ≡ q) → change_at p f (one_of o) ≡ one_of o
-    change_at-other q None n h = refl
-    change_at-other q (Some z) n h = ap (λ y. cond y (f z) z ∷ []) (ap (λ r. same_ptr r p) (h z refl) ∙ same_ptr-symmetric q p ∙ n)
+    change_at-other q o n h = grind (arith, same_ptr-symmetric)
 
     one_of-changed : (q : Ptr) → one_of (content_at ds q) ≡ change_at p f (one_of (content_at cs q))
     one_of-changed q = (elim (same_ptr p q) as (λ y. same_ptr p q ≡ y → one_of (content_at ds q)
@@ -78,12 +75,9 @@ module _ {B : Type 0} {cs ds : List (Cell Links B)} {p : Ptr} {t u : Held B} (j 
     listed-changed (q ∷ qs) = (λ i. one_of-changed q i ++ listed-changed qs i)
         ∙ sym (change_at-append (one_of (content_at cs q)) (listed cs qs))
 
-    pub ring_list-changed : {spare : Link} {n m : ℕ} {v : State B} {total : ℕ}
-        → IsOwned cs spare n m → state (ring_list cs n) m total ≡ v
+    pub ring_list-changed : {spare : Link} {n m : ℕ} {v : State B} {total : ℕ} → IsOwned cs spare n m → state (ring_list cs n) m total ≡ v
         → ring_list ds n ≡ change_at p f v.held
-    ring_list-changed {n = n} ok w =
-        ap (listed ds) (follow-same cs ds j.next n null_ptr) ∙ listed-changed (follow cs n null_ptr)
-        ∙ ap (λ (z : State B). change_at p f z.held) w
+    ring_list-changed ok w = grind (arith, follow-same, listed-changed)
 
 -- the body of a node is written, or its chain link
 module _ {B : Type 0} (cs : List (Cell Links B)) (p : Ptr) {l : Links} (e : links_at cs p ≡ Some l)
@@ -137,12 +131,9 @@ module _ {B : Type 0} where
   change_at-fresh p f [] d = refl
   change_at-fresh p f (y ∷ ys) d = λ i. cond ((same_ptr-symmetric y.at p ∙ d.0) i) (f y) y ∷ change_at-fresh p f ys d.1 i
 
-  change_at-split : (p : Ptr) (f : Held B → Held B) (xs : List (Held B)) (t : Held B)
-      (ys : List (Held B)) → t.at ≡ p → IsApart (pointers_of (xs ++ t ∷ ys))
-      → change_at p f (xs ++ t ∷ ys) ≡ xs ++ f t ∷ ys
-  change_at-split p f [] t ys at d =
-      let free = subst (λ q. IsFresh q (pointers_of ys)) at (IsFresh-head t.at (pointers_of ys) d) in
-      λ i. cond ((ap (λ q. same_ptr q p) at ∙ same_ptr-reflexive p) i) (f t) t ∷ change_at-fresh p f ys free i
+  change_at-split : (p : Ptr) (f : Held B → Held B) (xs : List (Held B)) (t : Held B) (ys : List (Held B)) → t.at ≡ p
+      → IsApart (pointers_of (xs ++ t ∷ ys)) → change_at p f (xs ++ t ∷ ys) ≡ xs ++ f t ∷ ys
+  change_at-split p f [] t ys at d = grind (arith, IsFresh-head, same_ptr-reflexive, change_at-fresh)
   change_at-split p f (x ∷ xs) t ys at d =
       let far = IsFresh-head x.at (pointers_of (xs ++ t ∷ ys)) d in
       λ i. cond ((ap (same_ptr x.at) (sym at) ∙ same_ptr-fresh x.at xs t ys far) i)
@@ -165,8 +156,7 @@ module _ {B : Type 0} {cs : List (Cell Links B)} {spare : Link} {n m : ℕ} {v :
   IsOwned-written : IsOwned ds spare n m
   IsOwned-written = IsOwned-changed changes ok w h
 
-  ring_list-written : (f : Held B → Held B) → f h.node ≡ held h.node.at h.node.hash h.node.link x
-      → ring_list ds n ≡ change_at p f v.held
+  ring_list-written : (f : Held B → Held B) → f h.node ≡ held h.node.at h.node.hash h.node.link x → ring_list ds n ≡ change_at p f v.held
   ring_list-written f same = ring_list-changed changes f same ok w
 
 -- a value or a key is written

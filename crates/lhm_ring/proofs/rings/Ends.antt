@@ -4,7 +4,7 @@ use Rattle.std.proofs.Common.{refl, sym, ap, ◌∙◌, arith, append-nil, lengt
 use Rattle.std.specs.List.{AllZip}
 use Rattle.std.proofs.lemmas.List.{map-append}
 use denote.RawPtr.{Ptr}
-use Rattle.lhm_ring.proofs.lists.Options.{none_some, Some-injective}
+use Rattle.lhm_ring.proofs.lists.Options.{Some-injective}
 use Rattle.lhm_ring.specs.Ring.{SplitLast, Held, IsHeld, first_at, last_at, last_of, triples}
 use Rattle.lhm_ring.proofs.lists.Splits.{SplitFirst}
 
@@ -26,14 +26,10 @@ module _ {B : Type 0} where
       record { before = t ∷ r.before; node = r.node; is = ap (λ l. t ∷ l) r.is; at_is = r.at_is }
 
   pub Last-last_at : (hs : List (Held B)) {o : Option Ptr} {p : Ptr} → o ≡ last_at hs → o ≡ Some p → Last hs p
-  Last-last_at [] {o} {p} e h = absurd (let no : None ≡ Some p = sym e ∙ h in cc)
-  Last-last_at (t ∷ hs) {o} {p} e h =
-      let r = Last-last_of t hs in
-      record { before = r.before; node = r.node; is = r.is; at_is = r.at_is ∙ Some-injective (last_of t hs) p (sym e ∙ h) }
+  Last-last_at hs e h = grind (arith, Last-last_of, Some-injective)
 
   pub none-first_at : (hs : List (Held B)) → None ≡ first_at hs → hs ≡ []
-  none-first_at [] h = refl
-  none-first_at (t ∷ hs) h = absurd (none_some t.at h)
+  none-first_at hs h = grind arith
 
   -- the node, cut out of what is held
   module _ {hs : List (Held B)} {p : Ptr} where
@@ -46,22 +42,17 @@ module _ {B : Type 0} where
   -- one less is held once a triple was removed
   pub length-removed : (hs us xs : List (Held B)) (t : Held B) (ys : List (Held B))
       → hs ≡ xs ++ t ∷ ys → us ≡ xs ++ ys → suc (length us) ≤ length hs
-  length-removed hs us xs t ys e f = let a = ap length e in let b = ap length f in
-      omega (arith, length-append xs (t ∷ ys), length-append xs ys)
+  length-removed hs us xs t ys e f = grind (arith, length-append)
 
 -- the triples, once that at an end was removed
 module _ {K V : Type 0} {hs : List (Held (K × V))} {p : Ptr} where
-  pub triples-first : (f : First hs p) (others : List (Held (K × V))) (taken : ℕ × K × V)
-      → others ≡ f.after → taken ≡ (f.node.hash, f.node.pair.0, f.node.pair.1)
-      → triples hs ≡ (taken.0, (taken.1, taken.2)) ∷ triples others
+  pub triples-first : (f : First hs p) (others : List (Held (K × V))) (taken : ℕ × K × V) → others ≡ f.after
+      → taken ≡ (f.node.hash, f.node.pair.0, f.node.pair.1) → triples hs ≡ (taken.0, (taken.1, taken.2)) ∷ triples others
   triples-first f others taken left out = ap triples f.is ∙ (λ i. ((sym out i).0, ((sym out i).1, (sym out i).2)) ∷ triples (sym left i))
 
-  pub triples-last : (l : Last hs p) (others : List (Held (K × V))) (taken : ℕ × K × V)
-      → others ≡ l.before ++ [] → taken ≡ (l.node.hash, l.node.pair.0, l.node.pair.1)
-      → triples hs ≡ triples others ++ (taken.0, (taken.1, taken.2)) ∷ []
-  triples-last l others taken left out =
-      ap triples l.is ∙ map-append (λ (t : Held (K × V)). (t.hash, t.pair)) l.before (l.node ∷ [])
-      ∙ (λ i. triples (sym (left ∙ append-nil l.before) i) ++ ((sym out i).0, ((sym out i).1, (sym out i).2)) ∷ [])
+  pub triples-last : (l : Last hs p) (others : List (Held (K × V))) (taken : ℕ × K × V) → others ≡ l.before ++ []
+      → taken ≡ (l.node.hash, l.node.pair.0, l.node.pair.1) → triples hs ≡ triples others ++ (taken.0, (taken.1, taken.2)) ∷ []
+  triples-last l others taken left out = grind (arith, map-append, append-nil)
 
 -- a triple that was put at the back comes last
 pub triples-pushed : {K V : Type 0} (hs rest : List (Held (K × V))) (t : Held (K × V))

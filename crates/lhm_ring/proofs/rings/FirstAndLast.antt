@@ -1,5 +1,5 @@
 -- The first and the last of a ring.
-use Rattle.std.proofs.Common.{◌≡◌, false, ℕ, List, [], ◌∷◌, ◌++◌, Some, sym, ap, ◌∙◌}
+use Rattle.std.proofs.Common.{◌≡◌, ℕ, List, [], ◌∷◌, ◌++◌, sym, ap, ◌∙◌, arith}
 use Rattle.std.specs.List.{AllByRecursion}
 use denote.RawPtr.{Ptr, null_ptr}
 use Rattle.lhm_ring.specs.declared.ring.Links.{Links}
@@ -11,7 +11,7 @@ use Rattle.lhm_ring.proofs.lists.Last.{last_from, AllByRecursion-last}
 use Rattle.lhm_ring.proofs.rings.RingCells.{led_to-apart}
 use Rattle.lhm_ring.proofs.rings.RingNodes.{listed-held}
 use Rattle.lhm_ring.proofs.lists.LinkRows.{RowCut-linked}
-use Rattle.lhm_ring.specs.Nodes.{Cell, same_ptr}
+use Rattle.lhm_ring.specs.Nodes.{Cell}
 use Rattle.lhm_ring.specs.Links.{next_at, prev_at, AreLinked, HasContent, listed, one_of, ring_list, IsOwned}
 use Rattle.lhm_ring.specs.Ring.{State, state, first_at, last_at, last_of}
 use Rattle.lhm_ring.specs.Pointer.{led_to}
@@ -24,32 +24,21 @@ module _ {B : Type 0} (cs : List (Cell Links B)) where
   last_of-listed p h (q ∷ qs) a = ap (λ o. last_of h.0 (one_of o ++ listed cs qs)) a.0.1 ∙ last_of-listed q a.0 qs a.1
 
   -- the first of a row that ends at null, and the last of one that begins there
-  pub first_at-led_to : (p : Ptr) (ps : List Ptr) → AllByRecursion (HasContent cs) ps
-      → IsFresh null_ptr ps → AreLinked cs (p ∷ (ps ++ null_ptr ∷ [])) → first_at (listed cs ps)
-      ≡ led_to (next_at cs p)
+  pub first_at-led_to : (p : Ptr) (ps : List Ptr) → AllByRecursion (HasContent cs) ps → IsFresh null_ptr ps
+      → AreLinked cs (p ∷ (ps ++ null_ptr ∷ [])) → first_at (listed cs ps) ≡ led_to (next_at cs p)
   unfolding listed
   first_at-led_to p [] c f l = sym (ap led_to l.0.0)
-  first_at-led_to p (q ∷ qs) c f l =
-      ap (λ z. first_at (one_of z ++ listed cs qs)) c.0.1 ∙ ap (λ r. Some r) (at-content cs q c.0.1)
-      ∙ sym (ap led_to l.0.0 ∙ led_to-apart q f.0)
+  first_at-led_to p (q ∷ qs) c f l = grind (arith, at-content, led_to-apart)
 
-  pub last_at-led_to : (p : Ptr) (ps : List Ptr) → AllByRecursion (HasContent cs) ps
-      → IsFresh null_ptr ps → AreLinked cs (null_ptr ∷ (ps ++ p ∷ [])) → last_at (listed cs ps)
-      ≡ led_to (prev_at cs p)
+  pub last_at-led_to : (p : Ptr) (ps : List Ptr) → AllByRecursion (HasContent cs) ps → IsFresh null_ptr ps
+      → AreLinked cs (null_ptr ∷ (ps ++ p ∷ [])) → last_at (listed cs ps) ≡ led_to (prev_at cs p)
   unfolding listed
-  last_at-led_to p [] c f l = sym (ap led_to l.0.1)
-  last_at-led_to p (q ∷ qs) c f l =
-      ap (λ z. last_at (one_of z ++ listed cs qs)) c.0.1 ∙ ap (λ r. Some r) (last_of-listed q c.0 qs c.1)
-      ∙ sym (ap led_to (RowCut-linked cs null_ptr (q ∷ qs) p [] l).edge.1
-      ∙ led_to-apart (last_from q qs) (AllByRecursion-last (λ r. same_ptr null_ptr r ≡ false) q qs
-      f.0 f.1))
+  last_at-led_to p ps c f l = grind (arith, last_of-listed, RowCut-linked, led_to-apart, AllByRecursion-last)
 
 module _ {B : Type 0} {cs : List (Cell Links B)} {spare : Link} {n m : ℕ} {v : State B} {total : ℕ}
     (ok : IsOwned cs spare n m) (w : state (ring_list cs n) m total ≡ v) where
   IsFresh-null : IsFresh null_ptr ok.held_pointers
-  IsFresh-null = AllByRecursion-left (λ q. same_ptr null_ptr q ≡ false) ok.held_pointers
-      ok.spare_pointers (IsFresh-head null_ptr (ok.held_pointers ++ ok.spare_pointers)
-      ok.ring.apart)
+  IsFresh-null = grind (arith, AllByRecursion-left, IsFresh-head)
 
   pub led_to-first : led_to (next_at cs null_ptr) ≡ first_at v.held
   led_to-first = sym (first_at-led_to cs null_ptr ok.held_pointers ok.ring.held IsFresh-null

@@ -1,5 +1,5 @@
 -- The pointers of what is held: they are apart, so that each is that of one triple.
-use Rattle.std.proofs.Common.{◌≡◌, ℕ, false, List, [], ◌∷◌, ◌++◌, map, refl, sym, ap, ◌∙◌, subst, true≢false}
+use Rattle.std.proofs.Common.{◌≡◌, ℕ, false, List, [], ◌∷◌, ◌++◌, map, refl, sym, ap, ◌∙◌, subst, arith}
 use Rattle.std.proofs.lemmas.List.{map-append}
 use Rattle.std.specs.List.{AllByRecursion}
 use denote.RawPtr.{Ptr, null_ptr}
@@ -27,26 +27,19 @@ module _ {B : Type 0} where
   -- without one of them
   pub IsApart-without_node : (xs : List (Held B)) (t : Held B) (ys : List (Held B))
       → IsApart (pointers_of (xs ++ t ∷ ys)) → IsApart (pointers_of (xs ++ ys))
-  IsApart-without_node xs t ys d =
-      subst IsApart (sym (pointers_of-append xs ys)) (IsApart-removed (pointers_of xs) t.at
-      (pointers_of ys) (subst IsApart (pointers_of-append xs (t ∷ ys)) d))
+  IsApart-without_node xs t ys d = grind (arith, pointers_of-append, IsApart-removed)
 
   not_again : (t : Held B) (hs us : List (Held B)) (v : Held B) (ws : List (Held B))
       → IsApart (pointers_of (t ∷ hs)) → hs ≡ us ++ v ∷ ws → v.at ≡ t.at → ⊥
-  not_again t hs us v ws d e at =
-      let fresh : IsFresh t.at (pointers_of (us ++ v ∷ ws)) =
-      subst (λ ks. IsFresh t.at (pointers_of ks)) e (IsFresh-head t.at (pointers_of hs) d) in
-      true≢false (sym (same_ptr-reflexive t.at) ∙ ap (same_ptr t.at) (sym at) ∙ same_ptr-fresh t.at us v ws fresh)
+  not_again t hs us v ws d e at = grind (arith, IsFresh-head, same_ptr-reflexive, same_ptr-fresh)
 
   alike : {t v : Held B} (hs xs ys us ws : List (Held B)) → IsApart (pointers_of hs) → hs ≡ xs ++ t ∷ ys → hs ≡ us ++ v ∷ ws
       → t.at ≡ v.at → (t ≡ v) × (ys ≡ ws)
   alike {t} {v} [] [] ys us ws d e f at = absurd (cc)
   alike {t} {v} [] (x ∷ xs) ys us ws d e f at = absurd (cc)
   alike {t} {v} (h ∷ hs) [] ys [] ws d e f at = (cc, cc)
-  alike {t} {v} (h ∷ hs) [] ys (u ∷ us) ws d e f at = let rest : hs ≡ us ++ v ∷ ws = cc in
-      let here : v.at ≡ h.at = cc in absurd (not_again h hs us v ws d rest here)
-  alike {t} {v} (h ∷ hs) (x ∷ xs) ys [] ws d e f at = let rest : hs ≡ xs ++ t ∷ ys = cc in
-      let here : t.at ≡ h.at = cc in absurd (not_again h hs xs t ys d rest here)
+  alike {t} {v} (h ∷ hs) [] ys (u ∷ us) ws d e f at = grind (arith, not_again)
+  alike {t} {v} (h ∷ hs) (x ∷ xs) ys [] ws d e f at = grind (arith, not_again)
   alike {t} {v} (h ∷ hs) (x ∷ xs) ys (u ∷ us) ws d e f at = alike {t = t} {v = v} hs xs ys us ws
       (IsApart-tail h.at (pointers_of hs) d) (cc) (cc) at
 
@@ -63,8 +56,7 @@ module _ {B : Type 0} where
 
   module _ {cs : List (Cell Links B)} {spare : Link} {n m : ℕ} (ok : IsOwned cs spare n m) where
     pub held_pointers-follow : ok.held_pointers ≡ follow cs n null_ptr
-    held_pointers-follow = sym (ap (λ k. follow cs k null_ptr) (sym ok.held_count)
-        ∙ follow-row cs null_ptr ok.held_pointers null_ptr ok.ring.linked)
+    held_pointers-follow = grind (arith, follow-row)
 
     pub AllByRecursion-followed : AllByRecursion (HasContent cs) (follow cs n null_ptr)
     AllByRecursion-followed = subst (AllByRecursion (HasContent cs)) held_pointers-follow ok.ring.held
@@ -73,9 +65,7 @@ module _ {B : Type 0} where
     pointers-ring_list = pointers-listed cs (follow cs n null_ptr) AllByRecursion-followed
 
     pub IsApart-ring_list : IsApart (pointers_of (ring_list cs n))
-    IsApart-ring_list = subst IsApart (held_pointers-follow ∙ sym pointers-ring_list)
-        (IsApart-left ok.held_pointers ok.spare_pointers
-        (IsApart-tail null_ptr (ok.held_pointers ++ ok.spare_pointers) ok.ring.apart))
+    IsApart-ring_list = grind (arith, held_pointers-follow, pointers-ring_list, IsApart-left, IsApart-tail)
 
     pub IsApart-held : {v : State B} {total : ℕ} → state (ring_list cs n) m total ≡ v → IsApart (pointers_of v.held)
     IsApart-held w = subst (λ (s : State B). IsApart (pointers_of s.held)) w IsApart-ring_list

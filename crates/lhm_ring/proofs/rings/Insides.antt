@@ -1,5 +1,5 @@
 -- What the fields of a ring say of its counts, and of what its nodes hold.
-use Rattle.std.proofs.Common.{◌≡◌, ◌∙◌, ℕ, List, Some, true, ◌+◌, ◌≤◌, ◌^◌, length, sym, ap, arith}
+use Rattle.std.proofs.Common.{◌≡◌, ◌∙◌, ℕ, List, Some, true, ◌+◌, ◌≤◌, ◌^◌, length, ap, arith}
 use Rattle.std.specs.Prelude.{min}
 use Rattle.lhm_ring.specs.declared.ring.Ring.TheInside.{Inside}
 use Rattle.lhm_ring.proofs.memory.Places.{length-made}
@@ -26,23 +26,13 @@ seen_of i = state (ring_list (ring_cells i.ends i.nodes.cells) i.len) i.spares i
 
 module _ {K V : Type 0} (i : Inside K V) (ok : IsWhole i) where
   pub length-cells : length i.nodes.cells ≡ i.made
-  length-cells =
-      let ns = i.nodes in
-      length-made ns.cells ns.unused ns.node_bytes ns.chunks ns.laid ok.laid.none_unused
-      ∙ sym ok.laid.all_made
+  length-cells = grind (arith, length-made)
 
   pub counts-within : i.len + i.spares ≤ min i.made (2 ^ 59)
-  counts-within =
-      let all = length-cells in let count = ok.ring.ring.count in let held = ok.ring.held_count in
-      let wide = ok.ring.enough_spares in let small = ok.ring.bounded in omega arith
+  counts-within = grind (arith, length-cells)
 
-  pub IsWhole-raised : (count : ℕ) → i.len + i.spares + count ≤ min i.made (2 ^ 59)
-      → IsWhole (record i { spares = i.spares + count })
-  IsWhole-raised count h =
-      let all = length-cells in record {
-        ring = IsOwned-raised ok.ring (i.spares + count) (omega arith) (omega arith);
-        laid = ok.laid;
-      }
+  pub IsWhole-raised : (count : ℕ) → i.len + i.spares + count ≤ min i.made (2 ^ 59) → IsWhole (record i { spares = i.spares + count })
+  IsWhole-raised count h = grind (arith, length-cells, IsOwned-raised)
 
   -- the counts, as callers see them
   module _ {v : State (K × V)} (w : seen_of i ≡ v) where
@@ -73,21 +63,17 @@ module _ {K V : Type 0} (i : Inside K V) (ok : IsWhole i) where
 
         module _ (new : V) {ds : List (Cell Links (K × V))} (is : ds ≡ with_body p (Some (pair x.0 new)) i.nodes.cells) where
           pub IsOwned-set_value : IsOwned (ring_cells i.ends ds) i.spare i.len i.spares
-          IsOwned-set_value =
-              IsOwned-revalued ok.ring w h body new (ring_cells-with_body i.ends i.nodes.cells p b _ ds is)
+          IsOwned-set_value = IsOwned-revalued ok.ring w h body new (ring_cells-with_body i.ends i.nodes.cells p b _ ds is)
 
           pub ring_list-set_value : ring_list (ring_cells i.ends ds) i.len ≡ change_at p (revalued new) v.held
-          ring_list-set_value =
-              ring_list-revalued ok.ring w h body new (ring_cells-with_body i.ends i.nodes.cells p b _ ds is)
+          ring_list-set_value = ring_list-revalued ok.ring w h body new (ring_cells-with_body i.ends i.nodes.cells p b _ ds is)
 
         module _ (new : K) {ds : List (Cell Links (K × V))} (is : ds ≡ with_body p (Some (pair new x.1)) i.nodes.cells) where
           pub IsOwned-set_key : IsOwned (ring_cells i.ends ds) i.spare i.len i.spares
-          IsOwned-set_key =
-              IsOwned-rekeyed ok.ring w h body new (ring_cells-with_body i.ends i.nodes.cells p b _ ds is)
+          IsOwned-set_key = IsOwned-rekeyed ok.ring w h body new (ring_cells-with_body i.ends i.nodes.cells p b _ ds is)
 
           pub ring_list-set_key : ring_list (ring_cells i.ends ds) i.len ≡ change_at p (rekeyed new) v.held
-          ring_list-set_key =
-              ring_list-rekeyed ok.ring w h body new (ring_cells-with_body i.ends i.nodes.cells p b _ ds is)
+          ring_list-set_key = ring_list-rekeyed ok.ring w h body new (ring_cells-with_body i.ends i.nodes.cells p b _ ds is)
 
     pub pair-inside : (p : Ptr) → is_block p ≡ true → {x : K × V} → body_at i.nodes.cells p ≡ Some x
         → AtHeld v.held p (λ xs t ys. x ≡ t.pair)

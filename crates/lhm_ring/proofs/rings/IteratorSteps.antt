@@ -1,5 +1,5 @@
 -- The values of what an iterator has left are lent, the first or the last in turn.
-use Rattle.std.proofs.Common.{◌≡◌, true, false, cond, List, [], ◌∷◌, ◌++◌, map, Option, Some, refl, sym, ap, ◌∙◌, subst}
+use Rattle.std.proofs.Common.{◌≡◌, false, List, [], ◌∷◌, ◌++◌, map, Option, Some, refl, sym, ap, ◌∙◌, subst, arith}
 use Rattle.std.specs.List.{AllByRecursion}
 use denote.RawPtr.{Ptr}
 use Rattle.lhm_ring.proofs.lists.Apart.{IsFresh, same_ptr-symmetric, same_ptr-equal, IsApart-left}
@@ -18,19 +18,12 @@ module _ {V : Type 0} where
   value_at-other : (p : Ptr) (q : Ptr) → same_ptr p q ≡ false → (run : List (Ptr × V)) → value_at (without_value p run) q ≡ value_at run q
   unfolding value_at without_value
   value_at-other p q n [] = refl
-  value_at-other p q n (c ∷ cs) =
-      (elim (same_ptr c.0 p) as (λ y. same_ptr c.0 p ≡ y
-      → value_at (cond y cs (c ∷ without_value p cs)) q ≡ cond (same_ptr c.0 q) (Some c.1)
-      (value_at cs q)) [
-        | true ↦ λ t. ap (λ y. cond y (Some c.1) (value_at cs q)) (sym (ap (λ r. same_ptr r q) (same_ptr-equal c.0 p t) ∙ n))
-        | false ↦ λ t. ap (λ o. cond (same_ptr c.0 q) (Some c.1) o) (value_at-other p q n cs)
-      ]) refl
+  value_at-other p q n (c ∷ cs) = grind (arith, same_ptr-equal, value_at-other p q n cs)
 
   pub Some-unique : (o : Option V) (v w : V) → o ≡ Some v → o ≡ Some w → v ≡ w
   Some-unique o v w e f = Some-injective v w (sym e ∙ f)
 
-IsFresh-turned : (p : Ptr) (ps : List Ptr) → AllByRecursion (λ x. IsFresh x (p ∷ [])) ps
-    → IsFresh p ps
+IsFresh-turned : (p : Ptr) (ps : List Ptr) → AllByRecursion (λ x. IsFresh x (p ∷ [])) ps → IsFresh p ps
 IsFresh-turned p [] a = tt
 IsFresh-turned p (q ∷ qs) a = (same_ptr-symmetric p q ∙ a.0.0, IsFresh-turned p qs a.1)
 
@@ -44,26 +37,16 @@ module _ {K V : Type 0} where
   AllByRecursion-value_kept p run [] f a = tt
   AllByRecursion-value_kept p run (t ∷ ts) f a = (value_at-other p t.at f.0 run ∙ a.0, AllByRecursion-value_kept p run ts f.1 a.1)
 
-  pub value_at-first_lent : {run : List (Ptr × V)} {s : List (Held (K × V))} {t : Held (K × V)}
-      {ts : List (Held (K × V))} → s ≡ t ∷ ts → AreLent run s
-      → (value_at run t.at ≡ Some t.pair.1) × AreLent (without_value t.at run) ts
-  value_at-first_lent {run} {s} {t} {ts} e a = let b = subst (AreLent run) e a in (
-    b.lent.0,
-    record {
-      lent = AllByRecursion-value_kept t.at run ts
-          (IsFresh-head t.at (map At ts) b.apart) b.lent.1;
-      apart = IsApart-tail t.at (map At ts)
-          b.apart;
-    },
-  )
+  pub value_at-first_lent : {run : List (Ptr × V)} {s : List (Held (K × V))} {t : Held (K × V)} {ts : List (Held (K × V))} → s ≡ t ∷ ts
+      → AreLent run s → (value_at run t.at ≡ Some t.pair.1) × AreLent (without_value t.at run) ts
+  value_at-first_lent e a = grind (arith, AllByRecursion-value_kept, IsFresh-head, IsApart-tail)
 
   map-push : (ts : List (Held (K × V))) (t : Held (K × V)) → map At (ts ++ t ∷ []) ≡ map At ts ++ t.at ∷ []
   map-push [] t = refl
   map-push (u ∷ us) t = ap (λ r. u.at ∷ r) (map-push us t)
 
-  pub value_at-last_lent : {run : List (Ptr × V)} {s : List (Held (K × V))} (t : Held (K × V))
-      (ts : List (Held (K × V))) → s ≡ ts ++ t ∷ [] → AreLent run s
-      → (value_at run t.at ≡ Some t.pair.1) × AreLent (without_value t.at run) ts
+  pub value_at-last_lent : {run : List (Ptr × V)} {s : List (Held (K × V))} (t : Held (K × V)) (ts : List (Held (K × V))) → s ≡ ts ++ t ∷ []
+      → AreLent run s → (value_at run t.at ≡ Some t.pair.1) × AreLent (without_value t.at run) ts
   value_at-last_lent {run} {s} t ts e a =
       let P = λ (u : Held (K × V)). value_at run u.at ≡ Some u.pair.1 in
       let b = subst (AreLent run) e a in let d = subst IsApart (map-push ts t) b.apart in (

@@ -1,13 +1,11 @@
 -- Two nodes are joined: what stays of a row, a chain and contents, and the rows that come of it.
-use Rattle.std.proofs.Common.{◌≡◌, false, cond, List, [], ◌∷◌, ◌++◌, Option, refl, sym, ap, ◌∙◌, subst, append-nil, append_assoc}
+use Rattle.std.proofs.Common.{◌≡◌, false, List, [], ◌∷◌, ◌++◌, Option, refl, sym, ◌∙◌, subst, append-nil, append_assoc, arith}
 use Rattle.std.specs.List.{AllByRecursion}
 use denote.RawPtr.{Ptr}
 use Rattle.lhm_ring.specs.declared.ring.Links.{Links}
-use Rattle.lhm_ring.proofs.lists.Apart.{IsFresh, same_ptr-reflexive, IsApart-tail}
-use Rattle.lhm_ring.proofs.lists.Apart.{AllByRecursion-fresh_across, IsApart-left, IsFresh-head}
+use Rattle.lhm_ring.proofs.lists.Apart.{IsFresh, same_ptr-reflexive, IsApart-tail, AllByRecursion-fresh_across, IsApart-left, IsFresh-head}
 use Rattle.lhm_ring.proofs.lists.Apart.{IsFresh-middle, same_ptr-flip, IsApart-removed}
-use Rattle.lhm_ring.proofs.lists.ForAll.{AllByRecursion-map, AllByRecursion-always}
-use Rattle.lhm_ring.proofs.lists.ForAll.{AllByRecursion-append, AllByRecursion-left}
+use Rattle.lhm_ring.proofs.lists.ForAll.{AllByRecursion-map, AllByRecursion-always, AllByRecursion-append, AllByRecursion-left}
 use Rattle.lhm_ring.proofs.lists.ForAll.{AllByRecursion-right}
 use Rattle.lhm_ring.proofs.lists.Last.{first_from, last_from, AllByRecursion-last}
 use Rattle.lhm_ring.proofs.lists.LinkRows.{RowCut-linked, AreLinked-glued}
@@ -31,8 +29,7 @@ AvoidsSource-fresh a (x ∷ []) h = tt
 AvoidsSource-fresh a (x ∷ y ∷ ys) h = (h.0, AvoidsSource-fresh a (y ∷ ys) h.1)
 
 pub AvoidsTarget-fresh : (b : Ptr) (xs : List Ptr) → IsFresh b xs → AvoidsTarget b xs
-AvoidsTarget-fresh b [] h = tt
-AvoidsTarget-fresh b (x ∷ xs) h = h.1
+AvoidsTarget-fresh b xs h = grind arith
 
 pub AvoidsSource-but_last : (a : Ptr) (x : Ptr) (xs : List Ptr) (z : Ptr) → IsFresh a (x ∷ xs) → AvoidsSource a (x ∷ (xs ++ z ∷ []))
 AvoidsSource-but_last a x [] z h = (h.0, tt)
@@ -50,20 +47,12 @@ AvoidsSource-last x (y ∷ ys) d =
 module _ {B : Type 0} where
   module _ {cs ds : List (Cell Links B)} {a b : Ptr} (j : IsJoined cs ds a b) where
     AreNeighbours-unchanged : (x y : Ptr) → same_ptr a x ≡ false → same_ptr b y ≡ false → AreNeighbours cs x y → AreNeighbours ds x y
-    AreNeighbours-unchanged x y m n e = (
-      j.next x ∙ ap (λ t. cond t b (next_at cs x)) m ∙ e.0,
-      j.prev y
-          ∙ ap (λ t. cond t a (prev_at cs y)) n ∙ e.1,
-    )
+    AreNeighbours-unchanged x y m n e = grind arith
 
     pub AreNeighbours-made : AreNeighbours ds a b
-    AreNeighbours-made = (
-      j.next a ∙ ap (λ t. cond t b (next_at cs a)) (same_ptr-reflexive a),
-      j.prev b ∙ ap (λ t. cond t a (prev_at cs b)) (same_ptr-reflexive b),
-    )
+    AreNeighbours-made = grind (arith, same_ptr-reflexive)
 
-    pub AreLinked-unchanged : (s : List Ptr) → AvoidsSource a s → AvoidsTarget b s → AreLinked cs s
-        → AreLinked ds s
+    pub AreLinked-unchanged : (s : List Ptr) → AvoidsSource a s → AvoidsTarget b s → AreLinked cs s → AreLinked ds s
     AreLinked-unchanged [] m n l = tt
     AreLinked-unchanged (x ∷ []) m n l = tt
     AreLinked-unchanged (x ∷ y ∷ r) m n l = (AreNeighbours-unchanged x y m.0 n.0 l.0, AreLinked-unchanged (y ∷ r) m.1 n.1 l.1)
@@ -107,9 +96,8 @@ module _ {B : Type 0} where
       (free.0, tt)) cut.after.1)
 
   -- a node p comes between
-  pub AreLinked-inserted : {cs ds es : List (Cell Links B)} (g : Ptr) (xs : List Ptr) (p : Ptr)
-      (ys : List Ptr) → IsApart (g ∷ (xs ++ ys)) → IsFresh p (g ∷ (xs ++ ys))
-      → AreLinked cs (g ∷ (xs ++ (ys ++ g ∷ []))) → IsJoined cs ds (last_from g xs) p
+  pub AreLinked-inserted : {cs ds es : List (Cell Links B)} (g : Ptr) (xs : List Ptr) (p : Ptr) (ys : List Ptr) → IsApart (g ∷ (xs ++ ys))
+      → IsFresh p (g ∷ (xs ++ ys)) → AreLinked cs (g ∷ (xs ++ (ys ++ g ∷ []))) → IsJoined cs ds (last_from g xs) p
       → IsJoined ds es p (first_from g ys) → AreLinked es (g ∷ (xs ++ p ∷ (ys ++ g ∷ [])))
   AreLinked-inserted {cs} {ds} {es} g xs p ys d free l j k = behind ys d free l k
     where
@@ -165,9 +153,8 @@ module _ {B : Type 0} where
       (subst (λ z. IsJoined cs ds z p) (RowCut-linked cs g ps g [] l).edge.1 j) k)
 
   -- a node p comes first
-  pub AreLinked-first : {cs ds es : List (Cell Links B)} (g : Ptr) (ps : List Ptr) (p : Ptr)
-      → IsApart (g ∷ ps) → IsFresh p (g ∷ ps) → AreLinked cs (g ∷ (ps ++ g ∷ []))
-      → IsJoined cs ds p (next_at cs g) → IsJoined ds es g p → AreLinked es (g ∷ p ∷ (ps ++ g ∷ []))
+  pub AreLinked-first : {cs ds es : List (Cell Links B)} (g : Ptr) (ps : List Ptr) (p : Ptr) → IsApart (g ∷ ps) → IsFresh p (g ∷ ps)
+      → AreLinked cs (g ∷ (ps ++ g ∷ [])) → IsJoined cs ds p (next_at cs g) → IsJoined ds es g p → AreLinked es (g ∷ p ∷ (ps ++ g ∷ []))
   AreLinked-first {cs} {ds} {es} g ps p d free l j k =
       let P : Ptr → Type 0 = λ q. same_ptr p q ≡ false in (
         AreNeighbours-made k,

@@ -28,8 +28,7 @@ module _ {L B : Type 0} where
           split = record {
             before = c ∷ on.split.before;
             node = on.split.node;
-            after =
-                on.split.after;
+            after = on.split.after;
             is = ap (λ xs. c ∷ xs) on.split.is;
             at_is = on.split.at_is;
           };

@@ -1,4 +1,4 @@
--- A node of a ring moves: before another one, to the back, or to the front.
+-- A node of a ring moves: before another one, or to the back.
 use Rattle.std.proofs.Common.{◌≡◌, Bool, true, false, cond, ℕ, suc, ◌+◌, List, [], ◌∷◌, ◌++◌, length, Option, Some, None}
 use Rattle.std.proofs.Common.{refl, sym, ap, ◌∙◌, subst, append_assoc, append-nil, arith, length-append, true≢false}
 use Rattle.std.specs.Prelude.{IfSome}
@@ -15,23 +15,20 @@ use Rattle.lhm_ring.proofs.lists.Last.{first_from, last_from, AllByRecursion-fir
 use Rattle.lhm_ring.proofs.lists.LinkRows.{RowCut-linked, AreNeighbours-cut, listed-append}
 use Rattle.lhm_ring.proofs.lists.Splits.{SplitAround}
 use Rattle.lhm_ring.proofs.rings.Contents.{at-content}
-use Rattle.lhm_ring.proofs.rings.Joins.{IsSpareList-unchanged, AllByRecursion-content_unchanged}
-use Rattle.lhm_ring.proofs.rings.Joins.{AllByRecursion-there_unchanged, listed-unchanged}
-use Rattle.lhm_ring.proofs.rings.Joins.{AreLinked-removed, AreLinked-inserted, AreLinked-first}
+use Rattle.lhm_ring.proofs.rings.Joins.{IsSpareList-unchanged, AllByRecursion-content_unchanged, AllByRecursion-there_unchanged}
+use Rattle.lhm_ring.proofs.rings.Joins.{listed-unchanged, AreLinked-removed, AreLinked-inserted}
 use Rattle.lhm_ring.proofs.rings.RingCells.{IsJoined-same, led_to-some, led_to-none}
 use Rattle.lhm_ring.proofs.rings.RingNodes.{Found-held, ListCut-listed, NodeAt-held, ring_list-listed, ring_split}
 use Rattle.lhm_ring.specs.Nodes.{Cell, IsApart, links_at, same_ptr}
-use Rattle.lhm_ring.specs.Links.{next_of, prev_of, next_at, prev_at, content_at, AreLinked, AreNeighbours}
-use Rattle.lhm_ring.specs.Links.{IsSpareList, HasContent, IsRing, listed, one_of, IsJoined}
-use Rattle.lhm_ring.specs.Links.{ring_list, IsOwned, IsThere}
+use Rattle.lhm_ring.specs.Links.{next_of, prev_of, next_at, prev_at, content_at, AreLinked, AreNeighbours, IsSpareList, HasContent, IsRing}
+use Rattle.lhm_ring.specs.Links.{listed, one_of, IsJoined, ring_list, IsOwned, IsThere}
 use Rattle.lhm_ring.specs.Ring.{state, Held, State, IsHeld, AtHeld, BeforeHeld, first_at}
 use Rattle.lhm_ring.specs.Pointer.{led_to, pointer_of, pointer_of_some}
 
 -- one of some pointers, among the others than another one
 split_others : (xs : List Ptr) (p : Ptr) (ys us : List Ptr) (q : Ptr) (vs : List Ptr) → xs ++ p ∷ ys ≡ us ++ q ∷ vs
     → same_ptr p q ≡ false → SplitAround (xs ++ ys) q
-split_others [] p ys [] q vs e n =
-    let same : p ≡ q = cc in absurd (true≢false (sym (same_ptr-reflexive p) ∙ ap (same_ptr p) same ∙ n))
+split_others [] p ys [] q vs e n = let same : p ≡ q = cc in absurd (true≢false (sym (same_ptr-reflexive p) ∙ ap (same_ptr p) same ∙ n))
 split_others [] p ys (w ∷ us) q vs e n = record { before = us; after = vs; is = cc }
 split_others (x ∷ xs) p ys [] q vs e n =
     let same : x ≡ q = cc in record { before = []; after = xs ++ ys; is = ap (λ z. z ∷ (xs ++ ys)) same }
@@ -54,9 +51,7 @@ module _ {B : Type 0} where
   pub first_from-led_to : (cs : List (Cell Links B)) (q : Ptr) (ps : List Ptr) → AllByRecursion (HasContent cs) ps
       → led_to q ≡ first_at (listed cs ps) → first_from null_ptr ps ≡ q
   unfolding listed
-  first_from-led_to cs q [] h e = sym (led_to-none q e)
-  first_from-led_to cs q (p ∷ ps) h e =
-      sym (led_to-some q p (e ∙ ap (λ o. first_at (one_of o ++ listed cs ps)) h.0.1 ∙ ap Some (at-content cs p h.0.1)))
+  first_from-led_to cs q ps h e = grind (arith, led_to-none, led_to-some, at-content)
 
   -- where the pointers ps are cut if a node comes right before b, or for null at the back
   pub record PlaceIn (cs : List (Cell Links B)) (ps : List Ptr) (b : Ptr) : Type 0 where
@@ -166,16 +161,13 @@ module _ {B : Type 0} {cs : List (Cell Links B)} {ps : List Ptr} {spare : Option
       There-others = All-others There AllByRecursion-there
 
       pub is_there-ahead : IsThere ds (last_from null_ptr ahead)
-      is_there-ahead = j.there (last_from null_ptr ahead)
-          ∙ AllByRecursion-last There null_ptr ahead r.there.0 (AllByRecursion-left There ahead behind There-others)
+      is_there-ahead = grind (arith, AllByRecursion-last, AllByRecursion-left, There-others)
 
       pub is_there-behind_cut : IsThere ds (first_from null_ptr behind)
-      is_there-behind_cut = j.there (first_from null_ptr behind)
-          ∙ AllByRecursion-first There null_ptr behind r.there.0 (AllByRecursion-right There ahead behind There-others)
+      is_there-behind_cut = grind (arith, AllByRecursion-first, AllByRecursion-right, There-others)
 
       length-placed : length ps ≡ length (ahead ++ p ∷ behind)
-      length-placed = let e = ap length cut in ap length s.is
-          ∙ omega (arith, e, length-append us (p ∷ vs), length-append us vs, length-append ahead behind, length-append ahead (p ∷ behind))
+      length-placed = let e = ap length cut in grind (arith, length-append)
 
       pub AreLinked-placed : {es fs : List (Cell Links B)} → IsJoined ds es (last_from null_ptr ahead) p
           → IsJoined es fs p (first_from null_ptr behind) → AreLinked fs (null_ptr ∷ ((ahead ++ p ∷ behind) ++ null_ptr ∷ []))
@@ -246,10 +238,6 @@ module _ {B : Type 0} {cs : List (Cell Links B)} {spare : Link} {n m : ℕ} {v :
     pub is_there-moved : (x : Ptr) → led_to x ≡ Some p → IsThere ds x
     is_there-moved x is = subst (λ q. IsThere ds q) (sym (led_to-some x p is)) (past.there p ∙ There-node ok.ring node)
 
-    pub is_there-first : {q : Ptr} → q ≡ next_at ds null_ptr → IsThere ds q
-    is_there-first is = subst (λ q. IsThere ds q) (sym (is ∙ (AreNeighbours-edge ok.ring node past [] others refl).0))
-        (is_there-behind_cut ok.ring node past [] others refl)
-
     -- by two more joins it is between others
     module _ {es fs : List (Cell Links B)} {a b c d : Ptr} (k : IsJoined ds es a b) (l : IsJoined es fs c d) where
       ring_list-placed : (s : SplitAround ok.held_pointers p) (xs ys : List Ptr) → s.before ++ s.after ≡ xs ++ ys
@@ -269,27 +257,6 @@ module _ {B : Type 0} {cs : List (Cell Links B)} {spare : Link} {n m : ℕ} {v :
         enough_spares = ok.enough_spares;
         bounded = ok.bounded;
       }
-
-    -- it goes to the front
-    module _ {q : Ptr} (q_is : q ≡ next_at ds null_ptr) {x : Ptr} (x_is : led_to x ≡ Some p) {z : Ptr} (z_is : led_to z ≡ None)
-        {es fs : List (Cell Links B)} (k : IsJoined ds es x q) (l : IsJoined es fs z x) where
-      AreLinked-front : (s : SplitAround ok.held_pointers p) → AreLinked fs (null_ptr ∷ p ∷ ((s.before ++ s.after) ++ null_ptr ∷ []))
-      AreLinked-front s =
-          let moved = led_to-some x p x_is in
-          AreLinked-first null_ptr (s.before ++ s.after) p
-          (IsApart-removed (null_ptr ∷ s.before) p s.after (IsApart-row ok.ring s))
-          (IsFresh-middle (null_ptr ∷ s.before) p s.after (IsApart-row ok.ring s)) (AreLinked-joined ok.ring s past)
-          (IsJoined-same moved q_is k) (IsJoined-same (led_to-none z z_is) moved l)
-
-      pub IsOwned-front : IsOwned fs spare n m
-      IsOwned-front = IsOwned-placed k l [] others refl (AreLinked-front node)
-
-      pub AtHeld-front : AtHeld v.held p (λ xs t ys. ring_list fs n ≡ t ∷ (xs ++ ys))
-      unfolding listed
-      AtHeld-front xs t ys e at =
-          let f = Found-held ok w p xs t ys e at in let s = f.split in
-          ring_list-placed k l s [] (s.before ++ s.after) refl (AreLinked-front s) t f.here
-          ∙ ap (λ zs. t ∷ zs) (listed-append cs s.before s.after ∙ (λ i. f.listed_before i ++ f.listed_after i))
 
     -- what is behind the last is null
     pub next_at-back : {z : Ptr} → led_to z ≡ None → {q : Ptr} → q ≡ prev_at ds null_ptr → z ≡ next_at ds q
@@ -394,5 +361,4 @@ module _ {B : Type 0} {cs : List (Cell Links B)} {spare : Link} {n m : ℕ} {v :
 -- what is asked of a place that may be none
 pub IfSome-pointer : {K V : Type 0} (P : Ptr → Type 0) (o : Option (Position K V)) → IfSome o (λ at. P (pointer_of at))
     → IfSome (pointer_of_some o) P
-IfSome-pointer P None h = tt
-IfSome-pointer P (Some at) h = h
+IfSome-pointer P o h = grind arith

@@ -1,5 +1,5 @@
 -- What comes right behind a held node, and right before it.
-use Rattle.std.proofs.Common.{◌≡◌, ℕ, false, List, [], ◌∷◌, ◌++◌, Option, Some, sym, ap, ◌∙◌}
+use Rattle.std.proofs.Common.{◌≡◌, ℕ, false, List, [], ◌∷◌, ◌++◌, Option, Some, sym, ap, ◌∙◌, arith}
 use denote.RawPtr.{Ptr, null_ptr}
 use Rattle.lhm_ring.specs.declared.ring.Links.{Links}
 use Rattle.lhm_ring.specs.declared.pointer.Link.{Link}
@@ -21,8 +21,7 @@ module _ {B : Type 0} {cs : List (Cell Links B)} {ps : List Ptr} {spare : Option
   row = RowCut-linked cs null_ptr s.before p (s.after ++ null_ptr ∷ []) (AreLinked-row ring s)
 
   free : IsFresh null_ptr (s.before ++ p ∷ s.after)
-  free = AllByRecursion-left (λ q. same_ptr null_ptr q ≡ false) (s.before ++ p ∷ s.after) ss
-      (IsFresh-head null_ptr ((s.before ++ p ∷ s.after) ++ ss) (ring_split ring s).apart)
+  free = grind (arith, AllByRecursion-left, IsFresh-head)
 
   pub first_at-next : first_at (listed cs s.after) ≡ led_to (next_at cs p)
   first_at-next = first_at-led_to cs p s.after (AllByRecursion-right (HasContent cs) s.before

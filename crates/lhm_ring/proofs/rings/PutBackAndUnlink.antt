@@ -1,8 +1,7 @@
 -- `put_back` and `unlink`: the ring after them, and from what their steps ensure.
 use Rattle.std.specs.List.{AllByRecursion}
-use Rattle.std.proofs.Common.{◌≡◌, ℕ, suc, ◌+◌, ◌-◌, ◌<◌, ◌≤◌, ◌^◌, true, cond, List, [], ◌∷◌, ◌++◌}
-use Rattle.std.proofs.Common.{length, Some, None, refl, sym, ap, ◌∙◌, subst, arith, length-append}
-use Rattle.std.proofs.Common.{false, Option, append_assoc}
+use Rattle.std.proofs.Common.{◌≡◌, ℕ, suc, ◌+◌, ◌-◌, ◌<◌, ◌≤◌, ◌^◌, true, List, [], ◌∷◌, ◌++◌, length, Some, None, refl, sym, ap, ◌∙◌}
+use Rattle.std.proofs.Common.{subst, arith, length-append, false, Option, append_assoc}
 use Rattle.std.specs.Option.{IsSome}
 use denote.RawPtr.{Ptr, null_ptr}
 use Rattle.lhm_ring.specs.declared.ring.Links.{Links}
@@ -10,18 +9,14 @@ use Rattle.lhm_ring.specs.declared.ring.Ends.{Ends}
 use Rattle.lhm_ring.specs.declared.pointer.Link.{Link}
 use Rattle.lhm_ring.proofs.lists.Apart.{same_ptr-reflexive, IsApart-left, IsFresh-middle, IsFresh}
 use Rattle.lhm_ring.proofs.rings.Contents.{pair-content, Holds-content, IsAt-content}
-use Rattle.lhm_ring.proofs.rings.Joins.{AreLinked-pushed, AllByRecursion-there_unchanged}
-use Rattle.lhm_ring.proofs.rings.Joins.{IsSpareList-unchanged, listed-unchanged}
+use Rattle.lhm_ring.proofs.rings.Joins.{AreLinked-pushed, AllByRecursion-there_unchanged, IsSpareList-unchanged, listed-unchanged}
 use Rattle.lhm_ring.proofs.rings.Joins.{AllByRecursion-content_unchanged}
 use Rattle.lhm_ring.proofs.lists.ForAll.{AllByRecursion-left, AllByRecursion-right, AllByRecursion-removed, AllByRecursion-append}
 use Rattle.lhm_ring.proofs.lists.Last.{AllByRecursion-last}
-use Rattle.lhm_ring.proofs.rings.Moves.{AreLinked-joined, IsFresh-others, IsFresh-rest}
-use Rattle.lhm_ring.proofs.rings.Moves.{IsFresh-spares, IsApart-shifted, AllByRecursion-shifted}
-use Rattle.lhm_ring.proofs.rings.Moves.{IsJoined-past, listed-one}
-use Rattle.lhm_ring.proofs.memory.OneNodeChanged.{OnlyAt, links_at-with_body, body_at-with_body}
-use Rattle.lhm_ring.proofs.memory.OneNodeChanged.{OnlyAt-with_links, OnlyAt-with_body, OnlyAt-both}
-use Rattle.lhm_ring.proofs.memory.OneNodeChanged.{AreLinked-other, listed-other}
-use Rattle.lhm_ring.proofs.memory.OneNodeChanged.{AllByRecursion-there_other}
+use Rattle.lhm_ring.proofs.rings.Moves.{AreLinked-joined, IsFresh-others, IsFresh-rest, IsFresh-spares, IsApart-shifted}
+use Rattle.lhm_ring.proofs.rings.Moves.{AllByRecursion-shifted, IsJoined-past, listed-one}
+use Rattle.lhm_ring.proofs.memory.OneNodeChanged.{OnlyAt, links_at-with_body, body_at-with_body, OnlyAt-with_links, OnlyAt-with_body}
+use Rattle.lhm_ring.proofs.memory.OneNodeChanged.{OnlyAt-both, AreLinked-other, listed-other, AllByRecursion-there_other}
 use Rattle.lhm_ring.proofs.memory.OneNodeChanged.{AllByRecursion-content_other, IsSpareList-other}
 use Rattle.lhm_ring.proofs.lists.Options.{Some-injective}
 use Rattle.lhm_ring.proofs.rings.ReadAtPosition.{content_at-held}
@@ -30,10 +25,8 @@ use Rattle.lhm_ring.proofs.rings.RingNodes.{CutAt, Found-held, ring_list-listed,
 use Rattle.lhm_ring.proofs.lists.LinkRows.{RowCut-linked, listed-append}
 use Rattle.lhm_ring.proofs.rings.Writes.{links_at-with_links, IsAt-there}
 use Rattle.lhm_ring.specs.Nodes.{Cell, links_at, body_at, IsAt, Holds, with_links, with_body, same_ptr, links_of, is_block, IsApart}
-use Rattle.lhm_ring.specs.Links.{ring_cells, chaining_to, ChainsTo, prev_of, link_of, next_at}
-use Rattle.lhm_ring.specs.Links.{prev_at, link_at, content_of, content_at, IsSpareList, IsRing}
-use Rattle.lhm_ring.specs.Links.{listed, IsJoined, ring_list, IsOwned, AreLinked, HasContent}
-use Rattle.lhm_ring.specs.Links.{IsThere}
+use Rattle.lhm_ring.specs.Links.{ring_cells, chaining_to, ChainsTo, prev_of, link_of, next_at, prev_at, link_at, content_of, content_at}
+use Rattle.lhm_ring.specs.Links.{IsSpareList, IsRing, listed, IsJoined, ring_list, IsOwned, AreLinked, HasContent, IsThere}
 use Rattle.lhm_ring.specs.Ring.{State, state, held, IsHeld, Held}
 use Rattle.lhm_ring.proofs.lists.Splits.{SplitAround}
 use Rattle.lhm_ring.specs.Pointer.{target}
@@ -134,8 +127,7 @@ module _ {B : Type 0} {cs ds es : List (Cell Links B)} {ps : List Ptr} {spare : 
 -- the links of the node at p once they are written
 pub links_at-written : {B : Type 0} (p : Ptr) (l : Links) (cs : List (Cell Links B)) {ds : List (Cell Links B)} {la : Links}
     → links_at cs p ≡ Some la → ds ≡ with_links p l cs → links_at ds p ≡ Some l
-links_at-written p l cs {la = la} e is =
-    ap (λ z. links_at z p) is ∙ links_at-with_links p l cs e p ∙ ap (λ y. cond y (Some l) (links_at cs p)) (same_ptr-reflexive p)
+links_at-written p l cs e is = grind (arith, links_at-with_links, same_ptr-reflexive)
 
 -- the first spare node, at p, and the others
 pub record Ready {B : Type 0} (cs : List (Cell Links B)) (p : Ptr) (v : State B) (n m total : ℕ) : Type 0 where
@@ -162,20 +154,10 @@ module _ {B : Type 0} {cs : List (Cell Links B)} {spare : Link} {n m : ℕ} {v :
 
   Ready-ring : (p : Ptr) (ss : List Ptr) → IsRing cs ok.held_pointers (Some p) ss → m ≤ length ss → Ready cs p v n m total
   Ready-ring p [] r b = absurd (let a = positive in omega arith)
-  Ready-ring p (q ∷ rest) r b = record {
-    row = ok.held_pointers;
-    others = rest;
-    ring = subst (λ q. IsRing cs ok.held_pointers (Some p) (q ∷ rest)) (sym (Some-injective p q r.chained.0)) r;
-    held_count = ok.held_count;
-    enough_spares = b;
-    bounded = ok.bounded;
-    some = positive;
-    seen = w;
-  }
+  Ready-ring p (q ∷ rest) r b = grind (arith, Some-injective, positive)
 
   pub Ready-spare : {p : Ptr} → target spare ≡ Some p → Ready cs p v n m total
-  Ready-spare {p} f = Ready-ring p ok.spare_pointers
-      (subst (λ z. IsRing cs ok.held_pointers z ok.spare_pointers) f ok.ring) ok.enough_spares
+  Ready-spare f = grind (arith, Ready-ring)
 
 -- in ds the node at p, which had the links l, holds t
 pub record Filled {B : Type 0} (cs ds : List (Cell Links B)) (p : Ptr) (l : Links) (t : Held B) : Type 0 where
@@ -184,11 +166,9 @@ pub record Filled {B : Type 0} (cs ds : List (Cell Links B)) (p : Ptr) (l : Link
   pub links : links_at cs p ≡ Some l
 
 -- the links are written, and then the body
-pub Filled-node : {B : Type 0} (e : Ends) {nodes : List (Cell Links B)} (t : Held B) → t.link ≡ None
-    → is_block t.at ≡ true → {l : Links} → links_at nodes t.at ≡ Some l
-    → (free : Link) → target free ≡ None → {c₁ c₂ : List (Cell Links B)}
-    → c₁ ≡ with_links t.at (record l { link = free; hash = t.hash }) nodes
-    → c₂ ≡ with_body t.at (Some t.pair) c₁
+pub Filled-node : {B : Type 0} (e : Ends) {nodes : List (Cell Links B)} (t : Held B) → t.link ≡ None → is_block t.at ≡ true → {l : Links}
+    → links_at nodes t.at ≡ Some l → (free : Link) → target free ≡ None → {c₁ c₂ : List (Cell Links B)}
+    → c₁ ≡ with_links t.at (record l { link = free; hash = t.hash }) nodes → c₂ ≡ with_body t.at (Some t.pair) c₁
     → Filled (ring_cells e nodes) (ring_cells e c₂) t.at l t
 Filled-node e {nodes} t none b {l} el free nowhere {c₁} {c₂} is₁ is₂ =
     let p = t.at in let cs = ring_cells e nodes in let d₁ = ring_cells e c₁ in let d₂ = ring_cells e c₂ in
@@ -297,16 +277,7 @@ module _ {B : Type 0} {cs : List (Cell Links B)} {spare : Link} {n m : ℕ} {v :
             omega (arith, length-append s.before (p ∷ s.after), length-append s.before s.after)
 
         pub IsOwned-unlinked : {top : Link} → target top ≡ Some p → IsOwned c₂ top (n - 1) (m + 1)
-        IsOwned-unlinked et =
-            let a = ok.enough_spares in let b = ok.bounded in let some = count-held in
-            record {
-              held_pointers = rest_of;
-              spare_pointers = p ∷ ok.spare_pointers;
-              ring = subst (λ z. IsRing c₂ rest_of z (p ∷ ok.spare_pointers)) (sym et) left;
-              held_count = length-shorter;
-              enough_spares = omega arith;
-              bounded = omega arith;
-            }
+        IsOwned-unlinked et = grind (arith, count-held, left, length-shorter)
 
         pub ring_list-unlinked : ring_list c₂ (n - 1) ≡ h.before ++ h.after
         ring_list-unlinked =

@@ -11,13 +11,10 @@ use Rattle.lhm_ring.proofs.rings.Lookup.{AllByRecursion-at}
 use Rattle.lhm_ring.proofs.lists.Options.{none_some, Some-injective}
 use Rattle.lhm_ring.proofs.rings.SameNodes.{IsSpareList-same, SameLink}
 use Rattle.lhm_ring.proofs.rings.Writes.{IsAt-there}
-use Rattle.lhm_ring.specs.Nodes.{Cell, cell, same_ptr, pointers, cell_at, links_of, body_of}
-use Rattle.lhm_ring.specs.Nodes.{links_at, body_at, change, with_links, with_body, is_block}
-use Rattle.lhm_ring.specs.Nodes.{AreBlocks, IsAt, Holds}
-use Rattle.lhm_ring.specs.Links.{ends_links, ring_cells, chaining_to, ChainsTo, has_links, next_of}
-use Rattle.lhm_ring.specs.Links.{prev_of, next_at, prev_at, content_at, content_of, AreLinked}
-use Rattle.lhm_ring.specs.Links.{IsSpareList, HasContent, listed, one_of, IsJoined, IsRing, IsOwned}
-use Rattle.lhm_ring.specs.Links.{link_of, IsThere}
+use Rattle.lhm_ring.specs.Nodes.{Cell, cell, same_ptr, pointers, cell_at, links_of, body_of, links_at, body_at, change, with_links}
+use Rattle.lhm_ring.specs.Nodes.{with_body, is_block, AreBlocks, IsAt, Holds}
+use Rattle.lhm_ring.specs.Links.{ends_links, ring_cells, chaining_to, ChainsTo, has_links, next_at, prev_at, content_at, content_of}
+use Rattle.lhm_ring.specs.Links.{AreLinked, IsSpareList, HasContent, listed, one_of, IsJoined, IsRing, IsOwned, link_of, IsThere}
 use Rattle.lhm_ring.specs.Pointer.{led_to, target}
 
 -- where a link leads
@@ -72,9 +69,7 @@ module _ {B : Type 0} (e : Ends) (cs : List (Cell Links B)) where
   pub with_links-end : (f : Links → Links) {d : Ends} → ends_links d ≡ f (ends_links e) → {p : Ptr} → p ≡ null_ptr
       → (l : Links) → links_at (ring_cells e cs) p ≡ Some l → ring_cells d cs ≡ with_links p (f l) (ring_cells e cs)
   unfolding cell_at change
-  with_links-end f {d} same is l =
-      subst (λ q. links_at (ring_cells e cs) q ≡ Some l → ring_cells d cs ≡ with_links q (f l) (ring_cells e cs)) (sym is)
-      (λ h. ap (λ k. cell null_ptr k None ∷ cs) (same ∙ ap f (Some-injective (ends_links e) l h)))
+  with_links-end f same is l = grind (arith, Some-injective)
 
 -- the others
 module _ {B : Type 0} (e : Ends) (cs : List (Cell Links B)) (p : Ptr) (b : is_block p ≡ true) where
@@ -90,9 +85,7 @@ module _ {B : Type 0} (e : Ends) (cs : List (Cell Links B)) (p : Ptr) (b : is_bl
 
   pub ring_cells-change : (f : Cell Links B → Cell Links B) → ring_cells e (change p f cs) ≡ change p f (ring_cells e cs)
   unfolding change
-  ring_cells-change f =
-      sym (ap (λ y. cond y (f (cell null_ptr (ends_links e) None) ∷ cs)
-      (cell null_ptr (ends_links e) None ∷ change p f cs)) (same_ptr-null p b))
+  ring_cells-change f = grind (arith, same_ptr-null)
 
   pub ring_cells-with_links : (l : Links) (ds : List (Cell Links B)) → ds ≡ with_links p l cs
       → ring_cells e ds ≡ with_links p l (ring_cells e cs)
@@ -113,9 +106,7 @@ module _ {B : Type 0} (e : Ends) (cs : List (Cell Links B)) (p : Ptr) (b : is_bl
 
   pub with_links-node : (f : Links → Links) {ds : List (Cell Links B)} {l : Links} → links_at cs p ≡ Some l → ds ≡ with_links p (f l) cs
       → (k : Links) → links_at (ring_cells e cs) p ≡ Some k → ring_cells e ds ≡ with_links p (f k) (ring_cells e cs)
-  with_links-node f {ds} {l} h is k g =
-      ring_cells-with_links (f l) ds is ∙ ap (λ (z : Links). with_links p (f z) (ring_cells e cs))
-      (Some-injective l k (sym h ∙ sym links_at-ring_cells ∙ g))
+  with_links-node f h is k g = grind (arith, ring_cells-with_links, Some-injective, links_at-ring_cells)
 
 -- a node that is there, and is not the one at null, lies in a block
 module _ {B : Type 0} (e : Ends) (cs : List (Cell Links B)) (all : AreBlocks (pointers cs)) where
@@ -154,14 +145,7 @@ module _ {B : Type 0} (e : Ends) (cs : List (Cell Links B)) where
   pub AreLinked-in_nodes : (ps : List Ptr) → AllByRecursion Apart ps → AreLinked (ring_cells e cs) ps → AreLinked cs ps
   AreLinked-in_nodes [] h l = tt
   AreLinked-in_nodes (p ∷ []) h l = tt
-  AreLinked-in_nodes (p ∷ q ∷ ps) h l = (
-    (
-      sym (ap (λ z. next_of (links_of z)) (cell_at-apart p h.0))
-          ∙ l.0.0,
-      sym (ap (λ z. prev_of (links_of z)) (cell_at-apart q h.1.0)) ∙ l.0.1,
-    ),
-    AreLinked-in_nodes (q ∷ ps) h.1 l.1,
-  )
+  AreLinked-in_nodes (p ∷ q ∷ ps) h l = grind (arith, cell_at-apart, AreLinked-in_nodes (q ∷ ps) h.1 l.1)
 
   pub IsSpareList-in_nodes : (h : Option Ptr) (ss : List Ptr) → AllByRecursion Apart ss
       → IsSpareList (ring_cells e cs) h ss → IsSpareList cs h ss
@@ -178,32 +162,13 @@ module _ {B : Type 0} (e : Ends) (cs : List (Cell Links B)) where
   pub AllByRecursion-there_in_nodes : (ps : List Ptr) → AllByRecursion Apart ps
       → AllByRecursion (IsThere (ring_cells e cs)) ps → AllByRecursion (IsThere cs) ps
   AllByRecursion-there_in_nodes [] f h = tt
-  AllByRecursion-there_in_nodes (p ∷ ps) f h = (
-    sym (ap (λ z. has_links (links_of z)) (cell_at-apart p f.0))
-        ∙ h.0,
-    AllByRecursion-there_in_nodes ps f.1 h.1,
-  )
+  AllByRecursion-there_in_nodes (p ∷ ps) f h = grind (arith, cell_at-apart, AllByRecursion-there_in_nodes ps f.1 h.1)
 
 -- a ring without nodes
 module _ {B : Type 0} (e : Ends) (cs : List (Cell Links B)) (spare : Link) (none : cs ≡ [])
     (free : target spare ≡ None) (first : target e.first ≡ None) (last : target e.last ≡ None) where
   IsRing-bare : IsRing (ring_cells {B = B} e []) [] (target spare) []
-  IsRing-bare = record {
-    linked = ((next_at-null {B = B} e [] ∙ led_to-none e.first.ptr first, prev_at-null {B = B} e [] ∙ led_to-none e.last.ptr last), tt);
-    chained = free;
-    held = tt;
-    there = (is_there-null {B = B} e [], tt);
-    apart = IsApart-added null_ptr [] tt IsApart-none;
-    count = refl;
-  }
+  IsRing-bare = grind (arith, next_at-null, led_to-none, prev_at-null, is_there-null, IsApart-added, IsApart-none)
 
   pub IsOwned-bare : IsOwned (ring_cells e cs) spare 0 0
-  IsOwned-bare = subst (λ zs. IsOwned (ring_cells e zs) spare 0 0) (sym none)
-      (record {
-        held_pointers = [];
-        spare_pointers = [];
-        ring = IsRing-bare;
-        held_count = refl;
-        enough_spares = omega arith;
-        bounded = omega arith;
-      })
+  IsOwned-bare = grind (arith, IsRing-bare)

@@ -46,9 +46,8 @@ module _ {B : Type 0} where
     pub listed_before : listed cs split.before ≡ us
     pub listed_after : listed cs split.after ≡ vs
 
-  CutAt-cut : (cs : List (Cell Links B)) {ps : List Ptr} {us : List (Held B)} (t : Held B) (vs : List (Held B))
-      (xs ys : List Ptr) → AllByRecursion (HasContent cs) ys → ps ≡ xs ++ ys → listed cs xs ≡ us → listed cs ys ≡ t ∷ vs
-      → CutAt cs ps us t vs t.at
+  CutAt-cut : (cs : List (Cell Links B)) {ps : List Ptr} {us : List (Held B)} (t : Held B) (vs : List (Held B)) (xs ys : List Ptr)
+      → AllByRecursion (HasContent cs) ys → ps ≡ xs ++ ys → listed cs xs ≡ us → listed cs ys ≡ t ∷ vs → CutAt cs ps us t vs t.at
   unfolding listed
   CutAt-cut cs t vs xs [] h is before e = absurd cc
   CutAt-cut cs t vs xs (p ∷ ys) h is before e =
@@ -63,8 +62,7 @@ module _ {B : Type 0} where
       }
 
   pub CutAt-listed : (cs : List (Cell Links B)) (ps : List Ptr) → AllByRecursion (HasContent cs) ps
-      → (us : List (Held B)) (t : Held B) (vs : List (Held B)) → listed cs ps ≡ us ++ t ∷ vs
-      → CutAt cs ps us t vs t.at
+      → (us : List (Held B)) (t : Held B) (vs : List (Held B)) → listed cs ps ≡ us ++ t ∷ vs → CutAt cs ps us t vs t.at
   CutAt-listed cs ps h us t vs e =
       let c = ListCut-listed cs ps h us (t ∷ vs) e in
       CutAt-cut cs t vs c.before c.after
@@ -83,9 +81,8 @@ module _ {B : Type 0} where
 
 -- the held nodes of a ring, split at p
 module _ {B : Type 0} where
-  pub ring_split : {cs : List (Cell Links B)} {ps : List Ptr} {spare : Option Ptr} {ss : List Ptr}
-      {p : Ptr} → IsRing cs ps spare ss → (s : SplitAround ps p)
-      → IsRing cs (s.before ++ p ∷ s.after) spare ss
+  pub ring_split : {cs : List (Cell Links B)} {ps : List Ptr} {spare : Option Ptr} {ss : List Ptr} {p : Ptr} → IsRing cs ps spare ss
+      → (s : SplitAround ps p) → IsRing cs (s.before ++ p ∷ s.after) spare ss
   ring_split {cs} {ps} {spare} {ss} r s = subst (λ qs. IsRing cs qs spare ss) s.is r
 
   pub length-listed : (cs : List (Cell Links B)) (ps : List Ptr) → AllByRecursion (HasContent cs) ps → length (listed cs ps) ≡ length ps
@@ -99,9 +96,7 @@ module _ {B : Type 0} {cs : List (Cell Links B)} {spare : Link} {n m : ℕ} (ok 
   ring_list-held = ring_list-listed ok.ring ok.held_count
 
   pub Found-listed : (p : Ptr) → AtHeld (ring_list cs n) p (λ xs t ys. CutAt cs ok.held_pointers xs t ys p)
-  Found-listed p xs t ys e at =
-      subst (CutAt cs ok.held_pointers xs t ys) at
-      (CutAt-listed cs ok.held_pointers ok.ring.held xs t ys (sym ring_list-held ∙ e))
+  Found-listed p xs t ys e at = grind (arith, CutAt-listed, ring_list-held)
 
   -- and callers see as v
   module _ {v : State B} {total : ℕ} (w : state (ring_list cs n) m total ≡ v) where
@@ -121,6 +116,4 @@ module _ {B : Type 0} {cs : List (Cell Links B)} {spare : Link} {n m : ℕ} (ok 
     length-bounded = let a = length-held in let b = ap (λ (z : State B). z.spares) w in let c = ok.bounded in omega arith
 
     pub length-within : length cs ≡ suc total → length v.held + v.spares ≤ v.nodes
-    length-within all =
-        let a = length-held in let b = ap (λ (z : State B). z.spares) w in let c = ap (λ (z : State B). z.nodes) w in
-        let d = ok.ring.count in let e = ok.held_count in let f = ok.enough_spares in omega arith
+    length-within all = grind (arith, length-held)

@@ -1,36 +1,22 @@
 -- What a ring holds, as a row of its nodes.
-use Rattle.std.proofs.Common.{◌≡◌, ℕ, suc, zero, List, [], ◌∷◌, ◌++◌, refl, sym, ap, ◌∙◌, subst}
+use Rattle.std.proofs.Common.{◌≡◌, ℕ, suc, zero, List, ◌∷◌, refl, sym, ap, ◌∙◌, subst, arith}
 use denote.RawPtr.{Ptr, null_ptr}
 use Rattle.lhm_ring.specs.declared.ring.Links.{Links}
 use Rattle.lhm_ring.specs.declared.ring.Ends.{Ends}
 use Rattle.lhm_ring.specs.declared.pointer.Link.{Link}
 use Rattle.lhm_ring.proofs.lists.Apart.{IsApart-left, IsApart-tail}
-use Rattle.lhm_ring.proofs.rings.RingCells.{next_at-null, prev_at-null, AllByRecursion-apart}
-use Rattle.lhm_ring.proofs.rings.RingCells.{AllByRecursion-content_in_nodes, listed-in_nodes}
-use Rattle.lhm_ring.proofs.rings.RingCells.{AreLinked-in_nodes}
+use Rattle.lhm_ring.proofs.rings.RingCells.{next_at-null, prev_at-null, AllByRecursion-apart, AllByRecursion-content_in_nodes}
+use Rattle.lhm_ring.proofs.rings.RingCells.{listed-in_nodes, AreLinked-in_nodes}
 use Rattle.lhm_ring.proofs.lists.LinkRows.{RowCut-linked}
 use Rattle.lhm_ring.proofs.rings.Spans.{last_pointer-last_from, AreLinked-tail, HasEnds-behind, pointers_from-span}
 use Rattle.lhm_ring.specs.Nodes.{Cell}
-use Rattle.lhm_ring.specs.Links.{ring_cells, next_at, prev_at, follow, listed, HasEnds, pointers_from, ring_list, IsOwned, IsSpan}
+use Rattle.lhm_ring.specs.Links.{ring_cells, next_at, prev_at, follow, listed, pointers_from, ring_list, IsOwned, IsSpan}
 
 module _ {B : Type 0} where
   -- what a ring holds is in a row from its front to its back
   pub IsSpan-whole : {cs : List (Cell Links B)} {spare : Link} {n m : ℕ} → IsOwned cs spare n m
       → IsSpan cs (next_at cs null_ptr) (prev_at cs null_ptr) n
-  IsSpan-whole {cs} ok =
-      let k = RowCut-linked cs null_ptr ok.held_pointers null_ptr [] ok.ring.linked in
-      let ends : HasEnds ok.held_pointers (next_at cs null_ptr) (prev_at cs null_ptr) =
-      HasEnds-behind cs null_ptr (prev_at cs null_ptr) ok.held_pointers k.before
-      (last_pointer-last_from null_ptr ok.held_pointers ∙ sym k.edge.1) in
-      record {
-        pointers = ok.held_pointers;
-        count = ok.held_count;
-        linked = AreLinked-tail cs null_ptr ok.held_pointers k.before;
-        ends = ends;
-        held = ok.ring.held;
-        apart = IsApart-left ok.held_pointers ok.spare_pointers
-            (IsApart-tail null_ptr (ok.held_pointers ++ ok.spare_pointers) ok.ring.apart);
-      }
+  IsSpan-whole ok = grind (arith, RowCut-linked, HasEnds-behind, last_pointer-last_from, AreLinked-tail, IsApart-left, IsApart-tail)
 
   follow-pointers_from : (cs : List (Cell Links B)) (n : ℕ) (p : Ptr) → follow cs n p ≡ pointers_from cs n (next_at cs p)
   unfolding follow pointers_from

@@ -1,12 +1,12 @@
 -- Nodes whose links lead as those of others do: rows, chains and a ring of these are theirs too.
-use Rattle.std.proofs.Common.{◌≡◌, ℕ, suc, zero, List, [], ◌∷◌, ◌++◌, length, Option, sym, refl, ap, ◌∙◌, subst}
+use Rattle.std.proofs.Common.{◌≡◌, ℕ, suc, zero, List, [], ◌∷◌, length, Option, sym, refl, ap, ◌∙◌, subst, arith}
 use Rattle.std.specs.List.{AllByRecursion}
-use denote.RawPtr.{Ptr, null_ptr}
+use denote.RawPtr.{Ptr}
 use Rattle.lhm_ring.specs.declared.pointer.Link.{Link}
 use Rattle.lhm_ring.specs.declared.ring.Links.{Links}
 use Rattle.lhm_ring.proofs.lists.ForAll.{AllByRecursion-map}
 use Rattle.lhm_ring.specs.Nodes.{Cell}
-use Rattle.lhm_ring.specs.Links.{next_at, prev_at, link_at, is_there, AreLinked, IsSpareList, HasContent, IsRing, follow, IsOwned, IsThere}
+use Rattle.lhm_ring.specs.Links.{next_at, prev_at, link_at, is_there, AreLinked, IsSpareList, HasContent, IsRing, follow, IsOwned}
 use Rattle.lhm_ring.specs.Pointer.{target}
 
 module _ {B : Type 0} (cs ds : List (Cell Links B)) where
@@ -30,20 +30,11 @@ module _ {B : Type 0} (cs ds : List (Cell Links B)) where
       AreLinked-same (y ∷ z ∷ r) k = ((next y ∙ k.0.0, prev z ∙ k.0.1), AreLinked-same (z ∷ r) k.1)
 
       module _ (there : (q : Ptr) → is_there ds q ≡ is_there cs q) (count : length ds ≡ length cs) where
-        IsRing-same : (ps : List Ptr) (spare : Option Ptr) (ss : List Ptr)
-            → AllByRecursion (HasContent ds) ps → AllByRecursion SameLink ss → IsRing cs ps spare ss
-            → IsRing ds ps spare ss
-        IsRing-same ps spare ss held links r = record {
-          linked = AreLinked-same (null_ptr ∷ (ps ++ null_ptr ∷ [])) r.linked;
-          chained = IsSpareList-same spare ss links r.chained;
-          held = held;
-          there = AllByRecursion-map (IsThere cs) (IsThere ds) (λ q h. there q ∙ h) (null_ptr ∷ (ps ++ ss)) r.there;
-          apart = r.apart;
-          count = count ∙ r.count;
-        }
+        IsRing-same : (ps : List Ptr) (spare : Option Ptr) (ss : List Ptr) → AllByRecursion (HasContent ds) ps → AllByRecursion SameLink ss
+            → IsRing cs ps spare ss → IsRing ds ps spare ss
+        IsRing-same ps spare ss held links r = grind (arith, AreLinked-same, IsSpareList-same, AllByRecursion-map)
 
-        pub IsOwned-same : {spare : Link} {n m : ℕ} (ok : IsOwned cs spare n m)
-            → AllByRecursion (HasContent ds) ok.held_pointers
+        pub IsOwned-same : {spare : Link} {n m : ℕ} (ok : IsOwned cs spare n m) → AllByRecursion (HasContent ds) ok.held_pointers
             → AllByRecursion SameLink ok.spare_pointers → IsOwned ds spare n m
         IsOwned-same {spare} ok held links = record {
           held_pointers = ok.held_pointers;

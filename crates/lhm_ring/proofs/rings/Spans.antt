@@ -14,9 +14,8 @@ use Rattle.lhm_ring.proofs.lists.LinkRows.{RowCut-linked, listed-append}
 use Rattle.lhm_ring.proofs.rings.SameNodes.{AreLinked-same}
 use Rattle.lhm_ring.proofs.rings.Writes.{cell_at-change_other}
 use Rattle.lhm_ring.specs.Nodes.{Cell, cell, cell_at, same_ptr, links_at, body_at, IsApart, IsAt, Holds, with_body}
-use Rattle.lhm_ring.specs.Links.{next_of, prev_of, link_of, next_at, prev_at, content_of, AreLinked}
-use Rattle.lhm_ring.specs.Links.{HasContent, listed, one_of, last_pointer, HasEnds, pointers_from}
-use Rattle.lhm_ring.specs.Links.{span_triples, IsSpan}
+use Rattle.lhm_ring.specs.Links.{next_of, prev_of, link_of, next_at, prev_at, AreLinked, HasContent, listed, last_pointer, HasEnds}
+use Rattle.lhm_ring.specs.Links.{pointers_from, span_triples, IsSpan}
 use Rattle.lhm_ring.specs.Ring.{Held, held, triples}
 
 module _ {B : Type 0} (cs : List (Cell Links B)) where
@@ -32,9 +31,7 @@ module _ {B : Type 0} (cs : List (Cell Links B)) where
   unfolding pointers_from
   pointers_from-row f b [] k e = refl
   pointers_from-row f b (r ∷ []) k e = ap (λ z. z ∷ []) (sym e.0)
-  pointers_from-row f b (r ∷ s ∷ rs) k e = λ i. sym e.0 i ∷
-      (ap (λ z. pointers_from cs (length (s ∷ rs)) z) (ap (next_at cs) (sym e.0) ∙ k.0.0)
-      ∙ pointers_from-row s b (s ∷ rs) k.1 (refl, e.1)) i
+  pointers_from-row f b (r ∷ s ∷ rs) k e = grind (arith, pointers_from-row s b (s ∷ rs) k.1 (refl, e.1))
 
 module _ {B : Type 0} {cs : List (Cell Links B)} {f b : Ptr} {k : ℕ} (s : IsSpan cs f b k) where
   pub pointers_from-span : pointers_from cs k f ≡ s.pointers
@@ -52,13 +49,11 @@ last_pointer-last_from p (q ∷ qs) = last_pointer-last_from q qs
 
 module _ {B : Type 0} where
   pub AreLinked-tail : (cs : List (Cell Links B)) (x : Ptr) (xs : List Ptr) → AreLinked cs (x ∷ xs) → AreLinked cs xs
-  AreLinked-tail cs x [] k = tt
-  AreLinked-tail cs x (y ∷ ys) k = k.1
+  AreLinked-tail cs x xs k = grind arith
 
 -- the others of a row that ends somewhere
 split_first : (f b : Ptr) (rs : List Ptr) → (length rs ≡ 0 → ⊥) → HasEnds rs f b → (qs : List Ptr) × (rs ≡ f ∷ qs)
-split_first f b [] n h = absurd (n refl)
-split_first f b (x ∷ xs) n h = (xs, ap (λ q. q ∷ xs) h.0)
+split_first f b rs n h = grind arith
 
 split_last : (f b : Ptr) (rs : List Ptr) → (length rs ≡ 0 → ⊥) → HasEnds rs f b → (qs : List Ptr) × (rs ≡ qs ++ b ∷ [])
 split_last f b [] n h = absurd (n refl)
@@ -68,8 +63,7 @@ split_last f b (x ∷ xs) n h =
 
 module _ {B : Type 0} (cs : List (Cell Links B)) where
   pub HasEnds-behind : (x b : Ptr) (xs : List Ptr) → AreLinked cs (x ∷ xs) → last_pointer x xs ≡ b → HasEnds xs (next_at cs x) b
-  HasEnds-behind x b [] k e = tt
-  HasEnds-behind x b (y ∷ ys) k e = (sym k.0.0, e)
+  HasEnds-behind x b xs k e = grind arith
 
   ahead : (f b : Ptr) (xs : List Ptr) → AreLinked cs (xs ++ b ∷ []) → HasEnds (xs ++ b ∷ []) f b
       → AreLinked cs xs × HasEnds xs f (prev_at cs b)
@@ -81,12 +75,10 @@ module _ {B : Type 0} where
   triples-append [] ys = refl
   triples-append (x ∷ xs) ys = ap (λ r. (x.hash, x.pair) ∷ r) (triples-append xs ys)
 
-  pub listed-one : (cs : List (Cell Links B)) (p : Ptr) → HasContent cs p → (l : Links)
-      → links_at cs p ≡ Some l → (x : B) → body_at cs p ≡ Some x
-      → listed cs (p ∷ []) ≡ held p l.hash (link_of (Some l)) x ∷ []
+  pub listed-one : (cs : List (Cell Links B)) (p : Ptr) → HasContent cs p → (l : Links) → links_at cs p ≡ Some l → (x : B)
+      → body_at cs p ≡ Some x → listed cs (p ∷ []) ≡ held p l.hash (link_of (Some l)) x ∷ []
   unfolding listed
-  listed-one cs p h l f x e =
-      λ i. one_of (content_of p (f i) (e i)) ++ []
+  listed-one cs p h l f x e = grind arith
 
 -- what the node p holds is moved out of it, and a row without p stays
 module _ {B : Type 0} {cs : List (Cell Links B)} (p : Ptr) {la : Links}

@@ -1,5 +1,5 @@
 -- Rows of nodes that become spare, and what a change of chain links alone keeps.
-use Rattle.std.proofs.Common.{◌≡◌, ℕ, suc, ◌+◌, ◌-◌, ◌<◌, true, false, cond, List, [], ◌∷◌, ◌++◌}
+use Rattle.std.proofs.Common.{◌≡◌, ℕ, suc, ◌+◌, ◌-◌, ◌<◌, false, List, [], ◌∷◌, ◌++◌}
 use Rattle.std.proofs.Common.{length, Option, Some, None, refl, sym, ap, ◌∙◌, subst, arith}
 use Rattle.std.specs.List.{AllByRecursion}
 use denote.RawPtr.{Ptr, null_ptr}
@@ -12,13 +12,11 @@ use Rattle.lhm_ring.proofs.memory.OneNodeChanged.{IsSpareList-other}
 use Rattle.lhm_ring.proofs.lists.Options.{none_some}
 use Rattle.lhm_ring.proofs.rings.SameNodes.{AreLinked-same}
 use Rattle.lhm_ring.proofs.rings.Spans.{AreLinked-tail}
-use Rattle.lhm_ring.proofs.rings.Writes.{cell_at-change_other, length-change}
-use Rattle.lhm_ring.proofs.rings.Writes.{reader-with_links_same, links_at-with_links}
+use Rattle.lhm_ring.proofs.rings.Writes.{cell_at-change_other, length-change, reader-with_links_same, links_at-with_links}
 use Rattle.lhm_ring.proofs.rings.Writes.{body_at-with_links}
 use Rattle.lhm_ring.specs.Nodes.{Cell, cell, cell_at, same_ptr, links_of, body_of, links_at, body_at, IsApart, with_links}
-use Rattle.lhm_ring.specs.Links.{ends_links, ring_cells, chaining_to, next_of, prev_of, link_of}
-use Rattle.lhm_ring.specs.Links.{has_links, next_at, link_at, content_of, AreLinked, IsSpareList}
-use Rattle.lhm_ring.specs.Links.{one_of, IsThere}
+use Rattle.lhm_ring.specs.Links.{ends_links, ring_cells, chaining_to, next_of, prev_of, has_links, next_at, link_at, content_of, AreLinked}
+use Rattle.lhm_ring.specs.Links.{IsSpareList, one_of, IsThere}
 use Rattle.lhm_ring.specs.Ring.{Held, triples}
 use Rattle.lhm_ring.specs.Drain.{onto, StartsAt, triple_of, SameButLinks, IsRow, HasRow, SparesRow}
 use Rattle.lhm_ring.specs.Pointer.{target}
@@ -32,8 +30,7 @@ pub length-onto : (ps ss : List Ptr) → length (onto ps ss) ≡ length ps + len
 length-onto [] ss = omega arith
 length-onto (p ∷ ps) ss = let e = length-onto ps (p ∷ ss) in omega arith
 
-pub IsApart-onto : (g : Ptr) (ps ss : List Ptr) → IsApart (g ∷ (ps ++ ss))
-    → IsApart (g ∷ onto ps ss)
+pub IsApart-onto : (g : Ptr) (ps ss : List Ptr) → IsApart (g ∷ (ps ++ ss)) → IsApart (g ∷ onto ps ss)
 IsApart-onto g [] ss d = d
 IsApart-onto g (p ∷ ps) ss d = IsApart-onto g ps (p ∷ ss)
     (IsApart-inserted (g ∷ ps) p ss (IsFresh-middle (g ∷ []) p (ps ++ ss) d)
@@ -42,8 +39,7 @@ IsApart-onto g (p ∷ ps) ss d = IsApart-onto g ps (p ∷ ss)
 module _ {B : Type 0} where
   triple_of-chaining_to : (q : Ptr) (o : Link) (l : Links) (b : Option B)
       → triple_of (content_of q (Some (chaining_to o l)) b) ≡ triple_of (content_of q (Some l) b)
-  triple_of-chaining_to q o l None = refl
-  triple_of-chaining_to q o l (Some x) = refl
+  triple_of-chaining_to q o l b = grind arith
 
   -- what the write of a chain link keeps
   SameButLinks-chaining_to : (cs : List (Cell Links B)) (p : Ptr) (o : Link) (la : Links)
@@ -61,24 +57,15 @@ module _ {B : Type 0} where
       }
 
   SameButLinks-both : (cs ds es : List (Cell Links B)) → SameButLinks cs ds → SameButLinks ds es → SameButLinks cs es
-  SameButLinks-both cs ds es a b = record {
-    next = λ q. b.next q ∙ a.next q;
-    prev = λ q. b.prev q ∙ a.prev q;
-    there = λ q. b.there q ∙ a.there q;
-    triple = λ q. b.triple q ∙ a.triple q;
-    count = b.count ∙ a.count;
-  }
+  SameButLinks-both cs ds es a b = grind arith
 
   pub StartsAt-next : (cs : List (Cell Links B)) (x : Ptr) (xs : List Ptr) → AreLinked cs (x ∷ xs) → StartsAt xs (next_at cs x)
-  StartsAt-next cs x [] k = tt
-  StartsAt-next cs x (y ∷ ys) k = sym k.0.0
+  StartsAt-next cs x xs k = grind arith
 
   -- a row of some nodes starts with its first
-  starts_with : {cs : List (Cell Links B)} {f : Ptr} {n : ℕ} {spare : Option Ptr} (ps : List Ptr)
-      {ss : List Ptr} → 0 < n → IsRow cs f n spare ps ss
-      → (rs : List Ptr) × (ps ≡ f ∷ rs)
-  starts_with [] h r = let long = r.long in absurd (omega arith)
-  starts_with (p ∷ ps) h r = (ps, ap (λ q. q ∷ ps) r.starts)
+  starts_with : {cs : List (Cell Links B)} {f : Ptr} {n : ℕ} {spare : Option Ptr} (ps : List Ptr) {ss : List Ptr} → 0 < n
+      → IsRow cs f n spare ps ss → (rs : List Ptr) × (ps ≡ f ∷ rs)
+  starts_with ps h r = grind arith
 
   pub is_there-row : {cs : List (Cell Links B)} {f : Ptr} {n : ℕ} {spare : Option Ptr} → 0 < n → HasRow cs f n spare → IsThere cs f
   is_there-row {cs} h r = (subst (AllByRecursion (IsThere cs)) (starts_with r.pointers h r.row).1 r.row.there).0
@@ -91,8 +78,7 @@ module _ {B : Type 0} where
     after = with_links p (chaining_to spare la) cs
 
     link_at-now : link_at after p ≡ target spare
-    link_at-now = ap link_of (links_at-with_links p (chaining_to spare la) cs ea p
-        ∙ ap (λ y. cond y (Some (chaining_to spare la)) (links_at cs p)) (same_ptr-reflexive p))
+    link_at-now = grind (arith, links_at-with_links, same_ptr-reflexive)
 
     IsRow-shorter : (rs ss : List Ptr) → IsRow cs p n (target spare) (p ∷ rs) ss → IsRow after next (n - 1) (Some p) rs (p ∷ ss)
     IsRow-shorter rs ss r =
@@ -131,9 +117,7 @@ module _ {B : Type 0} where
         )
 
   pub SparesRow-done : (cs : List (Cell Links B)) (f : Ptr) {n : ℕ} (spare : Option Ptr) → n ≡ 0 → SparesRow cs f n spare cs spare
-  SparesRow-done cs f spare e [] ss r =
-      (record { next = λ q. refl; prev = λ q. refl; there = λ q. refl; triple = λ q. refl; count = refl }, r.chained)
-  SparesRow-done cs f spare e (p ∷ ps) ss r = let long = r.long in absurd (omega arith)
+  SparesRow-done cs f spare e h ss r = grind arith
 
   pub some_still : (o : Option (Held B)) (t : Held B) → triple_of o ≡ Some (t.hash, t.pair) → (u : Held B) × (o ≡ Some u)
   some_still None t e = absurd (none_some (t.hash, t.pair) e)
@@ -153,13 +137,10 @@ module _ {B : Type 0} (e : Ends) (cs ds : List (Cell Links B)) (same : SameButLi
   abbrev null_cell : Cell Links B
   null_cell = cell null_ptr (ends_links e) None
 
-  reader-ring_cells : {X : Type 0} (f : Option (Cell Links B) → X) (q : Ptr)
-      → f (cell_at ds q) ≡ f (cell_at cs q) → f (cell_at (ring_cells e ds) q)
-      ≡ f (cell_at (ring_cells e cs) q)
+  reader-ring_cells : {X : Type 0} (f : Option (Cell Links B) → X) (q : Ptr) → f (cell_at ds q) ≡ f (cell_at cs q)
+      → f (cell_at (ring_cells e ds) q) ≡ f (cell_at (ring_cells e cs) q)
   unfolding cell_at
-  reader-ring_cells f q h = elim (same_ptr null_ptr q) as
-      (λ y. f (cond y (Some null_cell) (cell_at ds q)) ≡ f (cond y (Some null_cell) (cell_at cs q)))
-      [ true ↦ refl | false ↦ h ]
+  reader-ring_cells f q h = grind arith
 
   pub SameButLinks-in_ring : SameButLinks (ring_cells e cs) (ring_cells e ds)
   SameButLinks-in_ring = record {

@@ -10,20 +10,17 @@ use Rattle.lhm_ring.proofs.rings.Joins.{AvoidsSource-fresh, AvoidsTarget-fresh, 
 use Rattle.lhm_ring.proofs.rings.Joins.{IsSpareList-unchanged, AreNeighbours-made, listed-unchanged}
 use Rattle.lhm_ring.proofs.lists.ForAll.{AllByRecursion-left, AllByRecursion-right, AllByRecursion-map}
 use Rattle.lhm_ring.proofs.lists.Last.{last_from}
-use Rattle.lhm_ring.proofs.rings.RingCells.{next_at-null, is_there-null, AreLinked-in_nodes}
-use Rattle.lhm_ring.proofs.rings.RingCells.{AllByRecursion-there_in_nodes, IsSpareList-in_nodes}
-use Rattle.lhm_ring.proofs.rings.RingCells.{IsSpareList-in_ring}
+use Rattle.lhm_ring.proofs.rings.RingCells.{next_at-null, is_there-null, AreLinked-in_nodes, AllByRecursion-there_in_nodes}
+use Rattle.lhm_ring.proofs.rings.RingCells.{IsSpareList-in_nodes, IsSpareList-in_ring}
 use Rattle.lhm_ring.proofs.rings.RingNodes.{ring_list-listed}
 use Rattle.lhm_ring.proofs.lists.LinkRows.{RowCut-linked}
 use Rattle.lhm_ring.proofs.rings.SameNodes.{AreLinked-same}
 use Rattle.lhm_ring.proofs.rings.Spans.{HasEnds-behind, last_pointer-last_from, AreLinked-tail, pointers_from-span}
-use Rattle.lhm_ring.proofs.rings.SpareRows.{AllByRecursion-onto, IsApart-onto, SameButLinks-in_ring}
-use Rattle.lhm_ring.proofs.rings.SpareRows.{length-onto, StartsAt-next, some_still, one_triple}
-use Rattle.lhm_ring.proofs.rings.SpareRows.{triples-one_of}
+use Rattle.lhm_ring.proofs.rings.SpareRows.{AllByRecursion-onto, IsApart-onto, SameButLinks-in_ring, length-onto, StartsAt-next, some_still}
+use Rattle.lhm_ring.proofs.rings.SpareRows.{one_triple, triples-one_of}
 use Rattle.lhm_ring.specs.Nodes.{Cell, same_ptr}
-use Rattle.lhm_ring.specs.Links.{ring_cells, next_at, prev_at, content_at, AreLinked, IsSpareList}
-use Rattle.lhm_ring.specs.Links.{HasContent, IsRing, IsJoined, listed, span_triples, IsSpan}
-use Rattle.lhm_ring.specs.Links.{ring_list, IsOwned, IsThere}
+use Rattle.lhm_ring.specs.Links.{ring_cells, next_at, prev_at, content_at, AreLinked, IsSpareList, HasContent, IsRing, IsJoined, listed}
+use Rattle.lhm_ring.specs.Links.{span_triples, IsSpan, ring_list, IsOwned, IsThere}
 use Rattle.lhm_ring.specs.Ring.{triples}
 use Rattle.lhm_ring.specs.Drain.{onto, StartsAt, triple_of, SameButLinks, IsRow, HasRow, SparesRow}
 use Rattle.lhm_ring.specs.Pointer.{target}
@@ -104,15 +101,7 @@ module _ {B : Type 0} (e : Ends) (nodes : List (Cell Links B)) {spare : Link} {n
       }
 
       pub IsOwned-spliced : IsOwned es h 0 (m + n)
-      IsOwned-spliced = let a = o.held_count in let b = o.enough_spares in let c = o.bounded in let l = length-onto ps ss in
-          record {
-            held_pointers = [];
-            spare_pointers = onto ps ss;
-            ring = IsRing-empty;
-            held_count = refl;
-            enough_spares = omega arith;
-            bounded = omega arith;
-          }
+      IsOwned-spliced = grind (arith, length-onto, IsRing-empty)
 
       AreLinked-spliced : AreLinked es ps
       AreLinked-spliced = AreLinked-unchanged j ps (AvoidsSource-fresh null_ptr ps IsFresh-row)

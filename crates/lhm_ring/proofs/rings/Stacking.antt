@@ -33,25 +33,14 @@ pub record RingStacked {B : Type 0} (e : Ends) (cs ds : List (Cell Links B)) (ps
   pub same_list : listed (ring_cells e ds) ps ≡ listed (ring_cells e cs) ps
 
 -- more of the spare nodes are counted
-pub IsOwned-raised : {B : Type 0} {cs : List (Cell Links B)} {spare : Link} {n m : ℕ}
-    → IsOwned cs spare n m → (k : ℕ) → suc (n + k) ≤ length cs → n + k ≤ 2 ^ 59
-    → IsOwned cs spare n k
-IsOwned-raised ok k enough small =
-    let a = ok.ring.count in let b = ok.held_count in
-    record {
-      held_pointers = ok.held_pointers;
-      spare_pointers = ok.spare_pointers;
-      ring = ok.ring;
-      held_count = ok.held_count;
-      enough_spares = omega arith;
-      bounded = small;
-    }
+pub IsOwned-raised : {B : Type 0} {cs : List (Cell Links B)} {spare : Link} {n m : ℕ} → IsOwned cs spare n m → (k : ℕ)
+    → suc (n + k) ≤ length cs → n + k ≤ 2 ^ 59 → IsOwned cs spare n k
+IsOwned-raised ok k enough small = grind arith
 
 module _ {B : Type 0} (e : Ends) where
   -- a ring with spare nodes more
-  RingStacked-ring : (n : ℕ) (cs : List (Cell Links B)) (s : Link) (ds : List (Cell Links B))
-      (f : Link) {ps ss : List Ptr} → IsStacked cs s n ds f → IsApart (pointers ds)
-      → AreBlocks (pointers ds) → IsRing (ring_cells e cs) ps (target s) ss
+  RingStacked-ring : (n : ℕ) (cs : List (Cell Links B)) (s : Link) (ds : List (Cell Links B)) (f : Link) {ps ss : List Ptr}
+      → IsStacked cs s n ds f → IsApart (pointers ds) → AreBlocks (pointers ds) → IsRing (ring_cells e cs) ps (target s) ss
       → RingStacked e cs ds ps ss (target f) n
   unfolding IsStacked
   RingStacked-ring zero cs s ds f {ps} {ss} k d b r = record {
@@ -86,17 +75,7 @@ module _ {B : Type 0} (e : Ends) where
     RingStacked-held = RingStacked-ring k cs spare ds f s d b ok.ring
 
     pub IsOwned-stacked : IsOwned (ring_cells e ds) f n m
-    IsOwned-stacked = let t = RingStacked-held in let long = t.count in let wide = ok.enough_spares in
-        record {
-          held_pointers = ok.held_pointers;
-          spare_pointers = t.spare_pointers;
-          ring = t.ring;
-          held_count = ok.held_count;
-          enough_spares = omega arith;
-          bounded = ok.bounded;
-        }
+    IsOwned-stacked = grind (arith, RingStacked-held)
 
     pub ring_list-stacked : ring_list (ring_cells e ds) n ≡ ring_list (ring_cells e cs) n
-    ring_list-stacked =
-        let t = RingStacked-held in
-        ring_list-listed t.ring ok.held_count ∙ t.same_list ∙ sym (ring_list-listed ok.ring ok.held_count)
+    ring_list-stacked = grind (arith, RingStacked-held, ring_list-listed)

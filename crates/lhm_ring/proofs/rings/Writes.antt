@@ -1,22 +1,19 @@
 -- What a write of links changes, and what it leaves.
-use Rattle.std.proofs.Common.{◌≡◌, suc, Bool, true, false, cond, List, [], ◌∷◌, length, Option, Some, None, refl, sym, ap, ◌∙◌, subst}
+use Rattle.std.proofs.Common.{◌≡◌, Bool, true, false, cond, List, [], ◌∷◌, length, Option, Some, None, refl, sym, ap, ◌∙◌, subst, arith}
 use denote.RawPtr.{Ptr}
 use Rattle.lhm_ring.specs.declared.pointer.Link.{Link}
 use Rattle.lhm_ring.specs.declared.ring.Links.{Links}
 use Rattle.lhm_ring.proofs.lists.Apart.{same_ptr-equal}
 use Rattle.lhm_ring.proofs.lists.Options.{none_some, Some-injective}
 use Rattle.lhm_ring.specs.Nodes.{Cell, cell, same_ptr, cell_at, links_of, body_of, links_at, body_at, IsAt, change, with_links}
-use Rattle.lhm_ring.specs.Links.{leading_on, leading_back, LeadsOn, LeadsBack, next_of, prev_of}
-use Rattle.lhm_ring.specs.Links.{link_of, has_links, is_there, content_of, content_at, IsJoined}
-use Rattle.lhm_ring.specs.Links.{IsThere}
+use Rattle.lhm_ring.specs.Links.{leading_on, leading_back, LeadsOn, LeadsBack, next_of, prev_of, link_of, has_links, is_there, content_of}
+use Rattle.lhm_ring.specs.Links.{content_at, IsJoined, IsThere}
 
 pub cond-ap : {X Y : Type 0} (f : X → Y) (y : Bool) (u v : X) → f (cond y u v) ≡ cond y (f u) (f v)
-cond-ap f true u v = refl
-cond-ap f false u v = refl
+cond-ap f y u v = grind arith
 
 pub cond-same : {X : Type 0} (y : Bool) (u v : X) → (y ≡ true → u ≡ v) → cond y u v ≡ v
-cond-same true u v h = h refl
-cond-same false u v h = refl
+cond-same y u v h = grind arith
 
 -- two links that show the same of what a node holds
 abbrev pub ShowsSame : Links → Links → Type 0
@@ -24,8 +21,7 @@ ShowsSame l la = (l.hash ≡ la.hash) × (link_of (Some l) ≡ link_of (Some la)
 
 pub content_of-shown_same : {B : Type 0} (q : Ptr) (l la : Links) → ShowsSame l la → (b : Option B)
     → content_of q (Some l) b ≡ content_of q (Some la) b
-content_of-shown_same q l la h None = refl
-content_of-shown_same q l la h (Some x) = λ i. Some (record { at = q; hash = h.0 i; link = h.1 i; pair = x })
+content_of-shown_same q l la h b = grind arith
 
 module _ {L B : Type 0} (p : Ptr) (f : Cell L B → Cell L B) (same : (c : Cell L B) → (f c).at ≡ c.at) where
   pub cell_at-change : (cs : List (Cell L B)) (c : Cell L B) → cell_at cs p ≡ Some c → cell_at (change p f cs) p ≡ Some (f c)
@@ -34,32 +30,19 @@ module _ {L B : Type 0} (p : Ptr) (f : Cell L B → Cell L B) (same : (c : Cell 
   cell_at-change (d ∷ cs) c e =
       (elim (same_ptr d.at p) as (λ y. same_ptr d.at p ≡ y → cond y (Some d) (cell_at cs p) ≡ Some c
       → cell_at (cond y (f d ∷ cs) (d ∷ change p f cs)) p ≡ Some (f c)) [
-        | true ↦ λ t h. ap (λ y. cond y (Some (f d)) (cell_at cs p))
-            (ap (λ q. same_ptr q p) (same d) ∙ t) ∙ ap (λ (z : Cell L B). Some (f z))
-            (Some-injective d c h)
+        | true ↦ grind (arith, Some-injective)
         | false ↦ λ t h. ap (λ y. cond y (Some d) (cell_at (change p f cs) p)) t ∙ cell_at-change cs c h
       ]) refl e
 
   pub cell_at-change_other : (q : Ptr) → same_ptr p q ≡ false → (cs : List (Cell L B)) → cell_at (change p f cs) q ≡ cell_at cs q
   unfolding cell_at change
   cell_at-change_other q n [] = refl
-  cell_at-change_other q n (d ∷ cs) =
-      (elim (same_ptr d.at p) as (λ y. same_ptr d.at p ≡ y
-      → cell_at (cond y (f d ∷ cs) (d ∷ change p f cs)) q ≡ cond (same_ptr d.at q) (Some d)
-      (cell_at cs q)) [
-        | true ↦ λ t. let far : same_ptr d.at q ≡ false = ap (λ r. same_ptr r q) (same_ptr-equal d.at p t) ∙ n in
-            ap (λ y. cond y (Some (f d)) (cell_at cs q)) (ap (λ r. same_ptr r q) (same d) ∙ far)
-            ∙ sym (ap (λ y. cond y (Some d) (cell_at cs q)) far)
-        | false ↦ λ t. ap (λ o. cond (same_ptr d.at q) (Some d) o) (cell_at-change_other q n cs)
-      ]) refl
+  cell_at-change_other q n (d ∷ cs) = grind (arith, same_ptr-equal, cell_at-change_other q n cs)
 
 pub length-change : {L B : Type 0} (p : Ptr) (f : Cell L B → Cell L B) (cs : List (Cell L B)) → length (change p f cs) ≡ length cs
 unfolding change
 length-change p f [] = refl
-length-change p f (d ∷ cs) = elim (same_ptr d.at p) as (λ y. length (cond y (f d ∷ cs) (d ∷ change p f cs)) ≡ length (d ∷ cs)) [
-  | true ↦ refl
-  | false ↦ ap (λ n. suc n) (length-change p f cs)
-]
+length-change p f (d ∷ cs) = grind (arith, length-change p f cs)
 
 module _ {B : Type 0} where
   pub links_of-seen : (o : Option (Cell Links B)) (la : Links) → links_of o ≡ Some la → (c : Cell Links B) × (o ≡ Some c)
@@ -92,10 +75,7 @@ module _ {B : Type 0} (p : Ptr) (l : Links) (cs : List (Cell Links B)) {la : Lin
     reader-with_links q = ap f (links_at-with_links q) ∙ cond-ap f (same_ptr p q) (Some l) (links_at cs q)
 
     pub reader-with_links_same : f (Some l) ≡ f (Some la) → (q : Ptr) → f (links_at (with_links p l cs) q) ≡ f (links_at cs q)
-    reader-with_links_same h q =
-        reader-with_links q
-        ∙ cond-same (same_ptr p q) (f (Some l)) (f (links_at cs q)) (λ t. h ∙ sym (ap f e)
-        ∙ ap (λ r. f (links_at cs r)) (same_ptr-equal p q t))
+    reader-with_links_same h q = grind (arith, reader-with_links, cond-same, same_ptr-equal)
 
   pub content_at-with_links : ShowsSame l la → (q : Ptr) → content_at (with_links p l cs) q ≡ content_at cs q
   content_at-with_links h q =
@@ -117,9 +97,8 @@ module _ {B : Type 0} where
       let a = IsAt-there cs p h in ap (λ es. is_there es q) (k a.0 a.1) ∙ reader-with_links_same p
       (leading_on o a.0) cs a.1 has_links refl q ∙ t
 
-  pub IsJoined-writes : {cs es ds : List (Cell Links B)} (a b : Link) → IsThere cs a.ptr
-      → IsThere cs b.ptr → LeadsOn cs a.ptr b es → LeadsBack es b.ptr a ds
-      → IsJoined cs ds a.ptr b.ptr
+  pub IsJoined-writes : {cs es ds : List (Cell Links B)} (a b : Link) → IsThere cs a.ptr → IsThere cs b.ptr → LeadsOn cs a.ptr b es
+      → LeadsBack es b.ptr a ds → IsJoined cs ds a.ptr b.ptr
   IsJoined-writes {cs} {es} {ds} a b ha hb on back =
       let la = IsAt-there cs a.ptr ha in let lb = IsAt-there es b.ptr (is_there-leading_on cs a.ptr b ha on b.ptr hb) in
       let l : Links = leading_on b la.0 in let m : Links = leading_back a lb.0 in

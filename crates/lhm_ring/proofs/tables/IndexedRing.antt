@@ -1,5 +1,5 @@
 -- A ring with its index, after the ring's own calls.
-use Rattle.std.proofs.Common.{◌≡◌, ◌+◌, ◌<◌, List, [], ◌++◌, refl, sym, ◌∙◌, ap, subst, arith, length}
+use Rattle.std.proofs.Common.{◌≡◌, ◌+◌, ◌<◌, List, [], ◌++◌, refl, ◌∙◌, ap, subst, arith, length}
 use Rattle.std.proofs.lemmas.List.{length-map}
 use denote.RawPtr.{Ptr}
 use Rattle.lhm_ring.proofs.indexes.BucketCounts.{buckets-zero, buckets-at_least}
@@ -13,29 +13,15 @@ use Rattle.lhm_ring.specs.Index.{Indexes, PutsIn, spot, spots, IsIndexed}
 -- nothing is held
 module _ {K V : Type 0} (i : BucketState) (s : State (K × V)) where
   pub IsIndexed-none : HasNoChain i → length i.words ≡ length i.heads → s.held ≡ [] → length i.heads ≡ buckets s.spares → IsIndexed i s
-  IsIndexed-none h count e n =
-      let zero_held : length s.held ≡ 0 = ap length e in
-      let all : length s.held + s.spares ≡ s.spares = omega (arith, zero_held) in
-      record {
-        indexes = subst (λ (v : List (Held (K × V))). Indexes i (spots v)) (sym e) (Indexes-none i h count);
-        count = n ∙ ap buckets (sym all);
-      }
+  IsIndexed-none h count e n = grind (arith, Indexes-none)
 
   pub IsIndexed-new : i.heads ≡ [] → i.words ≡ [] → s.held ≡ [] → s.spares ≡ 0 → IsIndexed i s
-  IsIndexed-new h w e z =
-      let none : length i.heads ≡ 0 = ap length h in
-      IsIndexed-none (λ b l. absurd (omega (arith, none, l))) (ap length w ∙ sym (ap length h)) e
-      (ap length h ∙ sym (ap buckets z ∙ buckets-zero))
+  IsIndexed-new h w e z = grind (arith, IsIndexed-none, buckets-zero)
 
 module _ {K V : Type 0} (i : BucketState) (s t : State (K × V)) (h : IsIndexed i s) (spares : t.spares ≡ s.spares) where
   -- what the index reads is as before
   pub IsIndexed-same_spots : spots t.held ≡ spots s.held → IsIndexed i t
-  IsIndexed-same_spots e =
-      let a : length (spots t.held) ≡ length t.held = length-map t.held spot in
-      let b : length (spots s.held) ≡ length s.held = length-map s.held spot in
-      let c : length (spots t.held) ≡ length (spots s.held) = ap length e in
-      let all : length s.held + s.spares ≡ length t.held + t.spares = omega (arith, a, b, c, spares) in
-      record { indexes = subst (λ v. Indexes i v) (sym e) h.indexes; count = h.count ∙ ap buckets all }
+  IsIndexed-same_spots e = grind (arith, length-map)
 
   -- a triple was moved
   pub IsIndexed-moved : {p : Ptr} (k : IsHeld s.held p) → PutsIn (spot k.node) (spots (k.before ++ k.after)) (spots t.held)

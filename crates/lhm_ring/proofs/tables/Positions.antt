@@ -1,7 +1,7 @@
 -- Positions and indexes: what lies at an index, and where a position is once a triple moved.
 use Rattle.std.proofs.Common.{◌≡◌, ℕ, zero, suc, ◌+◌, ◌-◌, ◌<◌, ◌≤◌, ◌≢◌, Bool, true, false, cond, List, [], ◌∷◌, ◌++◌}
-use Rattle.std.proofs.Common.{map, length, take, drop}
-use Rattle.std.proofs.Common.{remove, slice_get, Option, Some, None, option_map, refl, sym, ap, ap₂, ◌∙◌, subst, arith}
+use Rattle.std.proofs.Common.{map, length, drop}
+use Rattle.std.proofs.Common.{remove, slice_get, Option, Some, None, option_map, refl, sym, ap, ◌∙◌, subst, arith}
 use Rattle.std.proofs.Common.{length-append, append-nil}
 use Rattle.std.specs.Prelude.{IfSome, nat_lt}
 use Rattle.std.specs.Option.{option_to_list}
@@ -27,6 +27,12 @@ slice_get-append (y ∷ xs) x ys = slice_get-append xs x ys
 pub remove-append : {X : Type 0} (xs : List X) (x : X) (ys : List X) → remove (xs ++ x ∷ ys) (length xs) ≡ xs ++ ys
 remove-append [] x ys = refl
 remove-append (y ∷ xs) x ys = ap (λ l. y ∷ l) (remove-append xs x ys)
+
+-- before the first element is at the front
+pub to_before_at-first : {X : Type 0} (xs : List X) (i : ℕ) → to_before_at xs i 0 ≡ to_front_at xs i
+to_before_at-first xs i =
+    let none : 0 - cond (nat_lt i 0) 1 0 ≡ 0 = omega arith in
+    ap (λ k. insert_at k (option_to_list (slice_get xs i)) (remove xs i)) none
 
 -- where the others are once one is out, and the list once it is back
 module _ {X : Type 0} where
@@ -59,29 +65,22 @@ module _ {X Y : Type 0} (f : X → Y) where
   map-remove (x ∷ xs) (suc i) = ap (λ ys. f x ∷ ys) (map-remove xs i)
 
   map-option_to_list : (o : Option X) → map f (option_to_list o) ≡ option_to_list (option_map f o)
-  map-option_to_list None = refl
-  map-option_to_list (Some x) = refl
+  map-option_to_list o = grind arith
 
   map-at : (xs : List X) (i : ℕ) → map f (option_to_list (slice_get xs i)) ≡ option_to_list (slice_get (map f xs) i)
   map-at xs i = map-option_to_list (slice_get xs i) ∙ ap option_to_list (sym (slice_get-map f xs i))
 
   pub map-to_back_at : (xs : List X) (i : ℕ) → map f (to_back_at xs i) ≡ to_back_at (map f xs) i
-  map-to_back_at xs i = map-append f (remove xs i) (option_to_list (slice_get xs i))
-      ∙ ap₂ (λ ys zs. ys ++ zs) (map-remove xs i) (map-at xs i)
+  map-to_back_at xs i = grind (arith, map-append, map-remove, map-at)
 
   pub map-to_front_at : (xs : List X) (i : ℕ) → map f (to_front_at xs i) ≡ to_front_at (map f xs) i
-  map-to_front_at xs i = map-append f (option_to_list (slice_get xs i)) (remove xs i)
-      ∙ ap₂ (λ ys zs. ys ++ zs) (map-at xs i) (map-remove xs i)
+  map-to_front_at xs i = grind (arith, map-append, map-at, map-remove)
 
   map-insert_at : (k : ℕ) (ys zs : List X) → map f (insert_at k ys zs) ≡ insert_at k (map f ys) (map f zs)
-  map-insert_at k ys zs = map-append f (take k zs) (ys ++ drop k zs)
-      ∙ ap₂ (λ us vs. us ++ vs) (sym (take-map f k zs))
-      (map-append f ys (drop k zs) ∙ ap (λ vs. map f ys ++ vs) (sym (drop-map f k zs)))
+  map-insert_at k ys zs = grind (arith, map-append, take-map, drop-map)
 
   pub map-to_before_at : (xs : List X) (i j : ℕ) → map f (to_before_at xs i j) ≡ to_before_at (map f xs) i j
-  map-to_before_at xs i j =
-      let k = j - cond (nat_lt i j) 1 0 in
-      map-insert_at k (option_to_list (slice_get xs i)) (remove xs i) ∙ ap₂ (insert_at k) (map-at xs i) (map-remove xs i)
+  map-to_before_at xs i j = grind (arith, map-insert_at, map-at, map-remove)
 
 module _ {X : Type 0} where
   pub IsPermutation-to_back_at : (xs : List X) (i : ℕ) → IsPermutation xs (to_back_at xs i)
@@ -139,6 +138,10 @@ module _ {B : Type 0} where
       let h = slice_get_within (map (λ t. t.at) hs) i _ at in let long = length-map hs (λ t. t.at) in omega (arith, h, long)
 
   -- at the ends
+  pub PlaceAt-first_at : (hs : List (Held B)) → PlaceAt hs (first_at hs) 0
+  PlaceAt-first_at [] = refl
+  PlaceAt-first_at (t ∷ hs) = refl
+
   pub IsAt-first_at : (hs : List (Held B)) {p : Ptr} → Some p ≡ first_at hs → IsAt hs p 0
   IsAt-first_at [] is = absurd (none_some _ (sym is))
   IsAt-first_at (t ∷ hs) is = sym is
@@ -155,18 +158,11 @@ module _ {B : Type 0} where
 
   pub index_of-within : (p : Ptr) (xs : List (Held B)) (t : Held B) (ys : List (Held B)) → t.at ≡ p
       → index_of p (xs ++ t ∷ ys) < length (xs ++ t ∷ ys)
-  index_of-within p [] t ys at =
-      let here : index_of p (t ∷ ys) ≡ 0 = ap (λ y. cond y 0 (index_of p ys + 1))
-      (subst (λ q. same_ptr t.at q ≡ true) at (same_ptr-reflexive t.at)) in
-      omega (arith, here)
-  index_of-within p (x ∷ xs) t ys at =
-      let on = index_of-within p xs t ys at in
-      elim (same_ptr x.at p) as (λ y. cond y 0 (index_of p (xs ++ t ∷ ys) + 1) < suc (length (xs ++ t ∷ ys)))
-      [ true ↦ omega arith | false ↦ omega (arith, on) ]
+  index_of-within p [] t ys at = grind (arith, same_ptr-reflexive)
+  index_of-within p (x ∷ xs) t ys at = grind (arith, index_of-within p xs t ys at)
 
   pub index_of-held : {hs : List (Held B)} {p : Ptr} → IsHeld hs p → index_of p hs < length hs
-  index_of-held {p = p} h = subst (λ (ks : List (Held B)). index_of p ks < length ks) (sym h.is)
-      (index_of-within p h.before h.node h.after h.at_is)
+  index_of-held h = grind (arith, index_of-within)
 
   first_at-drop : (hs : List (Held B)) (k : ℕ) → first_at (drop k hs) ≡ slice_get (map (λ t. t.at) hs) k
   first_at-drop [] zero = refl
@@ -183,63 +179,34 @@ module _ {B : Type 0} where
     slice_get-at = let h = cut_at.held in (λ j. slice_get (h.is j) (sym cut_at.long j)) ∙ slice_get-append h.before h.node h.after
 
     pub slice_get-pair : {b : B} → AtHeld hs p (λ xs t ys. b ≡ t.pair) → slice_get (map (λ t. t.pair) hs) i ≡ Some b
-    slice_get-pair is =
-        let h = cut_at.held in
-        slice_get-map (λ (t : Held B). t.pair) hs i ∙ ap (option_map (λ (t : Held B). t.pair)) slice_get-at
-        ∙ ap Some (sym (is h.before h.node h.after h.is h.at_is))
+    slice_get-pair is = grind (arith, cut_at, slice_get-map, slice_get-at)
 
     pub remove-at : {ws : List (Held B)} → AtHeld hs p (λ xs t ys. ws ≡ xs ++ ys) → ws ≡ remove hs i
-    remove-at others =
-        let h = cut_at.held in
-        others h.before h.node h.after h.is h.at_is
-        ∙ sym ((λ j. remove (h.is j) (sym cut_at.long j)) ∙ remove-append h.before h.node h.after)
+    remove-at others = grind (arith, cut_at, remove-append)
 
     pub to_back_at-at : {ws : List (Held B)} → AtHeld hs p (λ xs t ys. ws ≡ (xs ++ ys) ++ t ∷ []) → ws ≡ to_back_at hs i
-    to_back_at-at last =
-        let h = cut_at.held in
-        last h.before h.node h.after h.is h.at_is
-        ∙ sym (ap₂ (λ xs o. xs ++ option_to_list o)
-        ((λ j. remove (h.is j) (sym cut_at.long j)) ∙ remove-append h.before h.node h.after) slice_get-at)
-
-    pub to_front_at-at : {ws : List (Held B)} → AtHeld hs p (λ xs t ys. ws ≡ t ∷ (xs ++ ys)) → ws ≡ to_front_at hs i
-    to_front_at-at first =
-        let h = cut_at.held in
-        first h.before h.node h.after h.is h.at_is
-        ∙ sym (ap₂ (λ o xs. option_to_list o ++ xs) slice_get-at
-        ((λ j. remove (h.is j) (sym cut_at.long j)) ∙ remove-append h.before h.node h.after))
+    to_back_at-at last = grind (arith, cut_at, remove-append, slice_get-at)
 
     -- where it is put among the others
     module _ {ws : List (Held B)} {o : Option Ptr} (j : ℕ) (place : PlaceAt hs o j)
         (moved : AtHeld hs p (λ xs t ys. BeforeHeld (xs ++ ys) o (λ us vs. ws ≡ us ++ t ∷ vs)))
         (stays : o ≡ Some p → ws ≡ hs) where
-      put_at : (k : ℕ) → slice_get (map (λ t. t.at) (remove hs i)) k ≡ o
-          → ws ≡ insert_at k (option_to_list (slice_get hs i)) (remove hs i)
-      put_at k is =
-          let h = cut_at.held in let rest = remove hs i in
-          let others = (λ l. remove (h.is l) (sym cut_at.long l)) ∙ remove-append h.before h.node h.after in
-          moved h.before h.node h.after h.is h.at_is (take k rest) (drop k rest)
-          (sym others ∙ sym (take-append-drop k rest)) (sym is ∙ sym (first_at-drop rest k))
-          ∙ ap (λ z. take k rest ++ (option_to_list z ++ drop k rest)) (sym slice_get-at)
+      put_at : (k : ℕ) → slice_get (map (λ t. t.at) (remove hs i)) k ≡ o → ws ≡ insert_at k (option_to_list (slice_get hs i)) (remove hs i)
+      put_at k is = grind (arith, cut_at, remove-append, take-append-drop, first_at-drop, slice_get-at)
 
       put_before : j < i → ws ≡ insert_at j (option_to_list (slice_get hs i)) (remove hs i)
-      put_before less = put_at j (ap (λ ps. slice_get ps j) (map-remove (λ (t : Held B). t.at) hs i)
-          ∙ slice_get-remove_before (map (λ t. t.at) hs) i j less ∙ place)
+      put_before less = grind (arith, put_at, map-remove, slice_get-remove_before)
 
       put_behind : i < j → ws ≡ insert_at (j - 1) (option_to_list (slice_get hs i)) (remove hs i)
       put_behind less =
           let one : suc (j - 1) ≡ j = omega (arith, less) in
-          put_at (j - 1) (ap (λ ps. slice_get ps (j - 1)) (map-remove (λ (t : Held B). t.at) hs i)
-          ∙ slice_get-remove_behind (map (λ t. t.at) hs) i (j - 1) (omega (arith, less))
-          ∙ ap (slice_get (map (λ t. t.at) hs)) one ∙ place)
+          grind (arith, put_at, map-remove, slice_get-remove_behind)
 
       put_back_at : i ≡ j → ws ≡ insert_at j (option_to_list (slice_get hs i)) (remove hs i)
-      put_back_at same =
-          stays (sym place ∙ ap (slice_get (map (λ t. t.at) hs)) (sym same) ∙ at)
-          ∙ sym (insert_at-remove hs i) ∙ ap (λ k. insert_at k (option_to_list (slice_get hs i)) (remove hs i)) same
+      put_back_at same = grind (arith, insert_at-remove)
 
       not_behind : (y : Bool) → nat_lt j i ≡ y → j ≤ i → ws ≡ insert_at j (option_to_list (slice_get hs i)) (remove hs i)
-      not_behind true e le = put_before (ltb-true j i e)
-      not_behind false e le = put_back_at (omega (arith, ltb-false j i e, le))
+      not_behind y e le = grind (arith, put_before, ltb-true, put_back_at, ltb-false)
 
       pub to_before_at-at : ws ≡ to_before_at hs i j
       to_before_at-at = (elim (nat_lt i j) as (λ y. nat_lt i j ≡ y
@@ -252,13 +219,9 @@ module _ {B : Type 0} where
 
     -- once it moved to the front, it has the first index, and each of another index is behind it
     pub index_of-front : index_of p (to_front_at hs i) ≡ 0
-    index_of-front =
-        ap (λ o. index_of p (option_to_list o ++ remove hs i)) slice_get-at
-        ∙ ap (λ y. cond y 0 (index_of p (remove hs i) + 1))
-        (subst (λ q. same_ptr cut_at.held.node.at q ≡ true) cut_at.held.at_is (same_ptr-reflexive cut_at.held.node.at))
+    index_of-front = grind (arith, slice_get-at, cut_at, same_ptr-reflexive)
 
-    pub index_of-behind_front : (q : Ptr) → index_of p hs ≢ index_of q hs
-        → index_of q (to_front_at hs i) ≡ index_of q (remove hs i) + 1
+    pub index_of-behind_front : (q : Ptr) → index_of p hs ≢ index_of q hs → index_of q (to_front_at hs i) ≡ index_of q (remove hs i) + 1
     index_of-behind_front q others =
         ap (λ o. index_of q (option_to_list o ++ remove hs i)) slice_get-at
         ∙ ap (λ y. cond y 0 (index_of q (remove hs i) + 1)) (ap (λ r. same_ptr r q) cut_at.held.at_is ∙ differ)
@@ -291,23 +254,11 @@ module _ {B : Type 0} where
       )
 
   pub MovedTo-back : {hs ks : List (Held B)} {p : Ptr} (h : IsHeld hs p) → AtHeld hs p (λ xs t ys. ks ≡ (xs ++ ys) ++ t ∷ []) → MovedTo h ks
-  MovedTo-back h last = let others = h.before ++ h.after in
-      record { before = others; after = []; cut = sym (append-nil others); is = last h.before h.node h.after h.is h.at_is }
-
-  pub MovedTo-front : {hs ks : List (Held B)} {p : Ptr} (h : IsHeld hs p) → AtHeld hs p (λ xs t ys. ks ≡ t ∷ (xs ++ ys)) → MovedTo h ks
-  MovedTo-front h first = record { before = []; after = h.before ++ h.after; cut = refl; is = first h.before h.node h.after h.is h.at_is }
+  MovedTo-back h last = grind (arith, append-nil)
 
   pub MovedTo-to_before_at : {hs ks : List (Held B)} {p : Ptr} (h : IsHeld hs p) (j : ℕ) → ks ≡ to_before_at hs (length h.before) j
       → MovedTo h ks
-  MovedTo-to_before_at {hs} h j is =
-      let k = j - cond (nat_lt (length h.before) j) 1 0 in let others = h.before ++ h.after in record {
-        before = take k others;
-        after = drop k others;
-        cut = sym (take-append-drop k others);
-        is = is ∙ ap₂ (λ o zs. insert_at k (option_to_list o) zs)
-            (ap (λ zs. slice_get zs (length h.before)) h.is ∙ slice_get-append h.before h.node h.after)
-            (ap (λ zs. remove zs (length h.before)) h.is ∙ remove-append h.before h.node h.after);
-      }
+  MovedTo-to_before_at h j is = grind (arith, take-append-drop, slice_get-append, remove-append)
 
   -- a place has an index
   abbrev pub place_index : (hs : List (Held B)) (o : Option Ptr) → IfSome o (IsHeld hs) → ℕ
@@ -319,8 +270,7 @@ module _ {B : Type 0} where
   PlaceAt-length (t ∷ hs) = PlaceAt-length hs
 
   pub PlaceAt-place_index : (hs : List (Held B)) (o : Option Ptr) (h : IfSome o (IsHeld hs)) → PlaceAt hs o (place_index hs o h)
-  PlaceAt-place_index hs None h = PlaceAt-length hs
-  PlaceAt-place_index hs (Some q) h = IsAt-split h.before h.node h.after h.is h.at_is
+  PlaceAt-place_index hs o h = grind (arith, PlaceAt-length, IsAt-split)
 
   pub moved_to : {hs ks : List (Held B)} {p : Ptr} (h : IsHeld hs p) {o : Option Ptr} → IfSome o (IsHeld hs)
       → AtHeld hs p (λ xs t ys. BeforeHeld (xs ++ ys) o (λ us vs. ks ≡ us ++ t ∷ vs)) → (o ≡ Some p → ks ≡ hs) → MovedTo h ks
@@ -333,30 +283,18 @@ module _ {B : Type 0} where
   pub index_of-last : (p : Ptr) (hs : List (Held B)) (t : Held B) → t.at ≡ p
       → IsFresh p (map (λ u. u.at) hs) → index_of p (hs ++ t ∷ []) ≡ length hs
   index_of-last p [] t at fresh = ap (λ y. cond y 0 1) (subst (λ q. same_ptr t.at q ≡ true) at (same_ptr-reflexive t.at))
-  index_of-last p (x ∷ hs) t at fresh =
-      let on = index_of-last p hs t at fresh.1 in
-      let one : index_of p (hs ++ t ∷ []) + 1 ≡ suc (length hs) = omega (arith, on) in
-      ap (λ y. cond y 0 (index_of p (hs ++ t ∷ []) + 1)) (same_ptr-symmetric x.at p ∙ fresh.0) ∙ one
+  index_of-last p (x ∷ hs) t at fresh = grind (arith, same_ptr-symmetric, index_of-last p hs t at fresh.1)
 
   -- and so has one that moved to the back
   pub index_of-to_back : {hs ks : List (Held B)} {p : Ptr} → IsApart (map (λ t. t.at) hs) → (h : IsHeld hs p)
       → AtHeld hs p (λ xs t ys. ks ≡ (xs ++ ys) ++ t ∷ []) → index_of p ks + 1 ≡ length hs
-  index_of-to_back {hs} {ks} {p} apart h last =
-      let pointers : List (Held B) → List Ptr = map (λ t. t.at) in
-      let cut = subst IsApart (ap pointers h.is ∙ map-append (λ (t : Held B). t.at) h.before (h.node ∷ h.after)) apart in
-      let fresh = subst (IsFresh h.node.at) (sym (map-append (λ (t : Held B). t.at) h.before h.after))
-      (IsFresh-middle (pointers h.before) h.node.at (pointers h.after) cut) in
-      let index = ap (index_of p) (last h.before h.node h.after h.is h.at_is)
-      ∙ index_of-last p (h.before ++ h.after) h.node h.at_is (subst (λ q. IsFresh q (pointers (h.before ++ h.after))) h.at_is fresh) in
-      let of_hs = ap length h.is ∙ length-append h.before (h.node ∷ h.after) in
-      omega (arith, index, of_hs, length-append h.before h.after)
+  index_of-to_back apart h last = grind (arith, map-append, IsFresh-middle, index_of-last, length-append)
 
   -- where other positions are once one is out
   module _ (p : Ptr) where
     pub index_of-later : (hs : List (Held B)) (i : ℕ) → i < index_of p hs → index_of p (remove hs i) + 1 ≡ index_of p hs
     index_of-later [] i h = absurd (omega (arith, h))
-    index_of-later (t ∷ hs) zero h = (elim (same_ptr t.at p) as (λ y. 0 < cond y 0 (index_of p hs + 1)
-        → index_of p hs + 1 ≡ cond y 0 (index_of p hs + 1)) [ true ↦ λ k. absurd (omega (arith, k)) | false ↦ λ k. refl ]) h
+    index_of-later (t ∷ hs) zero h = grind arith
     index_of-later (t ∷ hs) (suc i) h =
         (elim (same_ptr t.at p) as (λ y. suc i < cond y 0 (index_of p hs + 1)
         → cond y 0 (index_of p (remove hs i) + 1) + 1 ≡ cond y 0 (index_of p hs + 1)) [
@@ -381,8 +319,7 @@ module _ {K V : Type 0} where
       → PlaceAt hs o i
   PlaceAt-entries hs i same at = ap (λ ps. slice_get ps i) (sym (pointers-entries hs) ∙ ap (map (λ t. t.at)) same) ∙ at
 
-  pub IsAt-entries : (hs : List (Held (K × V))) {es : List (Held (K × V))} {p : Ptr} (i : ℕ) → entries hs ≡ es → IsAt es p i
-      → IsAt hs p i
+  pub IsAt-entries : (hs : List (Held (K × V))) {es : List (Held (K × V))} {p : Ptr} (i : ℕ) → entries hs ≡ es → IsAt es p i → IsAt hs p i
   IsAt-entries hs i same at = PlaceAt-entries hs i same at
 
   pub index_of-entries : (p : Ptr) (hs : List (Held (K × V))) → index_of p (entries hs) ≡ index_of p hs

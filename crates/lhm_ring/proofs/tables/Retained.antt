@@ -1,7 +1,6 @@
 -- A table as a closure goes over its pairs and keeps some.
-use Rattle.std.proofs.Common.{◌≡◌, ℕ, ◌<◌, Bool, true, false, cond, List, [], ◌∷◌, ◌++◌, map}
-use Rattle.std.proofs.Common.{length, remove, Option, Some, None, refl, sym, ap, ◌∙◌, subst, append_assoc}
-use Rattle.std.proofs.Common.{arith}
+use Rattle.std.proofs.Common.{◌≡◌, ℕ, ◌<◌, Bool, true, false, cond, List, [], ◌∷◌, ◌++◌, map, length, remove, Option, Some, None, refl, sym}
+use Rattle.std.proofs.Common.{ap, ◌∙◌, subst, append_assoc, arith}
 use Rattle.std.specs.Map.Calls.{CallableOnEachPair, SomeCallAtPair}
 use denote.RawPtr.{Ptr}
 use Rattle.lhm_ring.proofs.lists.Apart.{same_ptr-reflexive, IsFresh-head, IsApart-tail}
@@ -35,19 +34,11 @@ module _ {F K V : Type 0} (T : F → K → V → Bool → V → F → Type 0) wh
 
 -- what a node holds is written twice
 module _ {L B : Type 0} where
-  change-twice : (p : Ptr) (f g : Cell L B → Cell L B) → ((c : Cell L B) → (f c).at ≡ c.at)
-      → ((c : Cell L B) → g (f c) ≡ g c) → (cs : List (Cell L B)) → change p g (change p f cs)
-      ≡ change p g cs
+  change-twice : (p : Ptr) (f g : Cell L B → Cell L B) → ((c : Cell L B) → (f c).at ≡ c.at) → ((c : Cell L B) → g (f c) ≡ g c)
+      → (cs : List (Cell L B)) → change p g (change p f cs) ≡ change p g cs
   unfolding change
   change-twice p f g same over [] = refl
-  change-twice p f g same over (c ∷ cs) =
-      (elim (same_ptr c.at p) as (λ y. same_ptr c.at p ≡ y
-      → change p g (cond y (f c ∷ cs) (c ∷ change p f cs)) ≡ cond y (g c ∷ cs) (c ∷ change p g cs)) [
-        | true ↦ λ t. ap (λ y. cond y (g (f c) ∷ cs) (f c ∷ change p g cs))
-            (ap (λ q. same_ptr q p) (same c) ∙ t) ∙ ap (λ d. d ∷ cs) (over c)
-        | false ↦ λ t. ap (λ y. cond y (g c ∷ change p f cs) (c ∷ change p g (change p f cs))) t
-            ∙ ap (λ l. c ∷ l) (change-twice p f g same over cs)
-      ]) refl
+  change-twice p f g same over (c ∷ cs) = grind (arith, change-twice p f g same over cs)
 
   pub with_body-twice : (p : Ptr) (x : B) (cs : List (Cell L B)) → with_body p (Some x) (with_body p None cs) ≡ with_body p (Some x) cs
   with_body-twice p x cs = change-twice p (λ c. cell c.at c.links None) (λ c. cell c.at c.links (Some x)) (λ c. refl) (λ c. refl) cs
@@ -64,9 +55,8 @@ module _ {B : Type 0} where
 
 -- a table that is seen as m: if the closure may be called at one of its pairs, it may at that of
 -- the ring
-pub TakesAt-table_of : {F K V : Type 0} (Q : F → K → V → Type 0) (f : F) {p : Ptr}
-    (s : State (K × V)) (r : ℕ) {m : TableState (K × V)} → table_of s r ≡ m → TakesAt Q f m.held p
-    → TakesAt Q f s.held p
+pub TakesAt-table_of : {F K V : Type 0} (Q : F → K → V → Type 0) (f : F) {p : Ptr} (s : State (K × V)) (r : ℕ) {m : TableState (K × V)}
+    → table_of s r ≡ m → TakesAt Q f m.held p → TakesAt Q f s.held p
 TakesAt-table_of {F} {K} {V} Q f {p} s r seen h =
     let at = h.held in
     let i = (EntriesCut-split s.held at.before at.node at.after (ap (λ (z : TableState (K × V)). z.held) seen ∙ at.is)).split in
@@ -76,8 +66,7 @@ TakesAt-table_of {F} {K} {V} Q f {p} s r seen h =
         node = i.node;
         after = i.after;
         is = i.is;
-        at_is =
-            ap (λ (t : Held (K × V)). t.at) i.at_is ∙ at.at_is;
+        at_is = ap (λ (t : Held (K × V)). t.at) i.at_is ∙ at.at_is;
       };
       takes = subst (λ (t : Held (K × V)). Q f t.pair.0 t.pair.1) (sym i.at_is) h.takes;
     }
@@ -94,9 +83,8 @@ module _ {F K V : Type 0} (T : F → K → V → Bool → V → F → Type 0) {f
     new_is = λ xs t ys e at. written ∙ alone xs t ys e at w ∙ ap (λ c. xs ++ cond c (revalued w t ∷ ys) ys) (sym kept);
   }
 
-  pub RetainsAt-removed : {new : List (Held (K × V))} → CallsAt T f old p b w f' → WritesOnly old p
-      → now ≡ change_at p (revalued w) old → b ≡ false → ((i : ℕ) → IsAt now p i → new ≡ remove now i)
-      → RetainsAt T f old p new f'
+  pub RetainsAt-removed : {new : List (Held (K × V))} → CallsAt T f old p b w f' → WritesOnly old p → now ≡ change_at p (revalued w) old
+      → b ≡ false → ((i : ℕ) → IsAt now p i → new ≡ remove now i) → RetainsAt T f old p new f'
   RetainsAt-removed called alone written removed others = record {
     returned = b;
     value = w;
@@ -114,8 +102,7 @@ IsHeld-written w alone written h =
       before = h.before;
       node = revalued w h.node;
       after = h.after;
-      is = written
-          ∙ alone h.before h.node h.after h.is h.at_is w;
+      is = grind arith;
       at_is = h.at_is;
     }
 
@@ -124,29 +111,22 @@ module _ {F K V : Type 0} (T : F → K → V → Bool → V → F → Type 0) (Q
   callable-first : {f : F} {pair : K × V} {pairs : List (K × V)} → CallableOnEachPair T Q f (pair ∷ pairs) → Q f pair.0 pair.1
   callable-first {f} {pair} {pairs} c = c.at [] pairs f pair.0 pair.1 refl refl
 
-  CallableOnEachPair-rest : {f f' : F} {pair : K × V} {pairs : List (K × V)}
-      → CallableOnEachPair T Q f (pair ∷ pairs) → SomeCallAtPair T f pair f'
-      → CallableOnEachPair T Q f' pairs
+  CallableOnEachPair-rest : {f f' : F} {pair : K × V} {pairs : List (K × V)} → CallableOnEachPair T Q f (pair ∷ pairs)
+      → SomeCallAtPair T f pair f' → CallableOnEachPair T Q f' pairs
   CallableOnEachPair-rest {f} {f'} {pair} {pairs} c called =
       record {
         at = λ before after g k v is run. c.at (pair ∷ before) after g k v
             (ap (λ l. pair ∷ l) is) (f', called, run);
       }
 
-  pub IsRetaining-start : {f : F} {hs : List (Held (K × V))} {next : Option Ptr}
-      → CallableOnEachPair T Q f (map (λ t. t.pair) hs) → next ≡ first_at hs
-      → IsRetaining T Q f hs f hs next
+  pub IsRetaining-start : {f : F} {hs : List (Held (K × V))} {next : Option Ptr} → CallableOnEachPair T Q f (map (λ t. t.pair) hs)
+      → next ≡ first_at hs → IsRetaining T Q f hs f hs next
   IsRetaining-start {f} {hs} c is = record { kept = []; rest = hs; now_is = refl; next_is = is; callable = c; ends = λ last r. r }
 
   module _ {start f : F} {old now : List (Held (K × V))} {next : Option Ptr} (m : IsRetaining T Q start old f now next) where
     -- no pair is left
     pub RetainsHeld-end : next ≡ None → RetainsHeld T start old now
-    RetainsHeld-end none = by m.rest refl
-      where
-        by : (rest : List (Held (K × V))) → m.rest ≡ rest → RetainsHeld T start old now
-        by [] is = subst (RetainsHeld T start old) (sym (m.now_is ∙ ap (λ l. m.kept ++ l) is))
-            (m.ends [] (subst (λ l. RetainsHeld T f l []) (sym is) refl))
-        by (t ∷ ys) is = absurd (let no : Some t.at ≡ None = sym (m.next_is ∙ ap first_at is) ∙ none in cc)
+    RetainsHeld-end none = grind arith
 
     -- the pair at p is the next
     pub First-next : {p : Ptr} → next ≡ Some p → First m.rest p
@@ -202,8 +182,7 @@ module _ {F K V : Type 0} (T : F → K → V → Bool → V → F → Type 0) (Q
               last)) (sym n.is) (record {
                 returned = made.returned;
                 value = made.value;
-                closure =
-                    f';
+                closure = f';
                 rest = last;
                 called = call;
                 retained = r;
@@ -213,19 +192,7 @@ module _ {F K V : Type 0} (T : F → K → V → Bool → V → F → Type 0) (Q
 
         IsApart-new : (b : Bool) (w : V) → IsApart (pointers_of (m.kept ++ n.node ∷ n.after))
             → IsApart (pointers_of (m.kept ++ cond b (revalued w n.node ∷ n.after) n.after))
-        IsApart-new true w d = subst IsApart (pointers_of-append m.kept (n.node ∷ n.after)
-            ∙ sym (pointers_of-append m.kept (revalued w n.node ∷ n.after))) d
-        IsApart-new false w d = IsApart-without_node m.kept n.node n.after d
+        IsApart-new b w d = grind (arith, pointers_of-append, IsApart-without_node)
 
         pub left_from-smaller : IsApart (pointers_of now) → left_from next' new < left_from next now
-        left_from-smaller d =
-            let cut = subst (λ l. IsApart (pointers_of l)) now-cut d in
-            let before = ap (λ o. left_from o now) (m.next_is ∙ ap first_at n.is)
-            ∙ ap (left_from (Some n.node.at)) now-cut ∙ left_from-append m.kept (n.node ∷ n.after)
-            cut in
-            let apart = subst (λ l. IsApart (pointers_of l))
-            (sym (append-cond made.returned (revalued made.value n.node) n.after))
-            (IsApart-new made.returned made.value cut) in
-            let after = ap (λ o. left_from o new) next-new ∙ ap (left_from (first_at n.after))
-            new-kept ∙ left_from-append kept' n.after apart in
-            omega (arith, before, after)
+        left_from-smaller d = grind (arith, now-cut, left_from-append, append-cond, IsApart-new, next-new, new-kept)

@@ -32,10 +32,7 @@ module _ {B : Type 0} (hs : List (Held B)) where
     long = ap length s.is ∙ omega (arith, length-append s.done s.rest, s.count)
 
     pub reversed-all : n ≡ length hs → now ≡ reverse hs
-    reversed-all all =
-        let none = nothing s.rest (omega (arith, long, all)) in
-        s.now_is ∙ ap (λ zs. reverse s.done ++ zs) none ∙ append-nil (reverse s.done)
-        ∙ ap reverse (sym (s.is ∙ ap (λ zs. s.done ++ zs) none ∙ append-nil s.done))
+    reversed-all all = grind (arith, nothing, long, append-nil)
 
     -- the next one
     module _ (below : n < length hs) where

@@ -1,12 +1,12 @@
 -- The first of some nodes, moved behind the others.
-use Rattle.std.proofs.Common.{◌≡◌, ℕ, ◌+◌, ◌<◌, List, [], ◌∷◌, ◌++◌, length, take, drop, get_or, Option, Some, None}
+use Rattle.std.proofs.Common.{◌≡◌, ℕ, ◌+◌, ◌<◌, List, [], ◌∷◌, ◌++◌, length, take, drop, get_or, Option, Some}
 use Rattle.std.proofs.Common.{refl, sym, ap, ap₂, ◌∙◌, arith, append-nil, append_assoc}
 use Rattle.std.specs.Option.{IsSome, option_to_list}
 use Rattle.std.proofs.lemmas.List.{drop_more, take_more}
 use Rattle.std.proofs.Math.Seq.{take-length, drop-length}
 use denote.RawPtr.{Ptr}
 use Rattle.lhm_ring.specs.declared.pointer.Position.{Position}
-use Rattle.lhm_ring.proofs.lists.Options.{none_some, Some-injective}
+use Rattle.lhm_ring.proofs.lists.Options.{Some-injective}
 use Rattle.lhm_ring.specs.Pointer.{pointer_of, pointer_of_some}
 use Rattle.lhm_ring.proofs.tables.Positions.{IsAt-split, slice_get-append, remove-append}
 use Rattle.lhm_ring.specs.Positions.{IsAt, to_back_at, to_front_at}
@@ -17,8 +17,7 @@ abbrev pub rotated : {X : Type 0} → ℕ → List X → List X
 rotated n xs = drop n xs ++ take n xs
 
 pub rotated-none : {X : Type 0} (xs : List X) → xs ≡ rotated 0 xs
-rotated-none [] = refl
-rotated-none (x ∷ xs) = sym (append-nil (x ∷ xs))
+rotated-none xs = grind (arith, append-nil)
 
 pub rotated-all : {X : Type 0} (xs : List X) → xs ≡ rotated (length xs) xs
 rotated-all xs = sym (ap₂ (λ ys zs. ys ++ zs) (drop-length xs) (take-length xs))
@@ -44,13 +43,12 @@ last_of-push : {B : Type 0} (u : Held B) (hs : List (Held B)) (t : Held B) → l
 last_of-push u [] t = refl
 last_of-push u (v ∷ hs) t = last_of-push v hs t
 
-last_at-push : {B : Type 0} (hs : List (Held B)) (t : Held B) → last_at (hs ++ t ∷ []) ≡ Some t.at
+pub last_at-push : {B : Type 0} (hs : List (Held B)) (t : Held B) → last_at (hs ++ t ∷ []) ≡ Some t.at
 last_at-push [] t = refl
 last_at-push (u ∷ hs) t = ap Some (last_of-push u hs t)
 
 pub IsSome-pointer : {K V : Type 0} (o : Option (Position K V)) {p : Ptr} → pointer_of_some o ≡ Some p → IsSome o
-IsSome-pointer None {p} e = absurd (none_some p e)
-IsSome-pointer (Some at) e = refl
+IsSome-pointer o e = grind arith
 
 module _ {K V : Type 0} {n : ℕ} (xs : List (Held (K × V))) (below : n < length xs) {hs : List (Held (K × V))} where
   -- the node at the front, with n of xs behind the others
@@ -75,8 +73,7 @@ module _ {K V : Type 0} {n : ℕ} (xs : List (Held (K × V))) (below : n < lengt
       }
 
       -- it goes to the back
-      pub rotated-more : {ks : List (Held (K × V))}
-          → ((i : ℕ) → IsAt hs (pointer_of at) i → ks ≡ to_back_at hs i) → ks ≡ rotated (n + 1) xs
+      pub rotated-more : {ks : List (Held (K × V))} → ((i : ℕ) → IsAt hs (pointer_of at) i → ks ≡ to_back_at hs i) → ks ≡ rotated (n + 1) xs
       rotated-more moved = let t = turn n xs below in let front = is ∙ t.first_is in
           moved 0 (IsAt-split [] t.node t.others front front_is) ∙ ap (λ ys. to_back_at ys 0) front ∙ sym t.last_is
 
@@ -102,8 +99,7 @@ module _ {K V : Type 0} {n : ℕ} (xs : List (Held (K × V))) (below : n < lengt
       }
 
       -- it goes to the front
-      pub rotated-fewer : {ks : List (Held (K × V))}
-          → ((i : ℕ) → IsAt hs (pointer_of at) i → ks ≡ to_front_at hs i) → ks ≡ rotated n xs
+      pub rotated-fewer : {ks : List (Held (K × V))} → ((i : ℕ) → IsAt hs (pointer_of at) i → ks ≡ to_front_at hs i) → ks ≡ rotated n xs
       rotated-fewer moved = let t = turn n xs below in let back = is ∙ t.last_is in
           moved (length t.others) (IsAt-split t.others t.node [] back back_is)
           ∙ ap (λ ys. to_front_at ys (length t.others)) back

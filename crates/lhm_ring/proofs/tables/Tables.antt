@@ -1,15 +1,13 @@
 -- A table: what it shows of the nodes of its ring, which stand there without their links.
-use Rattle.std.proofs.Common.{◌≡◌, ℕ, ◌+◌, ◌-◌, ◌^◌, ◌<◌, ◌≤◌, ◌≢◌, cond, List, [], ◌∷◌, ◌++◌, length}
-use Rattle.std.proofs.Common.{length-append, map, Option, Some, None, refl, sym, ap, ◌∙◌, subst, inl, inr}
-use Rattle.std.proofs.Common.{arith}
-use Rattle.std.specs.Prelude.{max, Result, Ok, Err, OnOk, OnErr, IfSome}
+use Rattle.std.proofs.Common.{◌≡◌, ℕ, ◌+◌, ◌-◌, ◌^◌, ◌<◌, ◌≤◌, ◌≢◌, cond, List, [], ◌∷◌, ◌++◌, length, length-append, map, Option, None}
+use Rattle.std.proofs.Common.{refl, sym, ap, ◌∙◌, subst, arith}
+use Rattle.std.specs.Prelude.{max, Result, OnOk, OnErr, IfSome}
 use Rattle.std.proofs.lemmas.Bool.{eq-eqb, ne_eqb}
 use Rattle.std.proofs.lemmas.List.{length-map}
 use denote.RawPtr.{Ptr}
 use Rattle.lhm_ring.proofs.indexes.BucketCounts.{buckets-raised, buckets-below, buckets-at_least, rechained-within, made_raised-higher}
-use Rattle.lhm_ring.proofs.indexes.Entries.{AtHeld-entries, IsHeld-entries, entries-append}
-use Rattle.lhm_ring.proofs.indexes.Entries.{entries-change_at, first_at-entries, last_at-entries, length-entries}
-use Rattle.lhm_ring.proofs.indexes.Entries.{length-same_entries, pointers-entries, triples-entries}
+use Rattle.lhm_ring.proofs.indexes.Entries.{AtHeld-entries, IsHeld-entries, entries-append, entries-change_at, first_at-entries}
+use Rattle.lhm_ring.proofs.indexes.Entries.{last_at-entries, length-entries, length-same_entries, pointers-entries, triples-entries}
 use Rattle.lhm_ring.proofs.indexes.IndexMoves.{spots-value, spots-rekeyed}
 use Rattle.lhm_ring.proofs.indexes.Spots.{PutsIn-spots}
 use Rattle.lhm_ring.proofs.tables.IndexedRing.{IsIndexed-value, IsIndexed-same_spots, IsIndexed-moved}
@@ -33,8 +31,7 @@ module _ {K V : Type 0} (s : State (K × V)) (r : ℕ) {m : TableState (K × V)}
 
   pub IfSome-table : (o : Option (Position K V)) → IfSome o (λ at. IsHeld m.held (pointer_of at))
       → IfSome o (λ at. IsHeld s.held (pointer_of at))
-  IfSome-table None h = tt
-  IfSome-table (Some at) h = IsHeld-table (pointer_of at) h
+  IfSome-table o h = grind (arith, IsHeld-table)
 
   -- what holds at a position of nodes with the entries of the table
   pub AtHeld-same_entries : (ks : List (Held (K × V))) → entries ks ≡ entries s.held
@@ -43,9 +40,8 @@ module _ {K V : Type 0} (s : State (K × V)) (r : ℕ) {m : TableState (K × V)}
   AtHeld-same_entries ks same p P h = subst (λ (hs : List (Held (K × V))). AtHeld hs p P)
       (same ∙ ap (λ (z : TableState (K × V)). z.held) seen) (AtHeld-entries ks p P h)
 
-  pub AtHeld-table : (p : Ptr) (P : List (Held (K × V)) → Held (K × V) → List (Held (K × V))
-      → Type 0) → AtHeld s.held p (λ xs t ys. P (entries xs) (linked_to None t) (entries ys))
-      → AtHeld m.held p P
+  pub AtHeld-table : (p : Ptr) (P : List (Held (K × V)) → Held (K × V) → List (Held (K × V)) → Type 0)
+      → AtHeld s.held p (λ xs t ys. P (entries xs) (linked_to None t) (entries ys)) → AtHeld m.held p P
   AtHeld-table p P h = AtHeld-same_entries s.held refl p P h
 
   pub AtHeld-table_next : (p : Ptr) (o : Option Ptr) → AtHeld s.held p (λ xs t ys. o ≡ first_at ys)
@@ -75,20 +71,13 @@ module _ {K V : Type 0} (s : State (K × V)) (r : ℕ) {m : TableState (K × V)}
   -- a pair was moved
   pub KeepsCounts-moved : {t : State (K × V)} {p : Ptr} {h : IsHeld s.held p} → MovedTo h t.held
       → t.spares ≡ s.spares → t.nodes ≡ s.nodes → KeepsCounts m (table_of t r)
-  KeepsCounts-moved moved spares made =
-      let long = length-moved_to moved in let all = length-capacity in
-      record {
-        capacity = omega (arith, long, spares, all);
-        rechained = ap (λ (z : TableState (K × V)). z.rechained) seen;
-        made = made ∙ ap (λ (z : TableState (K × V)). z.made) seen;
-      }
+  KeepsCounts-moved moved spares made = let long = length-moved_to moved in grind (arith, length-capacity)
 
   -- a value was written at p
   pub table_of-value : (p : Ptr) (w : V) → table_of (with_value s p w) r ≡ write m p w
   table_of-value p w =
       let count = sym (length-map (change_at p (revalued w) s.held) spot) ∙ ap length (spots-value p w s.held) ∙ length-map s.held spot in
-      (λ i. record { held = entries-change_at p w s.held i; capacity = count i + s.spares; rechained = r; made = s.nodes })
-      ∙ ap (λ (z : TableState (K × V)). write z p w) seen
+      grind (arith, entries-change_at)
 
   pub WritesOnly-table : (p : Ptr) → ChangesOnly s.held p → WritesOnly m.held p
   WritesOnly-table p alone = AtHeld-table p (λ xs t ys. (w : V) → change_at p (revalued w) m.held ≡ xs ++ revalued w t ∷ ys)
@@ -98,18 +87,11 @@ module _ {K V : Type 0} (s : State (K × V)) (r : ℕ) {m : TableState (K × V)}
 
   -- all that was held is out
   pub table_of-drained : table_of (state [] (s.spares + length s.held) s.nodes) r ≡ record m { held = [] }
-  table_of-drained =
-      let room : 0 + (s.spares + length s.held) ≡ length s.held + s.spares = omega arith in
-      (λ i. record (table_of (state {B = K × V} [] (s.spares + length s.held) s.nodes) r) { capacity = room i })
-      ∙ ap (λ (z : TableState (K × V)). record z { held = [] }) seen
+  table_of-drained = grind arith
 
 -- as many buckets do for a higher capacity that is not above their count
 buckets-stay : (c d : ℕ) → c < d → d ≤ buckets c → buckets c ≡ buckets d
-buckets-stay c d up enough =
-    elim (buckets-raised c d (omega (arith, up))) [
-      | inl e ↦ sym e
-      | inr twice ↦ let below = buckets-below d (omega (arith, up)) in absurd (omega (arith, twice, below, enough))
-    ]
+buckets-stay c d up enough = grind (arith, buckets-raised, buckets-below)
 
 -- tables after the calls of the ring and its index
 -- what a growth of the ring by some spare nodes leaves, if the chunks may have so many nodes
@@ -121,50 +103,26 @@ pub record IsRingGrown {E B : Type 0} (s t : State B) (more most : ℕ) (result 
 
 module _ {K V : Type 0} {i : BucketState} {s : State (K × V)} {r : ℕ} (table : IsTable i s r) where
   -- the same pairs in order, except for chain links
-  pub IsTable-rechained : {i' : BucketState} {t : State (K × V)} {q : ℕ}
-      → entries t.held ≡ entries s.held → length s.held + t.spares ≤ 2 ^ 59
-      → Indexes i' (spots t.held) → length i'.heads ≡ buckets (length s.held + t.spares) → q ≤ length i'.heads
-      → t.nodes ≤ most_nodes (length i'.heads)
-      → IsTable i' t q
-  IsTable-rechained {t = t} same within indexes count few made =
-      let long = length-same_entries t.held s.held same in
-      record {
-        indexed = record { indexes = indexes; count = count ∙ ap (λ l. buckets (l + t.spares)) (sym long) };
-        few = few;
-        limit = omega (arith, long, within);
-        nodes_within = made;
-      }
+  pub IsTable-rechained : {i' : BucketState} {t : State (K × V)} {q : ℕ} → entries t.held ≡ entries s.held
+      → length s.held + t.spares ≤ 2 ^ 59 → Indexes i' (spots t.held) → length i'.heads ≡ buckets (length s.held + t.spares)
+      → q ≤ length i'.heads → t.nodes ≤ most_nodes (length i'.heads) → IsTable i' t q
+  IsTable-rechained same within indexes count few made = grind (arith, length-same_entries)
 
   -- a value was written
   pub IsTable-value : (p : Ptr) (w : V) → IsTable i (with_value s p w) r
-  IsTable-value p w =
-      let count = sym (length-map (change_at p (revalued w) s.held) spot) ∙ ap length (spots-value p w s.held) ∙ length-map s.held spot in
-      record {
-        indexed = IsIndexed-value i s p w table.indexed;
-        few = table.few;
-        limit = omega (arith, count, table.limit);
-        nodes_within = table.nodes_within;
-      }
+  IsTable-value p w = grind (arith, length-map, spots-value, IsIndexed-value)
 
   -- a key was written
   module _ (t : State (K × V)) {p : Ptr} (k : K) (h : IsHeld s.held p)
       (is : AtHeld s.held p (λ xs x ys. t.held ≡ xs ++ rekeyed k x ∷ ys)) where
     spots_rekeyed : spots t.held ≡ spots s.held
-    spots_rekeyed = ap spots (is h.before h.node h.after h.is h.at_is)
-        ∙ spots-rekeyed k h.before h.node h.after ∙ ap spots (sym h.is)
+    spots_rekeyed = grind (arith, spots-rekeyed)
 
     pub length-rekeyed : length t.held ≡ length s.held
     length-rekeyed = sym (length-map t.held spot) ∙ ap length spots_rekeyed ∙ length-map s.held spot
 
     pub IsTable-rekeyed : t.spares ≡ s.spares → t.nodes ≡ s.nodes → IsTable i t r
-    IsTable-rekeyed spares made =
-        let long = length-rekeyed in
-        record {
-          indexed = IsIndexed-same_spots i s t table.indexed spares spots_rekeyed;
-          few = table.few;
-          limit = omega (arith, long, spares, table.limit);
-          nodes_within = omega (arith, made, table.nodes_within);
-        }
+    IsTable-rekeyed spares made = grind (arith, length-rekeyed, IsIndexed-same_spots, spots_rekeyed)
 
   -- a pair was moved
   pub IsTable-moved : {t : State (K × V)} {p : Ptr} {h : IsHeld s.held p} (m : MovedTo h t.held)
@@ -190,24 +148,10 @@ module _ {K V : Type 0} {i : BucketState} {s : State (K × V)} {r : ℕ} (table 
         let out = ap length (others h.before h.node h.after h.is h.at_is) in
         let of_rest = length-append h.before h.after in
         let of_held = ap length h.is in
-        let of_all = length-append h.before (h.node ∷ h.after) in
-        let long = length-same_entries t.held s.held links.held in
-        omega (arith, out, of_rest, of_held, of_all, long, links.spares, more)
+        grind (arith, length-append, length-same_entries)
 
     pub IsTable-removed : length i'.heads ≡ length i.heads → IsTable i' w r
-    IsTable-removed count =
-        let h = lacks.held in
-        let out = others h.before h.node h.after h.is h.at_is in
-        let all = length-with_spares in
-        record {
-          indexed = record {
-            indexes = subst (λ (hs : List (Held (K × V))). Indexes i' (spots hs)) (sym out) lacks.others;
-            count = count ∙ table.indexed.count ∙ ap buckets all;
-          };
-          few = omega (arith, table.few, count);
-          limit = omega (arith, all, table.limit);
-          nodes_within = omega (arith, links.nodes, stay, count, table.nodes_within);
-        }
+    IsTable-removed count = grind (arith, length-with_spares)
 
   -- the capacity rises, and the buckets do for it: no node is rehashed
   module _ (d : ℕ) (up : length s.held + s.spares < d) (enough : d ≤ length i.heads) where
@@ -219,21 +163,11 @@ module _ {K V : Type 0} {i : BucketState} {s : State (K × V)} {r : ℕ} (table 
 
     pub made_raised-stays : made_raised s.nodes (length s.held + s.spares) d
         ≡ nodes_grown s.nodes d (least_more (d - (length s.held + s.spares)) s.nodes (max 2 (length i.heads)))
-    made_raised-stays = made_raised-higher s.nodes (length s.held + s.spares) d up
-        ∙ ap (λ n. nodes_grown s.nodes d (least_more (d - (length s.held + s.spares)) s.nodes (max 2 n)))
-        (sym (table.indexed.count ∙ buckets-same))
+    made_raised-stays = grind (arith, made_raised-higher, buckets-same)
 
-    pub IsTable-grown : {E : Type 0} {t : State (K × V)} {more most : ℕ} (result : Result (Unit {0}) E)
-        → most ≡ max 2 (length i.heads) → IsRingGrown s t more most result → d ≡ length s.held + s.spares + more → d ≤ 2 ^ 59
-        → IsTable i t r
-    IsTable-grown {t = t} (Ok _) wide grown all within =
-        let few = grown.nodes (omega (arith, wide, table.nodes_within)) (omega (arith, wide, enough, all)) in
-        let some : 0 < length i.heads = omega (arith, up, enough) in
-        let sum : length s.held + t.spares ≡ d = omega (arith, grown.spares, all) in
-        IsTable-rechained (ap entries grown.held) (omega (arith, sum, within))
-        (subst (λ hs. Indexes i (spots hs)) (sym grown.held) table.indexed.indexes)
-        (table.indexed.count ∙ buckets-same ∙ ap buckets (sym sum)) table.few (omega (arith, wide, few, some))
-    IsTable-grown (Err _) wide grown all within = subst (λ u. IsTable i u r) (sym grown.refused) table
+    pub IsTable-grown : {E : Type 0} {t : State (K × V)} {more most : ℕ} (result : Result (Unit {0}) E) → most ≡ max 2 (length i.heads)
+        → IsRingGrown s t more most result → d ≡ length s.held + s.spares + more → d ≤ 2 ^ 59 → IsTable i t r
+    IsTable-grown result wide grown all within = grind (arith, IsTable-rechained, buckets-same)
 
   -- it rises above the number of buckets: each node can be rehashed
   module _ (d : ℕ) (up : length s.held + s.spares < d) (few : length i.heads < d) where
@@ -246,22 +180,13 @@ module _ {K V : Type 0} {i : BucketState} {s : State (K × V)} {r : ℕ} (table 
         rechained-within r (length s.held) (length s.held + s.spares) d
         (omega (arith, table.few, count)) (omega arith) (omega (arith, up)) buckets-differ
 
-    pub rechained_raised-moves : (len : ℕ)
-        → rechained_raised r len (length s.held + s.spares) d ≡ r + len
+    pub rechained_raised-moves : (len : ℕ) → rechained_raised r len (length s.held + s.spares) d ≡ r + len
     rechained_raised-moves len = ap (λ b. cond b r (r + len)) (ne_eqb (buckets (length s.held + s.spares)) (buckets d) buckets-differ)
 
     -- the ring grew by some spare nodes, and each node was rehashed
-    pub IsTable-raised : {i' : BucketState} {t w : State (K × V)} {most moved : ℕ} (more : ℕ)
-        → t.held ≡ s.held → t.spares ≡ s.spares + more
-        → (s.nodes ≤ most → length s.held + s.spares + more ≤ most → t.nodes ≤ most)
-        → ChangesLinks t w → Indexes i' (spots w.held) → length i'.heads ≡ buckets d
-        → d ≡ length s.held + s.spares + more → d ≤ 2 ^ 59 → most ≡ max 2 (buckets d) → moved ≡ length t.held
+    pub IsTable-raised : {i' : BucketState} {t w : State (K × V)} {most moved : ℕ} (more : ℕ) → t.held ≡ s.held → t.spares ≡ s.spares + more
+        → (s.nodes ≤ most → length s.held + s.spares + more ≤ most → t.nodes ≤ most) → ChangesLinks t w → Indexes i' (spots w.held)
+        → length i'.heads ≡ buckets d → d ≡ length s.held + s.spares + more → d ≤ 2 ^ 59 → most ≡ max 2 (buckets d) → moved ≡ length t.held
         → IsTable i' w (r + moved)
-    IsTable-raised {w = w} more same spares made links indexed wide all within most moved =
-        let enough = buckets-at_least d in
-        let sum : length s.held + w.spares ≡ d = omega (arith, all, spares, links.spares) in
-        let nodes = made (omega (arith, table.nodes_within, few, most, enough)) (omega (arith, all, most, enough)) in
-        let count = moved ∙ ap length same in
-        IsTable-rechained (links.held ∙ ap entries same) (omega (arith, sum, within)) indexed
-        (wide ∙ ap buckets (sym sum)) (omega (arith, rechained-fits, count, wide))
-        (omega (arith, nodes, most, wide, links.nodes, enough, up))
+    IsTable-raised more same spares made links indexed wide all within most moved =
+        grind (arith, buckets-at_least, IsTable-rechained, rechained-fits)

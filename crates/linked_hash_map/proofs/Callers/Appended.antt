@@ -20,8 +20,7 @@ module _ {K V : Type 0} {eq : K → K → Bool} (laws : IsEquivalence eq) (mode 
   is_absent pairs k = not (is_some (find eq pairs k))
 
   -- as many of some keys, which are not k, are absent after an insertion of k as before
-  count_by-put : (pairs : List (K × V)) (k : K) (v : V) (ks : List K)
-      → AllByRecursion (λ j. eq k j ≡ false) ks
+  count_by-put : (pairs : List (K × V)) (k : K) (v : V) (ks : List K) → AllByRecursion (λ j. eq k j ≡ false) ks
       → count_by (is_absent (put eq mode pairs k v)) ks ≡ count_by (is_absent pairs) ks
   count_by-put pairs k v [] apart = refl
   count_by-put pairs k v (j ∷ ks) apart =
@@ -33,10 +32,8 @@ module _ {K V : Type 0} {eq : K → K → Bool} (laws : IsEquivalence eq) (mode 
       ∙ sym (count_by-cons (is_absent pairs) j ks)
 
   -- items with keys that differ add one pair for each key that is absent
-  pub length-insert_each_distinct : (pairs items : List (K × V)) → IsDistinct eq (keys_of pairs)
-      → IsDistinct eq (keys_of items)
-      → length (insert_each eq mode pairs items)
-      ≡ length pairs + count_by (λ k. not (is_some (find eq pairs k))) (keys_of items)
+  pub length-insert_each_distinct : (pairs items : List (K × V)) → IsDistinct eq (keys_of pairs) → IsDistinct eq (keys_of items)
+      → length (insert_each eq mode pairs items) ≡ length pairs + count_by (λ k. not (is_some (find eq pairs k))) (keys_of items)
   length-insert_each_distinct pairs [] distinct differ = omega arith
   length-insert_each_distinct pairs (item ∷ items) distinct differ =
       let put_one = put eq mode pairs item.0 item.1 in
@@ -62,21 +59,13 @@ module _ {K V : Type 0} {eq : K → K → Bool} (laws : IsEquivalence eq) (mode 
 
   -- if the key of the item after the first n is absent once these went in, all items together leave
   -- more pairs
-  pub length-insert_each_next : (pairs items : List (K × V)) (k : K) (v : V) (n : ℕ)
-      → IsDistinct eq (keys_of pairs) → slice_get items n ≡ Some (k, v)
-      → find eq (insert_each eq mode pairs (take n items)) k ≡ None
+  pub length-insert_each_next : (pairs items : List (K × V)) (k : K) (v : V) (n : ℕ) → IsDistinct eq (keys_of pairs)
+      → slice_get items n ≡ Some (k, v) → find eq (insert_each eq mode pairs (take n items)) k ≡ None
       → length (insert_each eq mode pairs (take n items)) + 1 ≤ length (insert_each eq mode pairs items)
   length-insert_each_next pairs [] k v zero distinct there absent = absurd (none_some (k, v) there)
   length-insert_each_next pairs [] k v (suc n) distinct there absent = absurd (none_some (k, v) there)
   length-insert_each_next pairs (item ∷ items) k v zero distinct there absent =
-      let is : item ≡ (k, v) = Some-injective _ _ there in
-      let one = length-put laws mode pairs k v distinct
-      ∙ ap (λ o. cond (is_some o) (length pairs) (length pairs + 1)) absent in
-      let least = length-insert_each_least laws mode (put eq mode pairs item.0 item.1) items
-      (distinct-put laws mode pairs item.0 item.1 distinct) in
-      let same : length (put eq mode pairs item.0 item.1) ≡ length (put eq mode pairs k v) =
-      ap (λ (pair : K × V). length (put eq mode pairs pair.0 pair.1)) is in
-      omega arith
+      grind (arith, Some-injective, length-put, length-insert_each_least, distinct-put)
   length-insert_each_next pairs (item ∷ items) k v (suc n) distinct there absent =
       length-insert_each_next (put eq mode pairs item.0 item.1) items k v n
       (distinct-put laws mode pairs item.0 item.1 distinct) there absent

@@ -1,5 +1,5 @@
 -- For callers: the pairs after some keys were moved to the back, one after another.
-use Rattle.std.proofs.Common.{◌≡◌, ℕ, ◌+◌, ◌<◌, ◌≤◌, Bool, true, false, cond, not, ◌||◌, List, [], ◌∷◌, ◌++◌, filter, fold}
+use Rattle.std.proofs.Common.{◌≡◌, ℕ, ◌+◌, ◌<◌, ◌≤◌, Bool, true, false, cond, not, ◌||◌, List, [], ◌∷◌, ◌++◌, filter, fold, arith}
 use Rattle.std.proofs.Common.{take, length, get_or, nat_eq, Option, Some, None, option_to_list, refl, sym, ap, ap₂, ◌∙◌}
 use Rattle.std.specs.Cmp.{IsEquivalence, nat_eq_equiv}
 use Rattle.std.specs.List.{AllByRecursion, IsDistinct, cons_option, filter_map, list_any}
@@ -20,16 +20,13 @@ filter_map-same f h same [] = refl
 filter_map-same f h same (x ∷ xs) = ap₂ cons_option (same x) (filter_map-same f h same xs)
 
 cons-option : {X : Type 0} (o : Option X) (xs : List X) → option_to_list o ++ xs ≡ cons_option o xs
-cons-option None xs = refl
-cons-option (Some x) xs = refl
+cons-option o xs = grind arith
 
 module _ {K : Type 0} {eq : K → K → Bool} (laws : IsEquivalence eq) where
   none_same : (k stored : K) → eq k stored ≡ true → (keys : List K) → AllByRecursion (λ j. eq k j ≡ false) keys
       → list_any (λ j. eq j stored) keys ≡ false
   none_same k stored same [] apart = refl
-  none_same k stored same (j ∷ keys) apart =
-      ap (λ b. b || list_any (λ i. eq i stored) keys) (laws.symm j stored ∙ sym (laws.congr k stored j same) ∙ apart.0)
-      ∙ none_same k stored same keys apart.1
+  none_same k stored same (j ∷ keys) apart = grind (arith, none_same k stored same keys apart.1)
 
 module _ {K V : Type 0} {eq : K → K → Bool} (laws : IsEquivalence eq) where
   -- a pair with none of the keys
@@ -48,8 +45,7 @@ module _ {K V : Type 0} {eq : K → K → Bool} (laws : IsEquivalence eq) where
       by_test true rest = rest
       by_test false rest = ap (λ ps. cond (has_none keys pair) (pair ∷ ps) ps) rest
 
-  filter-found : (keys : List K) (k : K) (pairs : List (K × V))
-      → AllByRecursion (λ j. eq k j ≡ false) keys
+  filter-found : (keys : List K) (k : K) (pairs : List (K × V)) → AllByRecursion (λ j. eq k j ≡ false) keys
       → filter (has_none keys) (option_to_list (find eq pairs k)) ≡ option_to_list (find eq pairs k)
   filter-found keys k pairs apart = by_pair (find eq pairs k) refl
     where

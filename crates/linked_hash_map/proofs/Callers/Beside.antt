@@ -1,6 +1,6 @@
 -- For callers: the pairs with one moved beside another. Each key finds what it found.
 use Rattle.std.proofs.Common.{◌≡◌, ℕ, suc, ◌+◌, Bool, true, false, cond, not, filter, List, [], ◌∷◌, ◌++◌, take, drop, Option, Some, None}
-use Rattle.std.proofs.Common.{option_map, option_to_list, refl, sym, ap, ap₂, ◌∙◌, arith}
+use Rattle.std.proofs.Common.{option_map, option_to_list, refl, sym, ap, ◌∙◌, arith}
 use Rattle.std.specs.Cmp.{IsEquivalence}
 use Rattle.std.specs.List.{IsDistinct}
 use Rattle.std.specs.Map.{keys_of}
@@ -15,15 +15,12 @@ use Rattle.linked_hash_map.proofs.pairs.Calls.{without-absent}
 use Rattle.linked_hash_map.proofs.pairs.Indexes.{others_differ}
 
 cond-same : {X : Type 0} (b : Bool) (x : X) → cond b x x ≡ x
-cond-same true x = refl
-cond-same false x = refl
+cond-same b x = grind arith
 
 module _ {K V : Type 0} {eq : K → K → Bool} (laws : IsEquivalence eq) (pairs : List (K × V)) (k : K) (n : ℕ) (q : K) where
   -- among that pair alone
   found_alone : (o : Option (K × V)) → find eq pairs k ≡ o → find eq (option_to_list o) q ≡ cond (eq k q) o None
-  found_alone None none = sym (cond-same (eq k q) None)
-  found_alone (Some pair) found = ap (λ b. cond b (Some pair) None)
-      (laws.symm q pair.0 ∙ sym (laws.congr k pair.0 q (eq-find laws pairs k pair found)))
+  found_alone o none = grind (arith, cond-same, eq-find)
 
   by_test : (b : Bool) → eq k q ≡ b
       → option_or (cond b None (find eq (take n pairs) q))
@@ -33,30 +30,17 @@ module _ {K V : Type 0} {eq : K → K → Bool} (laws : IsEquivalence eq) (pairs
   by_test false apart = sym (lookup_entry-append (eq q) (take n pairs) (drop n pairs)) ∙ ap (λ ps. find eq ps q) (take-append-drop n pairs)
 
   pub find-to_behind : find eq (to_behind eq pairs k n) q ≡ find eq pairs q
-  find-to_behind =
-      let front = without eq (take n pairs) k in let back = without eq (drop n pairs) k in let one = option_to_list (find eq pairs k) in
-      lookup_entry-append (eq q) front (one ++ back)
-      ∙ ap₂ option_or (find-without laws (take n pairs) k q)
-      (lookup_entry-append (eq q) one back
-      ∙ ap₂ option_or (found_alone (find eq pairs k) refl) (find-without laws (drop n pairs) k q))
-      ∙ by_test (eq k q) refl
+  find-to_behind = grind (arith, lookup_entry-append, find-without, found_alone, by_test)
 
 -- the keys: the same in that order
 keys_of-option_to_list : {K V : Type 0} (o : Option (K × V)) → keys_of (option_to_list o) ≡ option_to_list (option_map (λ pair. pair.0) o)
-keys_of-option_to_list None = refl
-keys_of-option_to_list (Some pair) = refl
+keys_of-option_to_list o = grind arith
 
 pub keys_of-to_behind : {K V : Type 0} (eq : K → K → Bool) (pairs : List (K × V)) (k : K) (n : ℕ)
     → keys_of (to_behind eq pairs k n)
     ≡ filter (λ j. not (eq k j)) (take n (keys_of pairs))
     ++ (option_to_list (option_map (λ pair. pair.0) (find eq pairs k)) ++ filter (λ j. not (eq k j)) (drop n (keys_of pairs)))
-keys_of-to_behind {K} {V} eq pairs k n =
-    let key : K × V → K = λ pair. pair.0 in let one = option_to_list (find eq pairs k) in
-    map-append key (without eq (take n pairs) k) (one ++ without eq (drop n pairs) k)
-    ∙ ap₂ (λ js ks. js ++ ks) (keys_of-without eq (take n pairs) k ∙ ap (filter (λ j. not (eq k j))) (sym (take-map key n pairs)))
-    (map-append key one (without eq (drop n pairs) k)
-    ∙ ap₂ (λ js ks. js ++ ks) (keys_of-option_to_list (find eq pairs k))
-    (keys_of-without eq (drop n pairs) k ∙ ap (filter (λ j. not (eq k j))) (sym (drop-map key n pairs))))
+keys_of-to_behind eq pairs k n = grind (arith, map-append, keys_of-without, take-map, keys_of-option_to_list, drop-map)
 
 -- a pair beside itself stays in its place
 pub to_before-own : {K V : Type 0} {eq : K → K → Bool} → IsEquivalence eq → (pairs : List (K × V)) (k : K)

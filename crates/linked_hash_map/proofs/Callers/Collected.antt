@@ -1,7 +1,6 @@
 -- For callers: insertions one after another.
-use Rattle.std.proofs.Common.{◌≡◌, ◌+◌, ◌≤◌, Bool, true, false, cond, not, ◌||◌, List, [], ◌∷◌}
-use Rattle.std.proofs.Common.{◌++◌, length, map, filter, reverse, append_assoc, append-nil, Option}
-use Rattle.std.proofs.Common.{Some, is_some, option_map, refl, sym, ap, ap₂, ◌∙◌, arith}
+use Rattle.std.proofs.Common.{◌≡◌, ◌+◌, ◌≤◌, Bool, true, false, cond, not, ◌||◌, List, [], ◌∷◌, ◌++◌, length, map, filter, reverse}
+use Rattle.std.proofs.Common.{append_assoc, append-nil, Option, Some, is_some, option_map, refl, sym, ap, ap₂, ◌∙◌, arith}
 use Rattle.std.specs.Option.{option_or}
 use Rattle.std.specs.List.{IsDistinct, AllByRecursion}
 use Rattle.std.specs.Map.{keys_of}
@@ -22,27 +21,23 @@ use Rattle.linked_hash_map.proofs.Callers.Turns.{find-others}
 pub use Rattle.linked_hash_map.proofs.pairs.Inserts.{insert_each-distinct}
 
 or-false : (b : Bool) → b ≡ (b || false)
-or-false true = refl
-or-false false = refl
+or-false b = grind arith
 
 module _ {K V : Type 0} (eq : K → K → Bool) where
   -- one more item goes in last
   pub insert_each-snoc : (mode : Mode) (pairs items : List (K × V)) (item : K × V)
-      → insert_each eq mode pairs (items ++ item ∷ [])
-      ≡ put eq mode (insert_each eq mode pairs items) item.0 item.1
+      → insert_each eq mode pairs (items ++ item ∷ []) ≡ put eq mode (insert_each eq mode pairs items) item.0 item.1
   insert_each-snoc mode pairs items item = insert_each-last eq mode pairs items item
 
   pub insert_each-append : (mode : Mode) (pairs items others : List (K × V))
-      → insert_each eq mode pairs (items ++ others)
-      ≡ insert_each eq mode (insert_each eq mode pairs items) others
+      → insert_each eq mode pairs (items ++ others) ≡ insert_each eq mode (insert_each eq mode pairs items) others
   insert_each-append mode pairs [] others = refl
   insert_each-append mode pairs (item ∷ items) others = insert_each-append mode (put eq mode pairs item.0 item.1) items others
 
 module _ {K V : Type 0} {eq : K → K → Bool} (laws : IsEquivalence eq) where
   -- a key has the last value that came with it, or what it had
   pub value_at-insert_each : (mode : Mode) (pairs items : List (K × V)) (q : K)
-      → value_at eq (insert_each eq mode pairs items) q
-      ≡ option_or (value_at eq (reverse items) q) (value_at eq pairs q)
+      → value_at eq (insert_each eq mode pairs items) q ≡ option_or (value_at eq (reverse items) q) (value_at eq pairs q)
   value_at-insert_each mode pairs items q =
       by_last (λ items. value_at eq (insert_each eq mode pairs items) q
       ≡ option_or (value_at eq (reverse items) q) (value_at eq pairs q))
@@ -62,13 +57,10 @@ module _ {K V : Type 0} {eq : K → K → Bool} (laws : IsEquivalence eq) where
 
   -- a key is present if it was, or came with some item
   pub is_some-insert_each : (mode : Mode) (pairs items : List (K × V)) (q : K)
-      → is_some (find eq (insert_each eq mode pairs items) q)
-      ≡ (is_some (find eq pairs q) || is_some (find eq items q))
+      → is_some (find eq (insert_each eq mode pairs items) q) ≡ (is_some (find eq pairs q) || is_some (find eq items q))
   is_some-insert_each mode pairs [] q = or-false (is_some (find eq pairs q))
   is_some-insert_each mode pairs (item ∷ items) q =
-      is_some-insert_each mode (put eq mode pairs item.0 item.1) items q
-      ∙ ap (λ o. is_some o || is_some (find eq items q)) (find-put laws mode pairs item.0 q item.1)
-      ∙ by_test (eq q item.0) (laws.symm item.0 q) (is_some (find eq pairs q)) refl
+      grind (arith, find-put, is_some-insert_each mode (put eq mode pairs item.0 item.1) items q)
     where
       by_test : (b : Bool) → eq item.0 q ≡ b → (h : Bool) → is_some (find eq pairs q) ≡ h
           → (is_some (cond (eq item.0 q) (Some (key_or item.0 (find eq pairs item.0), item.1))
@@ -85,22 +77,18 @@ module _ {K V : Type 0} {eq : K → K → Bool} (laws : IsEquivalence eq) where
           || is_some (find eq items q)) same
 
   -- one pair for each item comes at most
-  pub length-insert_each_most : (mode : Mode) (pairs items : List (K × V))
-      → IsDistinct eq (keys_of pairs)
+  pub length-insert_each_most : (mode : Mode) (pairs items : List (K × V)) → IsDistinct eq (keys_of pairs)
       → length (insert_each eq mode pairs items) ≤ length pairs + length items
   length-insert_each_most mode pairs [] distinct = omega arith
   length-insert_each_most mode pairs (item ∷ items) distinct =
       let rest = length-insert_each_most mode (put eq mode pairs item.0 item.1) items
       (distinct-put laws mode pairs item.0 item.1 distinct) in
-      let most = length-put_most eq mode pairs item.0 item.1 in
-      omega arith
+      grind (arith, length-put_most)
 
 -- items whose keys differ: a key has the value that came with it, or what it had
 module _ {K V : Type 0} {eq : K → K → Bool} (laws : IsEquivalence eq) (mode : Mode) where
-  pub value_at-insert_each_distinct : (pairs items : List (K × V)) (q : K)
-      → IsDistinct eq (keys_of items)
-      → value_at eq (insert_each eq mode pairs items) q
-      ≡ option_or (value_at eq items q) (value_at eq pairs q)
+  pub value_at-insert_each_distinct : (pairs items : List (K × V)) (q : K) → IsDistinct eq (keys_of items)
+      → value_at eq (insert_each eq mode pairs items) q ≡ option_or (value_at eq items q) (value_at eq pairs q)
   value_at-insert_each_distinct pairs [] q distinct = refl
   value_at-insert_each_distinct pairs (item ∷ items) q distinct =
       value_at-insert_each_distinct (put eq mode pairs item.0 item.1) items q (IsDistinct-tail eq item.0 (keys_of items) distinct)
@@ -126,21 +114,13 @@ filter-alike one other [] all = refl
 filter-alike one other (k ∷ ks) all = ap₂ (λ b rest. cond b (k ∷ rest) rest) all.0 (filter-alike one other ks all.1)
 
 module _ {K V : Type 0} {eq : K → K → Bool} (laws : IsEquivalence eq) where
-  new-set_or_push : (pairs : List (K × V)) (k : K) (v : V) (ks : List K)
-      → AllByRecursion (λ j. eq k j ≡ false) ks
-      → AllByRecursion
-      (λ j. not (is_some (find eq (set_or_push eq pairs k v) j)) ≡ not (is_some (find eq pairs j)))
-      ks
+  new-set_or_push : (pairs : List (K × V)) (k : K) (v : V) (ks : List K) → AllByRecursion (λ j. eq k j ≡ false) ks
+      → AllByRecursion (λ j. not (is_some (find eq (set_or_push eq pairs k v) j)) ≡ not (is_some (find eq pairs j))) ks
   new-set_or_push pairs k v [] apart = tt
-  new-set_or_push pairs k v (j ∷ ks) apart = (
-    ap (λ o. not (is_some o))
-        (find-set_or_push_apart laws pairs k j v apart.0),
-    new-set_or_push pairs k v ks apart.1,
-  )
+  new-set_or_push pairs k v (j ∷ ks) apart = grind (arith, find-set_or_push_apart, new-set_or_push pairs k v ks apart.1)
 
   pub keys_of-insert_each_keep : (pairs items : List (K × V)) → IsDistinct eq (keys_of items)
-      → keys_of (insert_each eq Keep pairs items)
-      ≡ keys_of pairs ++ filter (λ k. not (is_some (find eq pairs k))) (keys_of items)
+      → keys_of (insert_each eq Keep pairs items) ≡ keys_of pairs ++ filter (λ k. not (is_some (find eq pairs k))) (keys_of items)
   keys_of-insert_each_keep pairs [] distinct = sym (append-nil (keys_of pairs))
   keys_of-insert_each_keep pairs (item ∷ items) distinct =
       let apart = IsDistinct-head eq item.0 (keys_of items) distinct in
@@ -161,8 +141,7 @@ module _ {K V : Type 0} {eq : K → K → Bool} (laws : IsEquivalence eq) where
       by_test false = append_assoc (keys_of pairs) (item.0 ∷ []) (filter (λ k. not (is_some (find eq pairs k))) (keys_of items))
 
 -- in Touch the old keys that do not come again stand before those that come, each as it is stored
-pub filter-filter : {K : Type 0} (one other both : K → Bool)
-    → ((k : K) → cond (other k) (one k) false ≡ both k) → (ks : List K)
+pub filter-filter : {K : Type 0} (one other both : K → Bool) → ((k : K) → cond (other k) (one k) false ≡ both k) → (ks : List K)
     → filter one (filter other ks) ≡ filter both ks
 filter-filter one other both says [] = refl
 filter-filter one other both says (k ∷ ks) = by_test (other k) (says k) (filter-filter one other both says ks)
@@ -179,26 +158,15 @@ pub filter-last : {K : Type 0} (test : K → Bool) (ks : List K) (k : K) → tes
 filter-last test ks k passes = filter-append test ks (k ∷ []) ∙ ap (λ b. filter test ks ++ cond b (k ∷ []) []) passes
 
 module _ {K V : Type 0} {eq : K → K → Bool} (laws : IsEquivalence eq) where
-  stored-to_back : (pairs : List (K × V)) (k : K) (v : V) (ks : List K)
-      → AllByRecursion (λ j. eq k j ≡ false) ks
-      → map (λ j. key_or j (find eq (to_back eq pairs k v) j)) ks
-      ≡ map (λ j. key_or j (find eq pairs j)) ks
+  stored-to_back : (pairs : List (K × V)) (k : K) (v : V) (ks : List K) → AllByRecursion (λ j. eq k j ≡ false) ks
+      → map (λ j. key_or j (find eq (to_back eq pairs k v) j)) ks ≡ map (λ j. key_or j (find eq pairs j)) ks
   stored-to_back pairs k v [] apart = refl
-  stored-to_back pairs k v (j ∷ ks) apart = ap₂ (λ i rest. i ∷ rest)
-      (ap (key_or j) (find-to_back laws pairs k j v ∙ ap (λ b. cond b (Some (key_or k (find eq pairs k), v)) (find eq pairs j)) apart.0))
-      (stored-to_back pairs k v ks apart.1)
+  stored-to_back pairs k v (j ∷ ks) apart = grind (arith, find-to_back, stored-to_back pairs k v ks apart.1)
 
   -- a key does not come again if it is not the first item's and none of the others
   pub not_again : (items : List (K × V)) (item : K × V) (j : K)
-      → cond (not (eq item.0 j)) (not (is_some (find eq items j))) false
-      ≡ not (is_some (cond (eq j item.0) (Some item) (find eq items j)))
-  not_again items item j = by_test (eq item.0 j) (laws.symm j item.0)
-    where
-      by_test : (b : Bool) → eq j item.0 ≡ b
-          → cond (not b) (not (is_some (find eq items j))) false
-          ≡ not (is_some (cond (eq j item.0) (Some item) (find eq items j)))
-      by_test true same = sym (ap (λ b. not (is_some (cond b (Some item) (find eq items j)))) same)
-      by_test false apart = sym (ap (λ b. not (is_some (cond b (Some item) (find eq items j)))) apart)
+      → cond (not (eq item.0 j)) (not (is_some (find eq items j))) false ≡ not (is_some (cond (eq j item.0) (Some item) (find eq items j)))
+  not_again items item j = grind arith
 
   pub keys_of-insert_each_touch : (pairs items : List (K × V)) → IsDistinct eq (keys_of items)
       → keys_of (insert_each eq Touch pairs items)

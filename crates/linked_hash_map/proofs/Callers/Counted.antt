@@ -1,14 +1,13 @@
 -- For callers: a count for each item of a list, one item after another, and the keys in the order
 -- in which they first come.
-use Rattle.std.proofs.Common.{◌≡◌, ℕ, ◌+◌, ◌<◌, Bool, true, false, cond, List, [], ◌∷◌, ◌++◌, length, take, get_or}
-use Rattle.std.proofs.Common.{fold, Option, Some, None, option_map, unwrap_or}
-use Rattle.std.proofs.Common.{refl, sym, ap, subst, ◌∙◌, arith, length-take}
+use Rattle.std.proofs.Common.{◌≡◌, ℕ, ◌+◌, ◌<◌, Bool, true, false, cond, List, [], ◌∷◌, ◌++◌, length, take, get_or, fold, Option, Some}
+use Rattle.std.proofs.Common.{None, option_map, unwrap_or, refl, sym, ap, ◌∙◌, arith, length-take}
 use Rattle.std.specs.Prelude.{if◌then◌else◌}
 use Rattle.std.specs.List.{count_by, list_any}
 use Rattle.std.specs.Map.{keys_of}
 use Rattle.std.specs.Cmp.{IsEquivalence}
 use Rattle.std.proofs.lemmas.List.Sums.{count_by_more_yes, count_by_more_no, count_by-le-length, fold_more}
-use Rattle.linked_hash_map.specs.Pairs.{find, value_at, set_or_push, ActsAs}
+use Rattle.linked_hash_map.specs.Pairs.{value_at, set_or_push, ActsAs}
 use Rattle.linked_hash_map.specs.Updates.{Updates}
 use Rattle.linked_hash_map.proofs.Callers.Lookups.{value_at-same, value_at-set_or_push}
 use Rattle.linked_hash_map.proofs.Callers.Keys.{keys_of-set_or_push, is_some-find}
@@ -18,8 +17,7 @@ module _ {K : Type 0} {eq : K → K → Bool} (laws : IsEquivalence eq) (pairs :
   count_by-set_or_push : (d q : K) {n : ℕ} (i : ℕ) → i < length items
       → ((q : K) → unwrap_or (value_at eq pairs q) 0 ≡ count_by (eq q) (take i items))
       → n ≡ unwrap_or (value_at eq pairs (get_or items i d)) 0 + 1
-      → unwrap_or (value_at eq (set_or_push eq pairs (get_or items i d) n) q) 0
-      ≡ count_by (eq q) (take (i + 1) items)
+      → unwrap_or (value_at eq (set_or_push eq pairs (get_or items i d) n) q) 0 ≡ count_by (eq q) (take (i + 1) items)
   count_by-set_or_push d q {n} i within before more = by_test (eq item q) refl
     where
       item : K
@@ -42,13 +40,9 @@ module _ {K : Type 0} {eq : K → K → Bool} (laws : IsEquivalence eq) (pairs :
           ∙ sym (count_by_more_no (eq q) items i d within (laws.symm q item ∙ apart))
 
   -- a count is at most the number of items so far
-  count-lt-length : (d : K) (i : ℕ) → i < length items
-      → ((q : K) → unwrap_or (value_at eq pairs q) 0 ≡ count_by (eq q) (take i items))
+  count-lt-length : (d : K) (i : ℕ) → i < length items → ((q : K) → unwrap_or (value_at eq pairs q) 0 ≡ count_by (eq q) (take i items))
       → unwrap_or (value_at eq pairs (get_or items i d)) 0 < length items
-  count-lt-length d i within before =
-      let few = count_by-le-length (eq (get_or items i d)) (take i items) in
-      let some = length-take i items in let same = before (get_or items i d) in
-      omega arith
+  count-lt-length d i within before = grind (arith, count_by-le-length, length-take)
 
   -- and its key stands behind the others, if it is new
   keys_of-set_or_push_first_seen : (d : K) (n i : ℕ) → i < length items
@@ -73,12 +67,8 @@ pub record CountsItems {K : Type 0} (eq : K → K → Bool) (counts : List (K ×
   pub order : keys_of counts
       ≡ fold (λ seen item. if list_any (eq item) seen then seen else seen ++ item ∷ []) [] items
 
-pub CountsItems-start : {K : Type 0} (eq : K → K → Bool) (counts : List (K × ℕ)) → counts ≡ []
-    → CountsItems eq counts []
-CountsItems-start eq counts empty = record {
-  count = λ q. ap (λ pairs. unwrap_or (value_at eq pairs q) 0) empty;
-  order = ap keys_of empty;
-}
+pub CountsItems-start : {K : Type 0} (eq : K → K → Bool) (counts : List (K × ℕ)) → counts ≡ [] → CountsItems eq counts []
+CountsItems-start eq counts empty = grind arith
 
 -- a step of the loop, as the clauses of `entry` and of `or_insert` say it: the item k is counted,
 -- and `stored` is the key of its entry
@@ -86,25 +76,12 @@ module _ {K : Type 0} {eq : K → K → Bool} (laws : IsEquivalence eq) {before 
     (items : List K) (i : ℕ) (w : CountsItems eq before (take i items)) (within : i < length items)
     {k : K} (item_is : k ≡ get_or items i k) where
   pub CountsItems-counted : {after : List (K × ℕ)} {stored : K} → ActsAs eq before stored k
-      → after ≡ set_or_push eq before stored (unwrap_or (value_at eq before k) 0 + 1)
-      → CountsItems eq after (take (i + 1) items)
-  CountsItems-counted {after} {stored} acts written = record {
-    count = λ q. ap (λ pairs. unwrap_or (value_at eq pairs q) 0) own
-        ∙ count_by-set_or_push laws before items k q i within w.count (ap (λ j. unwrap_or (value_at eq before j) 0 + 1) item_is);
-    order = ap keys_of own ∙ keys_of-set_or_push_first_seen laws before items k n i within w.order;
-  }
-    where
-      n : ℕ
-      n = unwrap_or (value_at eq before k) 0 + 1
-
-      own : after ≡ set_or_push eq before (get_or items i k) n
-      own = written ∙ acts.sets_or_pushes n ∙ ap (λ j. set_or_push eq before j n) item_is
+      → after ≡ set_or_push eq before stored (unwrap_or (value_at eq before k) 0 + 1) → CountsItems eq after (take (i + 1) items)
+  CountsItems-counted acts written = grind (arith, count_by-set_or_push, keys_of-set_or_push_first_seen)
 
   -- its count so far is below the number of items
   pub CountsItems-below : unwrap_or (value_at eq before k) 0 < length items
-  CountsItems-below =
-      subst (λ j. unwrap_or (value_at eq before j) 0 < length items) (sym item_is)
-      (count-lt-length laws before items k i within w.count)
+  CountsItems-below = grind (arith, count-lt-length)
 
 -- a step of the loop in the form that `grind` applies by itself, with no clause named
 pub CountsItems-set_or_push : {K : Type 0} {eq : K → K → Bool} → IsEquivalence eq
@@ -113,13 +90,7 @@ pub CountsItems-set_or_push : {K : Type 0} {eq : K → K → Bool} → IsEquival
     → n ≡ unwrap_or (value_at eq before (get_or items i d)) 0 + 1
     → (set_or_push eq before (get_or items i d) n ≡ set_or_push eq before (get_or items i d) n)
     × CountsItems eq (set_or_push eq before (get_or items i d) n) (take (i + 1) items)
-CountsItems-set_or_push laws before items i d n w within n_is = (
-  refl,
-  record {
-    count = λ q. count_by-set_or_push laws before items d q i within w.count n_is;
-    order = keys_of-set_or_push_first_seen laws before items d n i within w.order;
-  },
-)
+CountsItems-set_or_push laws before items i d n w within n_is = grind (arith, count_by-set_or_push, keys_of-set_or_push_first_seen)
 
 -- each key has the count that it had at the start, and one more for each of the items that is the
 -- same; a key that had none has none
@@ -128,14 +99,8 @@ pub record CountsKnown {K : Type 0} (eq : K → K → Bool) (start now : List (K
   pub counts : (q : K) → value_at eq now q
       ≡ option_map (λ n. n + count_by (eq q) items) (value_at eq start q)
 
-pub CountsKnown-start : {K : Type 0} (eq : K → K → Bool) (pairs : List (K × ℕ))
-    → CountsKnown eq pairs pairs []
-CountsKnown-start {K} eq pairs = record { counts = λ q. none_more (find eq pairs q) }
-  where
-    none_more : (o : Option (K × ℕ)) → option_map (λ (p : K × ℕ). p.1) o
-        ≡ option_map (λ n. n + 0) (option_map (λ (p : K × ℕ). p.1) o)
-    none_more None = refl
-    none_more (Some p) = let same : p.1 ≡ p.1 + 0 = omega arith in ap (λ (n : ℕ). Some n) same
+pub CountsKnown-start : {K : Type 0} (eq : K → K → Bool) (pairs : List (K × ℕ)) → CountsKnown eq pairs pairs []
+CountsKnown-start eq pairs = grind arith
 
 -- a step of the loop, at the item k
 module _ {K : Type 0} {eq : K → K → Bool} (laws : IsEquivalence eq) {start now : List (K × ℕ)}
@@ -144,8 +109,7 @@ module _ {K : Type 0} {eq : K → K → Bool} (laws : IsEquivalence eq) {start n
   same_item : (q : K) → eq q k ≡ eq q (get_or items i k)
   same_item q = ap (eq q) item_is
 
-  pub CountsKnown-counted : {after : List (K × ℕ)}
-      → Updates eq now after k (option_map (λ n. n + 1) (value_at eq now k))
+  pub CountsKnown-counted : {after : List (K × ℕ)} → Updates eq now after k (option_map (λ n. n + 1) (value_at eq now k))
       → CountsKnown eq start after (take (i + 1) items)
   CountsKnown-counted {after} written = record { counts = λ q. by_test q (eq k q) refl }
     where
@@ -169,16 +133,6 @@ module _ {K : Type 0} {eq : K → K → Bool} (laws : IsEquivalence eq) {start n
           (sym (count_by_more_no (eq q) items i k within (sym (same_item q) ∙ laws.symm q k ∙ apart)))
 
   -- a count grows no further than the number of items
-  pub CountsKnown-fits : (limit n : ℕ)
-      → ((q : K) (m : ℕ) → value_at eq start q ≡ Some m → m + length items < limit)
+  pub CountsKnown-fits : (limit n : ℕ) → ((q : K) (m : ℕ) → value_at eq start q ≡ Some m → m + length items < limit)
       → value_at eq now k ≡ Some n → n + 1 < limit
-  CountsKnown-fits limit n fits own = by_value (value_at eq start k) refl (sym own ∙ w.counts k)
-    where
-      by_value : (o : Option ℕ) → value_at eq start k ≡ o
-          → Some n ≡ option_map (λ m. m + count_by (eq k) (take i items)) o → n + 1 < limit
-      by_value None had is = absurd (let no : Some n ≡ None = is in cc)
-      by_value (Some m) had is =
-          let same : n ≡ m + count_by (eq k) (take i items) = cc in
-          let few = count_by-le-length (eq k) (take i items) in
-          let some = length-take i items in let room = fits k m had in
-          omega arith
+  CountsKnown-fits limit n fits own = grind (arith, count_by-le-length, length-take)

@@ -1,7 +1,6 @@
 -- For callers: pairs cut at one of them, and what each call says of it, in words of the cut.
-use Rattle.std.proofs.Common.{◌≡◌, suc, ◌+◌, Bool, true, false, cond, not, List, [], ◌∷◌, ◌++◌, length, reverse}
-use Rattle.std.proofs.Common.{Some, None, is_some, option_to_list, refl, sym, ap, ap₂, ◌∙◌, subst, true≢false, arith}
-use Rattle.std.proofs.Common.{append_assoc, length-append}
+use Rattle.std.proofs.Common.{◌≡◌, ◌+◌, Bool, false, cond, not, List, [], ◌∷◌, ◌++◌, length, reverse, Some, None, refl, sym, ap, ◌∙◌, subst}
+use Rattle.std.proofs.Common.{arith, append_assoc, length-append}
 use Rattle.std.specs.Cmp.{IsEquivalence}
 use Rattle.std.specs.List.{IsDistinct}
 use Rattle.std.specs.Map.{keys_of}
@@ -27,26 +26,15 @@ module _ {K V : Type 0} {eq : K → K → Bool} (laws : IsEquivalence eq) where
   -- the first pair has another key than one that is found behind it
   apart : (first : K × V) (pairs : List (K × V)) (pair : K × V) → Differ (first ∷ pairs) → find eq pairs pair.0 ≡ Some pair
       → eq pair.0 first.0 ≡ false
-  apart first pairs pair distinct found = by_test (eq pair.0 first.0) refl
-    where
-      by_test : (b : Bool) → eq pair.0 first.0 ≡ b → b ≡ false
-      by_test true same = absurd (true≢false (ap is_some (sym found ∙ find-others laws pairs pair.0 first distinct same)))
-      by_test false different = refl
+  apart first pairs pair distinct found = grind (arith, find-others)
 
   -- the key of a pair finds it, and the others are those before it and behind it
   own : (xs : List (K × V)) (pair : K × V) (ys : List (K × V)) → Differ (xs ++ pair ∷ ys)
       → (find eq (xs ++ pair ∷ ys) pair.0 ≡ Some pair) × (without eq (xs ++ pair ∷ ys) pair.0 ≡ xs ++ ys)
-  own [] pair ys distinct = (
-    ap (λ b. cond b (Some pair) (find eq ys pair.0)) (laws.refl pair.0),
-    ap (λ b. cond (not b) (pair ∷ without eq ys pair.0) (without eq ys pair.0)) (laws.refl pair.0)
-        ∙ without-absent eq ys pair.0 (find-others laws ys pair.0 pair distinct (laws.refl pair.0)),
-  )
+  own [] pair ys distinct = grind (arith, without-absent, find-others)
   own (x ∷ xs) pair ys distinct =
       let others = xs ++ pair ∷ ys in
-      let rest = own xs pair ys (tail x others distinct) in let differs = apart x others pair distinct rest.0 in (
-        ap (λ b. cond b (Some x) (find eq others pair.0)) differs ∙ rest.0,
-        ap (λ b. cond (not b) (x ∷ without eq others pair.0) (without eq others pair.0)) differs ∙ ap (λ ps. x ∷ ps) rest.1,
-      )
+      grind (arith, tail, apart, own xs pair ys (tail x others distinct))
 
   pub find-cut : (xs : List (K × V)) (pair : K × V) (ys : List (K × V)) → Differ (xs ++ pair ∷ ys)
       → find eq (xs ++ pair ∷ ys) pair.0 ≡ Some pair
@@ -56,11 +44,7 @@ module _ {K V : Type 0} {eq : K → K → Bool} (laws : IsEquivalence eq) where
   behind : (xs ys : List (K × V)) (pair : K × V) → Differ (xs ++ ys) → find eq ys pair.0 ≡ Some pair
       → (find eq (xs ++ ys) pair.0 ≡ Some pair) × (find eq xs pair.0 ≡ None)
   behind [] ys pair distinct found = (found, refl)
-  behind (x ∷ xs) ys pair distinct found =
-      let rest = behind xs ys pair (tail x (xs ++ ys) distinct) found in let differs = apart x (xs ++ ys) pair distinct rest.0 in (
-        ap (λ b. cond b (Some x) (find eq (xs ++ ys) pair.0)) differs ∙ rest.0,
-        ap (λ b. cond b (Some x) (find eq xs pair.0)) differs ∙ rest.1,
-      )
+  behind (x ∷ xs) ys pair distinct found = grind (arith, tail, apart, behind xs ys pair (tail x (xs ++ ys) distinct) found)
 
   -- the pairs from that one on, to the back and to the front
   pub from-cut : (xs : List (K × V)) (pair : K × V) (ys : List (K × V)) → Differ (xs ++ pair ∷ ys)
@@ -68,8 +52,7 @@ module _ {K V : Type 0} {eq : K → K → Bool} (laws : IsEquivalence eq) where
   from-cut [] pair ys distinct = ap (λ b. cond b (pair ∷ ys) (from eq ys pair.0)) (laws.refl pair.0)
   from-cut (x ∷ xs) pair ys distinct =
       let others = xs ++ pair ∷ ys in let differ = tail x others distinct in
-      ap (λ b. cond b (x ∷ others) (from eq others pair.0)) (apart x others pair distinct (find-cut xs pair ys differ))
-      ∙ from-cut xs pair ys differ
+      grind (arith, apart, find-cut, differ, from-cut xs pair ys differ)
 
   pub from-cut_reverse : (xs : List (K × V)) (pair : K × V) (ys : List (K × V)) → Differ (xs ++ pair ∷ ys)
       → from eq (reverse (xs ++ pair ∷ ys)) pair.0 ≡ pair ∷ reverse xs
@@ -88,18 +71,12 @@ module _ {K V : Type 0} {eq : K → K → Bool} (laws : IsEquivalence eq) where
   count_before-cut [] pair ys distinct = ap (λ b. cond (not b) (1 + count_before eq ys pair.0) 0) (laws.refl pair.0)
   count_before-cut (x ∷ xs) pair ys distinct =
       let others = xs ++ pair ∷ ys in let differ = tail x others distinct in let rest = count_before-cut xs pair ys differ in
-      let one : 1 + count_before eq others pair.0 ≡ suc (length xs) = omega (arith, rest) in
-      ap (λ b. cond (not b) (1 + count_before eq others pair.0) 0) (apart x others pair distinct (find-cut xs pair ys differ)) ∙ one
+      grind (arith, apart, find-cut, differ)
 
   -- that pair, moved before others right before it
   to_behind-cut : (xs ys : List (K × V)) (pair : K × V) (zs : List (K × V)) → Differ (xs ++ (ys ++ pair ∷ zs))
       → to_behind eq (xs ++ (ys ++ pair ∷ zs)) pair.0 (length xs) ≡ xs ++ pair ∷ (ys ++ zs)
-  to_behind-cut xs ys pair zs distinct =
-      let rest = ys ++ pair ∷ zs in let here = own ys pair zs (right xs rest distinct) in let there = behind xs rest pair distinct here.0 in
-      ap₂ (λ ps qs. without eq ps pair.0 ++ (option_to_list (find eq (xs ++ rest) pair.0) ++ without eq qs pair.0))
-      (take-append_seam xs rest) (drop-append_seam xs rest)
-      ∙ ap₂ (λ ps o. ps ++ (option_to_list o ++ without eq rest pair.0)) (without-absent eq xs pair.0 there.1) there.0
-      ∙ ap (λ ps. xs ++ pair ∷ ps) here.1
+  to_behind-cut xs ys pair zs distinct = grind (arith, own, right, behind, take-append_seam, drop-append_seam, without-absent)
 
   pub to_before-cut : (xs : List (K × V)) (other : K × V) (ys : List (K × V)) (pair : K × V) (zs : List (K × V))
       → Differ (xs ++ other ∷ (ys ++ pair ∷ zs))
@@ -133,6 +110,4 @@ module _ {K V : Type 0} {eq : K → K → Bool} (laws : IsEquivalence eq) where
     find-second = ap (λ ps. find eq ps two.0) (sym between) ∙ find-cut (xs ++ one ∷ []) two ys differ
 
     pub from-second_reverse : from eq (reverse (xs ++ one ∷ two ∷ ys)) two.0 ≡ two ∷ one ∷ reverse xs
-    from-second_reverse =
-        ap (λ ps. from eq (reverse ps) two.0) (sym between) ∙ from-cut_reverse (xs ++ one ∷ []) two ys differ
-        ∙ ap (λ ps. two ∷ ps) (reverse-append xs (one ∷ []))
+    from-second_reverse = grind (arith, between, from-cut_reverse, differ, reverse-append)

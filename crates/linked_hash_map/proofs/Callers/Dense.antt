@@ -1,44 +1,29 @@
 -- For callers: maps whose values are numbers from 0 on, in the order of the places.
-use Rattle.std.proofs.Common.{◌≡◌, ℕ, zero, suc, ◌+◌, ◌<◌, ◌≤◌, Bool, true, false, cond, List, [], ◌∷◌, ◌++◌, length}
-use Rattle.std.proofs.Common.{Option, Some, None, IfSome, IsSome}
-use Rattle.std.proofs.Common.{option_map, refl, subst, ap, ◌∙◌, arith, length-append}
+use Rattle.std.proofs.Common.{◌≡◌, ℕ, zero, suc, ◌+◌, ◌<◌, ◌≤◌, Bool, true, false, cond, List, [], ◌∷◌, ◌++◌, length, Option, Some, None}
+use Rattle.std.proofs.Common.{IfSome, IsSome, option_map, refl, subst, ap, ◌∙◌, arith, length-append}
 use Rattle.std.specs.Cmp.{IsEquivalence}
 use Rattle.std.specs.List.{range_with_len}
 use Rattle.std.specs.Map.{values_of}
 use Rattle.linked_hash_map.specs.Pairs.{find, value_at}
 
-pub values_of-append : {K V : Type 0} (pairs : List (K × V)) (k : K) (v : V)
-    → values_of (pairs ++ (k, v) ∷ []) ≡ values_of pairs ++ v ∷ []
+pub values_of-append : {K V : Type 0} (pairs : List (K × V)) (k : K) (v : V) → values_of (pairs ++ (k, v) ∷ []) ≡ values_of pairs ++ v ∷ []
 values_of-append [] k v = refl
 values_of-append (pair ∷ pairs) k v = ap (λ vs. pair.1 ∷ vs) (values_of-append pairs k v)
 
 pub range_with_len-append : (a n : ℕ) → range_with_len a n ++ (a + n) ∷ [] ≡ range_with_len a (n + 1)
 range_with_len-append a zero = let same : a + 0 ≡ a = omega arith in ap (λ (i : ℕ). i ∷ []) same
-range_with_len-append a (suc n) =
-    let one : suc (n + 1) ≡ suc n + 1 = omega arith in
-    let next : a + suc n ≡ (a + 1) + n = omega arith in
-    ap (λ (i : ℕ). a ∷ (range_with_len (a + 1) n ++ i ∷ [])) next
-    ∙ ap (λ xs. a ∷ xs) (range_with_len-append (a + 1) n) ∙ ap (range_with_len a) one
+range_with_len-append a (suc n) = grind (arith, range_with_len-append (a + 1) n)
 
 -- the next number at the back. The first part shows `grind` the call to match
 pub values_of_dense_push : {K : Type 0} (pairs : List (K × ℕ)) (k : K) (n : ℕ) → n ≡ length pairs
     → values_of pairs ≡ range_with_len 0 (length pairs)
-    → (pairs ++ (k, n) ∷ [] ≡ pairs ++ (k, n) ∷ [])
-    × (values_of (pairs ++ (k, n) ∷ []) ≡ range_with_len 0 (length (pairs ++ (k, n) ∷ [])))
+    → (pairs ++ (k, n) ∷ [] ≡ pairs ++ (k, n) ∷ []) × (values_of (pairs ++ (k, n) ∷ []) ≡ range_with_len 0 (length (pairs ++ (k, n) ∷ [])))
 values_of_dense_push pairs k n next dense =
     let zero_more : n ≡ 0 + length pairs = omega arith in
-    let longer : length pairs + 1 ≡ length (pairs ++ (k, n) ∷ []) = omega (arith, length-append pairs ((k, n) ∷ [])) in (
-      refl,
-      values_of-append pairs k n
-          ∙ ap (λ vs. vs ++ n ∷ []) dense
-          ∙ ap (λ (i : ℕ). range_with_len 0 (length pairs) ++ i ∷ []) zero_more
-          ∙ range_with_len-append 0 (length pairs)
-          ∙ ap (range_with_len 0) longer,
-    )
+    grind (arith, length-append, values_of-append, range_with_len-append)
 
 -- each number is below the number of pairs
-below : {K : Type 0} (eq : K → K → Bool) (a : ℕ) (pairs : List (K × ℕ)) (k : K)
-    → values_of pairs ≡ range_with_len a (length pairs)
+below : {K : Type 0} (eq : K → K → Bool) (a : ℕ) (pairs : List (K × ℕ)) (k : K) → values_of pairs ≡ range_with_len a (length pairs)
     → IfSome (value_at eq pairs k) (λ n. n < a + length pairs)
 below eq a [] k dense = tt
 below {K = K} eq a (pair ∷ pairs) k dense = by_test (eq k pair.0) (below eq (a + 1) pairs k rest)
@@ -61,8 +46,7 @@ below {K = K} eq a (pair ∷ pairs) k dense = by_test (eq k pair.0) (below eq (a
     by_test true less = let is_own = own in omega arith
     by_test false less = weaker (find eq pairs k) less
 
-value_at_dense_below : {K : Type 0} (eq : K → K → Bool) (pairs : List (K × ℕ)) (k : K)
-    → values_of pairs ≡ range_with_len 0 (length pairs)
+value_at_dense_below : {K : Type 0} (eq : K → K → Bool) (pairs : List (K × ℕ)) (k : K) → values_of pairs ≡ range_with_len 0 (length pairs)
     → IfSome (value_at eq pairs k) (λ n. n < length pairs)
 value_at_dense_below {K = K} eq pairs k dense = at_zero (find eq pairs k) (below eq 0 pairs k dense)
   where
@@ -75,8 +59,7 @@ value_at_dense_below {K = K} eq pairs k dense = at_zero (find eq pairs k) (below
 -- at every key at once; the first part shows `grind` the call to match
 pub value_at_dense_each : {K : Type 0} (eq : K → K → Bool) (pairs : List (K × ℕ)) (k : K)
     → values_of pairs ≡ range_with_len 0 (length pairs)
-    → (value_at eq pairs k ≡ value_at eq pairs k)
-    × ((n : ℕ) → value_at eq pairs k ≡ Some n → n < length pairs)
+    → (value_at eq pairs k ≡ value_at eq pairs k) × ((n : ℕ) → value_at eq pairs k ≡ Some n → n < length pairs)
 value_at_dense_each eq pairs k dense = (
   refl,
   λ n found. subst (λ (p : Option ℕ). IfSome p (λ m. m < length pairs)) found
@@ -100,9 +83,8 @@ at_least {K = K} eq a (pair ∷ pairs) k n dense found =
 
 -- keys with one number are the same
 module _ {K : Type 0} {eq : K → K → Bool} (laws : IsEquivalence eq) where
-  one_key : (a : ℕ) (pairs : List (K × ℕ)) (j k : K) (n : ℕ)
-      → values_of pairs ≡ range_with_len a (length pairs) → value_at eq pairs j ≡ Some n
-      → value_at eq pairs k ≡ Some n → eq j k ≡ true
+  one_key : (a : ℕ) (pairs : List (K × ℕ)) (j k : K) (n : ℕ) → values_of pairs ≡ range_with_len a (length pairs)
+      → value_at eq pairs j ≡ Some n → value_at eq pairs k ≡ Some n → eq j k ≡ true
   one_key a [] j k n dense found again = absurd (let no : None ≡ Some n = found in cc)
   one_key a (pair ∷ pairs) j k n dense found again =
       let both : pair.1 ∷ values_of pairs ≡ a ∷ range_with_len (a + 1) (length pairs) = dense in

@@ -1,12 +1,11 @@
 -- For callers: what is true of each pair, as that its value is right, still is after a call.
-use Rattle.std.proofs.Common.{◌≡◌, Bool, true, false, cond, not, List, [], ◌∷◌, ◌++◌}
-use Rattle.std.proofs.Common.{is_some, Option, Some, None, option_to_list, IfSome, refl, subst}
+use Rattle.std.proofs.Common.{◌≡◌, Bool, true, false, cond, not, List, [], ◌∷◌, ◌++◌, arith}
+use Rattle.std.proofs.Common.{is_some, Option, Some, option_to_list, IfSome, refl, subst}
 use Rattle.std.specs.Cmp.{IsEquivalence}
 use Rattle.std.specs.List.{All}
 use Rattle.std.specs.Map.{lookup_entry}
 use Rattle.std.proofs.lemmas.List.Elements.{All-nil, All-cons, All-head, All-tail, All-append, All-push, All-filter}
 use Rattle.linked_hash_map.specs.declared.map.Mode.{Mode}
-use Rattle.linked_hash_map.specs.declared.map.Mode.TheVariants.{Touch, Keep}
 use Rattle.linked_hash_map.specs.Pairs.{key_or, find, without, to_back, to_back_as_is, to_front, set_value, set_or_push, put}
 use Rattle.linked_hash_map.proofs.Callers.Lookups.{eq-stored}
 
@@ -22,8 +21,7 @@ module _ {K V : Type 0} (P : K × V → Type 0) where
       by_test false first rest = rest
 
   All-found : (o : Option (K × V)) → IfSome o P → All P (option_to_list o)
-  All-found None all = All-nil P
-  All-found (Some pair) all = All-push P [] pair (All-nil P) all
+  All-found o all = grind (arith, All-nil, All-push)
 
   module _ {A : Type 0} (eq : A → K → Bool) (pairs : List (K × V)) (k : A) (all : All P pairs) where
     pub All-find : (pair : K × V) → find eq pairs k ≡ Some pair → P pair
@@ -66,5 +64,4 @@ module _ {K V : Type 0} (P : K × V → Type 0) where
 
   pub All-put : {eq : K → K → Bool} → IsEquivalence eq → (mode : Mode) (pairs : List (K × V)) (k : K) (v : V)
       → All P pairs → ((key : K) → eq k key ≡ true → P (key, v)) → All P (put eq mode pairs k v)
-  All-put laws Touch = All-to_back laws
-  All-put laws Keep = All-set_or_push laws
+  All-put laws mode = grind (arith, All-to_back, All-set_or_push)

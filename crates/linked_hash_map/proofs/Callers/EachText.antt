@@ -1,7 +1,6 @@
 -- For callers: `String` keys that are looked up as texts. What is true of the bytes of each key and
 -- its value is true of what a text finds, and still is after a call.
-use Rattle.std.proofs.Common.{◌≡◌, ℕ, true, List, option_map, Option, Some, None, is_some}
-use Rattle.std.proofs.Common.{unwrap_or, refl, sym, ap, subst, true≢false}
+use Rattle.std.proofs.Common.{◌≡◌, ℕ, true, List, option_map, Option, Some, None, is_some, unwrap_or, refl, sym, ap, subst, true≢false}
 use Rattle.std.specs.Cmp.Lexicographic.{bytes_decides}
 use Rattle.std.specs.List.{All}
 use Rattle.std.specs.Prelude.{String, string_eq}

@@ -31,10 +31,8 @@ use Rattle.linked_hash_map.proofs.Callers.Collected.{keys_of-insert_each_keep, k
 module _ {T I X K V : Type 0} {becomes : T → I → Type 0} {steps : I → Option X → I → Type 0}
     {source : T} {eq : K → K → Bool} {shows : X → K × V} {all : List (K × V)} where
   -- `extend` of any source whose items are known
-  pairs-InsertsAll : {mode : Mode} {old new : List (K × V)}
-      → InsertsAll becomes steps source eq shows mode old new
-      → ((it : I) → becomes source it → YieldsList steps shows it all)
-      → new ≡ insert_each eq mode old all
+  pairs-InsertsAll : {mode : Mode} {old new : List (K × V)} → InsertsAll becomes steps source eq shows mode old new
+      → ((it : I) → becomes source it → YieldsList steps shows it all) → new ≡ insert_each eq mode old all
   pairs-InsertsAll {mode} {old} inserts each =
       let gives = inserts.gives in let drains = gives.gives.1 in
       inserts.pairs ∙ ap (insert_each eq mode old) (YieldsList-end (each gives.iterator gives.made)
@@ -60,63 +58,41 @@ module _ {T I K V : Type 0} {becomes : T → I → Type 0} {steps : I → Option
   -- `from_iter` inserts as `extend` of a new map does
   InsertsAll-Collects : Collects becomes steps source remaining eq pairs capacity rechained
       → InsertsAll becomes steps source eq (λ pair. pair) Touch [] pairs
-  InsertsAll-Collects collects = record {
-    given = collects.given;
-    gives = record { iterator = collects.iterator; made = collects.made; gives = collects.gives };
-    pairs = collects.pairs ∙ ap (insert_each eq Touch []) (sym (map-id collects.given));
-  }
+  InsertsAll-Collects collects = grind (arith, map-id)
 
   -- if at most n items are left to come, it rehashed what growing to the capacity does, from room
   -- for at most n
-  rechained-Collects : (n : ℕ)
-      → Collects becomes steps source remaining eq pairs capacity rechained
-      → GivesAtMost becomes remaining source n
-      → (lower : ℕ) × (lower ≤ n) × (rechained ≡ rechained_each 0 lower (capacity - lower))
-  rechained-Collects n collects left =
-      let bound = left collects.iterator collects.made in let lower = collects.hint bound.0 in
-      (collects.lower, omega arith, collects.counted)
+  rechained-Collects : (n : ℕ) → Collects becomes steps source remaining eq pairs capacity rechained
+      → GivesAtMost becomes remaining source n → (lower : ℕ) × (lower ≤ n) × (rechained ≡ rechained_each 0 lower (capacity - lower))
+  rechained-Collects n collects left = grind arith
 
   module _ {all : List (K × V)} (laws : IsEquivalence eq)
       (collects : Collects becomes steps source remaining eq pairs capacity rechained) where
     -- `from_iter` of any source whose items are known
-    pairs-Collects : ((it : I) → becomes source it → YieldsList steps (λ pair. pair) it all)
-        → pairs ≡ insert_each eq Touch [] all
+    pairs-Collects : ((it : I) → becomes source it → YieldsList steps (λ pair. pair) it all) → pairs ≡ insert_each eq Touch [] all
     pairs-Collects each = pairs-InsertsAll (InsertsAll-Collects collects) each
 
     -- if no more items are left to come than come, the capacity is no more than the number of
     -- items
     capacity-Collects : ((it : I) → becomes source it → YieldsList steps (λ pair. pair) it all)
-        → GivesAtMost becomes remaining source (length all)
-        → (length pairs ≤ capacity) × (capacity ≤ length all)
-    capacity-Collects each left =
-        let bound = left collects.iterator collects.made in let lower = collects.hint bound.0 in
-        let most = length-insert_each_most laws Touch [] all (distinct-nil eq) in
-        let length_is = ap length (pairs-Collects each) in let capacity_is = collects.capacity_is in
-        (omega arith, omega arith)
+        → GivesAtMost becomes remaining source (length all) → (length pairs ≤ capacity) × (capacity ≤ length all)
+    capacity-Collects each left = grind (arith, length-insert_each_most, distinct-nil, pairs-Collects)
 
     -- and if their keys differ, it is that number, and the pairs are the items
-    pairs-Collects_distinct : ((it : I) → becomes source it
-        → YieldsList steps (λ pair. pair) it all)
-        → IsDistinct eq (keys_of all) → pairs ≡ all
+    pairs-Collects_distinct : ((it : I) → becomes source it → YieldsList steps (λ pair. pair) it all) → IsDistinct eq (keys_of all)
+        → pairs ≡ all
     pairs-Collects_distinct each distinct = pairs-Collects each ∙ insert_each-distinct laws Touch all distinct
 
-    capacity-Collects_distinct : ((it : I) → becomes source it
-        → YieldsList steps (λ pair. pair) it all)
-        → IsDistinct eq (keys_of all) → GivesAtMost becomes remaining source (length all)
-        → capacity ≡ length all
-    capacity-Collects_distinct each distinct left =
-        let bounds = capacity-Collects each left in
-        let length_is = ap length (pairs-Collects_distinct each distinct) in
-        omega arith
+    capacity-Collects_distinct : ((it : I) → becomes source it → YieldsList steps (λ pair. pair) it all) → IsDistinct eq (keys_of all)
+        → GivesAtMost becomes remaining source (length all) → capacity ≡ length all
+    capacity-Collects_distinct each distinct left = grind (arith, capacity-Collects, pairs-Collects_distinct)
 
 -- if there is room for each item, as after `with_capacity` of their number, `extend` leaves the
 -- capacity
 pub max-length_insert_each : {K V : Type 0} {eq : K → K → Bool} → IsEquivalence eq
-    → (mode : Mode) (pairs items : List (K × V)) (capacity : ℕ) → IsDistinct eq (keys_of pairs)
-    → length pairs + length items ≤ capacity
+    → (mode : Mode) (pairs items : List (K × V)) (capacity : ℕ) → IsDistinct eq (keys_of pairs) → length pairs + length items ≤ capacity
     → max capacity (length (insert_each eq mode pairs items)) ≡ capacity
-max-length_insert_each laws mode pairs items capacity distinct enough =
-    let most = length-insert_each_most laws mode pairs items distinct in omega arith
+max-length_insert_each laws mode pairs items capacity distinct enough = grind (arith, length-insert_each_most)
 
 -- `extend` of a map by value, or by reference: of any source that becomes a list which shows what
 -- is left
@@ -138,8 +114,7 @@ pub pairs-InsertsAll_drain : {T K V : Type 0} {becomes : T → Drain K V → Typ
     {eq : K → K → Bool} {mode : Mode} {old new : List (K × V)} (all : List (K × V))
     → InsertsAll becomes DrainSteps source eq (λ pair. pair) mode old new
     → ((it : Drain K V) → becomes source it → drain_rest it ≡ all) → new ≡ insert_each eq mode old all
-pairs-InsertsAll_drain all inserts left =
-    pairs-InsertsAll inserts (λ it made. YieldsList-from_drain it all (left it made))
+pairs-InsertsAll_drain all inserts left = pairs-InsertsAll inserts (λ it made. YieldsList-from_drain it all (left it made))
 
 -- if the keys of a list differ, as those of a map do: its values win, in Keep the old keys
 -- stand before the new, and in Touch before those that came
@@ -160,22 +135,12 @@ pub record Merges {K V : Type 0} (eq : K → K → Bool) (mode : Mode) (old all 
       ++ map (λ pair. (key_or pair.0 (find eq old pair.0), pair.1)) all
 
 -- as after `append`, of the pairs of another map
-pub Merges-insert_each : {K V : Type 0} {eq : K → K → Bool} → IsEquivalence eq
-    → {mode : Mode} {old new : List (K × V)} (all : List (K × V)) → IsDistinct eq (keys_of all)
-    → new ≡ insert_each eq mode old all → Merges eq mode old all new
-Merges-insert_each {eq = eq} laws {mode} {old} all distinct went =
-    record {
-      pairs = went;
-      values = λ q. ap (λ ps. value_at eq ps q) went ∙ value_at-insert_each_distinct laws mode old all q distinct;
-      keep = λ keep. ap keys_of went ∙ ap (λ m. keys_of (insert_each eq m old all)) keep ∙ keys_of-insert_each_keep laws old all distinct;
-      touch = λ touch. ap keys_of went ∙ ap (λ m. keys_of (insert_each eq m old all)) touch
-          ∙ keys_of-insert_each_touch laws old all distinct;
-      keep_pairs = λ keep. went ∙ ap (λ m. insert_each eq m old all) keep ∙ insert_each-keep laws old all distinct;
-      touch_pairs = λ touch. went ∙ ap (λ m. insert_each eq m old all) touch ∙ insert_each-touch laws old all distinct;
-    }
+pub Merges-insert_each : {K V : Type 0} {eq : K → K → Bool} → IsEquivalence eq → {mode : Mode} {old new : List (K × V)} (all : List (K × V))
+    → IsDistinct eq (keys_of all) → new ≡ insert_each eq mode old all → Merges eq mode old all new
+Merges-insert_each laws all distinct went =
+    grind (arith, value_at-insert_each_distinct, keys_of-insert_each_keep, keys_of-insert_each_touch, insert_each-keep, insert_each-touch)
 
-pub Merges-InsertsAll : {T K V : Type 0} {becomes : T → List (K × V) → Type 0} {source : T}
-    {eq : K → K → Bool} → IsEquivalence eq
+pub Merges-InsertsAll : {T K V : Type 0} {becomes : T → List (K × V) → Type 0} {source : T} {eq : K → K → Bool} → IsEquivalence eq
     → {mode : Mode} {old new : List (K × V)} (all : List (K × V))
     → InsertsAll becomes (TakesFirst (λ (pair : K × V). pair)) source eq (λ pair. pair) mode old new
     → ((it : List (K × V)) → becomes source it → (it ≡ all) × IsDistinct eq (keys_of all)) → Merges eq mode old all new
@@ -191,8 +156,7 @@ module _ {T Z K V : Type 0} (becomes : T → _ → Type 0) (vec : Vec (K × V) Z
   yields : (it : _) → becomes source it → YieldsList into_iter_steps (λ pair. pair) it (vec_items vec)
   yields it made = let told = is it made in YieldsList-from_vec {s = it} (vec_items vec) told.0 (omega (arith, told.1, vec.ok.0))
 
-  pub GivesAtMost-vec : GivesAtMost becomes (λ it. at_most (into_iter_len it)) source
-      (length (vec_items vec))
+  pub GivesAtMost-vec : GivesAtMost becomes (λ it. at_most (into_iter_len it)) source (length (vec_items vec))
   GivesAtMost-vec it made = let told = is it made in (tt, omega (arith, told.1, vec.ok.0))
 
 -- `extend` of a vector, and `from_iter` of one

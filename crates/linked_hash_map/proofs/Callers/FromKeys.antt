@@ -25,8 +25,7 @@ module _ {A K V : Type 0} (eq : A → K → Bool) where
       by_test true found rest = refl
       by_test false found rest = rest found
 
-  pub from-append_absent : (pairs others : List (K × V)) (k : A) → find eq pairs k ≡ None
-      → from eq (pairs ++ others) k ≡ from eq others k
+  pub from-append_absent : (pairs others : List (K × V)) (k : A) → find eq pairs k ≡ None → from eq (pairs ++ others) k ≡ from eq others k
   from-append_absent [] others k absent = refl
   from-append_absent (first ∷ pairs) others k absent = by_test (eq k first.0) absent (from-append_absent pairs others k)
     where

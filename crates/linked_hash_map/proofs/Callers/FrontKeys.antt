@@ -1,6 +1,6 @@
 -- For callers: a pair that was put in and moved to the front, where the last pair may be taken out.
 use Rattle.std.proofs.Common.{◌≡◌, ℕ, ◌-◌, ◌<◌, ◌≤◌, Option, Some, None, zero, suc, length, take, not, List, ◌∷◌, ◌++◌, filter}
-use Rattle.std.proofs.Common.{option_map, option_to_list, cond, refl, ap, sym, ◌∙◌, nat_eq, arith}
+use Rattle.std.proofs.Common.{option_map, option_to_list, cond, refl, ap, ◌∙◌, nat_eq, arith}
 use Rattle.std.specs.Cmp.{nat_eq_equiv}
 use Rattle.std.specs.Map.{keys_of}
 use Rattle.linked_hash_map.specs.declared.map.Mode.{Mode}
@@ -14,8 +14,7 @@ use Rattle.linked_hash_map.proofs.Callers.Lookups.{eq-find}
 pub keys_of-front_few : {V : Type 0} (mode : Mode) (pairs : List (ℕ × V)) (k : ℕ) (v : V) (n : ℕ) {inserted moved : List (ℕ × V)}
     → inserted ≡ put nat_eq mode pairs k v → moved ≡ to_front nat_eq inserted k → length moved ≤ n
     → keys_of moved ≡ take n (k ∷ filter (λ j. not (nat_eq k j)) (keys_of pairs))
-keys_of-front_few mode pairs k v n {inserted} {moved} put_is moved_is few =
-    sym (take-keys_of n moved few) ∙ ap (take n) (keys_of-put_to_front mode pairs k v put_is moved_is)
+keys_of-front_few mode pairs k v n put_is moved_is few = grind (arith, take-keys_of, keys_of-put_to_front)
 
 -- the value of the key, if another pair leaves at the back
 pub value_at-front_kept : {V : Type 0} {pairs inserted moved after : List (ℕ × V)} (k : ℕ) {v : V}

@@ -1,7 +1,6 @@
 -- For callers: insertions at the front.
-use Rattle.std.proofs.Common.{◌≡◌, ◌-◌, Bool, true, false, cond, List, [], ◌∷◌, ◌++◌, length, length-append, take, drop}
-use Rattle.std.proofs.Common.{Option, Some, None, IsSome, is_some}
-use Rattle.std.proofs.Common.{filter, not, option_map, refl, sym, ap, ap₂, ◌∙◌, arith}
+use Rattle.std.proofs.Common.{◌≡◌, ◌-◌, Bool, true, false, cond, List, [], ◌∷◌, ◌++◌, length, length-append, take, drop, Option, Some, None}
+use Rattle.std.proofs.Common.{IsSome, is_some, filter, not, refl, sym, ap, ◌∙◌, arith}
 use Rattle.std.specs.Cmp.{IsEquivalence}
 use Rattle.std.specs.Map.{keys_of}
 use Rattle.linked_hash_map.specs.declared.map.Mode.{Mode}
@@ -29,29 +28,16 @@ module _ {X : Type 0} where
   pub last_to_front-append : (xs : List X) (x : X) → last_to_front (xs ++ x ∷ []) ≡ x ∷ xs
   last_to_front-append xs x =
       let index : length (xs ++ x ∷ []) - 1 ≡ length xs = omega (arith, length-append xs (x ∷ [])) in
-      ap (λ n. drop n (xs ++ x ∷ []) ++ take n (xs ++ x ∷ [])) index
-      ∙ ap₂ (λ ys zs. ys ++ zs) (drop-length xs (x ∷ [])) (take-length xs (x ∷ []))
+      grind (arith, drop-length, take-length)
 
 module _ {K V : Type 0} (eq : K → K → Bool) (mode : Mode) (pairs : List (K × V)) (k : K) (v : V) where
   pub put_front-absent : find eq pairs k ≡ None → put_front eq mode pairs k v ≡ (k, v) ∷ pairs
-  put_front-absent none = by_mode mode
-    where
-      by_mode : (mode : Mode) → put_front eq mode pairs k v ≡ (k, v) ∷ pairs
-      by_mode Touch = ap₂ (λ o ps. (key_or k o, v) ∷ ps) none (without-absent eq pairs k none)
-      by_mode Keep = ap (λ o. cond (is_some o) (set_value eq pairs k v) ((k, v) ∷ pairs)) none
+  put_front-absent none = grind (arith, without-absent)
 
   -- an insertion as usual, and then the last moved to the front in Touch
   pub put_front-put : IsSome (find eq pairs k) → (inserted after : List (K × V)) → inserted ≡ put eq mode pairs k v
       → (mode ≡ Touch → after ≡ last_to_front inserted) → (mode ≡ Keep → after ≡ inserted) → after ≡ put_front eq mode pairs k v
-  put_front-put there inserted after = by_mode mode
-    where
-      by_mode : (mode : Mode) → inserted ≡ put eq mode pairs k v → (mode ≡ Touch → after ≡ last_to_front inserted)
-          → (mode ≡ Keep → after ≡ inserted) → after ≡ put_front eq mode pairs k v
-      by_mode Touch is touch keep = touch refl ∙ ap last_to_front is
-          ∙ last_to_front-append (without eq pairs k) (key_or k (find eq pairs k), v)
-      by_mode Keep is touch keep = keep refl ∙ is
-          ∙ (λ i. cond (there i) (set_value eq pairs k v) (pairs ++ (k, v) ∷ []))
-          ∙ sym (λ i. cond (there i) (set_value eq pairs k v) ((k, v) ∷ pairs))
+  put_front-put there inserted after = grind (arith, last_to_front-append)
 
   pub first-put_front : (after : List (K × V)) → after ≡ put_front eq mode pairs k v → mode ≡ Touch
       → first after ≡ Some (key_or k (find eq pairs k), v)
@@ -63,13 +49,8 @@ module _ {K V : Type 0} (eq : K → K → Bool) (pairs : List (K × V)) (k : K) 
       ≡ key_or k (find eq pairs k) ∷ filter (λ j. not (eq k j)) (keys_of pairs)
   keys_of-put_front_touch = ap (λ ks. key_or k (find eq pairs k) ∷ ks) (keys_of-without eq pairs k)
 
-  pub keys_of-put_front_keep : keys_of (put_front eq Keep pairs k v)
-      ≡ cond (is_some (find eq pairs k)) (keys_of pairs) (k ∷ keys_of pairs)
-  keys_of-put_front_keep = by_test (is_some (find eq pairs k))
-    where
-      by_test : (b : Bool) → keys_of (cond b (set_value eq pairs k v) ((k, v) ∷ pairs)) ≡ cond b (keys_of pairs) (k ∷ keys_of pairs)
-      by_test true = keys_of-set_value eq pairs k v
-      by_test false = refl
+  pub keys_of-put_front_keep : keys_of (put_front eq Keep pairs k v) ≡ cond (is_some (find eq pairs k)) (keys_of pairs) (k ∷ keys_of pairs)
+  keys_of-put_front_keep = grind (arith, keys_of-set_value)
 
 -- what each key finds, in either mode
 module _ {K V : Type 0} {eq : K → K → Bool} (laws : IsEquivalence eq) where
@@ -96,7 +77,4 @@ module _ {K V : Type 0} {eq : K → K → Bool} (laws : IsEquivalence eq) where
 -- the same pairs in another order
 pub Updates-reordered : {K V : Type 0} {eq : K → K → Bool} {before after ordered : List (K × V)} {k : K} {o : Option V}
     → ((q : K) → find eq ordered q ≡ find eq after q) → Updates eq before after k o → Updates eq before ordered k o
-Updates-reordered {k = k} finds updates = record {
-  here = ap (option_map (λ pair. pair.1)) (finds k) ∙ updates.here;
-  others = λ q apart. ap (option_map (λ pair. pair.1)) (finds q) ∙ updates.others q apart;
-}
+Updates-reordered finds updates = grind arith

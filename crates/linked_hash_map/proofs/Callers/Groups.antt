@@ -1,6 +1,6 @@
 -- For callers: maps of vectors, in which a loop collects the items of each key.
 use Rattle.std.proofs.Common.{◌≡◌, ℕ, ◌+◌, ◌<◌, Bool, true, false, cond, List, [], ◌∷◌, ◌++◌, length, take, get_or, filter, append-nil}
-use Rattle.std.proofs.Common.{Option, Some, None, option_map, unwrap_or, Vec, vec_items, nat_eq, refl, sym, ap, ◌∙◌}
+use Rattle.std.proofs.Common.{Option, Some, None, option_map, unwrap_or, Vec, vec_items, nat_eq, refl, sym, ap, ◌∙◌, arith}
 use Rattle.std.specs.Cmp.{IsEquivalence, nat_eq_equiv}
 use Rattle.std.proofs.lemmas.List.{get_or_default}
 use Rattle.std.proofs.lemmas.List.Elements.{filter_more}
@@ -27,10 +27,7 @@ module _ {K X A : Type 0} {eq : K → K → Bool} {key_of : X → Option K} {bef
 
   -- an item without a key
   pub GroupsItems-passed : key_of x ≡ None → GroupsItems eq key_of before (take (i + 1) items)
-  GroupsItems-passed none = record {
-    group = λ q. w.group q ∙ sym (append-nil (filter (has q) (take i items)))
-        ∙ sym (more q ∙ ap (λ o. filter (has q) (take i items) ++ cond (unwrap_or (option_map (λ k. eq q k) o) false) (x ∷ []) []) none);
-  }
+  GroupsItems-passed none = grind (arith, append-nil, more)
 
   -- an item that is pushed to the group of its key k, as the clauses of `entry` and of
   -- `or_insert_with` say it: `stored` is the key of the entry

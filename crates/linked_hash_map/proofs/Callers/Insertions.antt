@@ -13,7 +13,6 @@ use Rattle.linked_hash_map.specs.Commands.{is_refusal}
 use Rattle.linked_hash_map.specs.declared.replay.Command.{Command}
 use Rattle.linked_hash_map.specs.declared.replay.Command.TheVariants.{Insert}
 use Rattle.linked_hash_map.specs.declared.replay.Answer.{Answer}
-use Rattle.linked_hash_map.specs.declared.replay.Answer.TheVariants.{New, Old}
 use Rattle.linked_hash_map.specs.declared.replay.Reply.{Reply}
 use Rattle.linked_hash_map.specs.Pairs.{put}
 use Rattle.linked_hash_map.proofs.Callers.Keys.{length-put_most}
@@ -27,9 +26,7 @@ is_insertion _ = false
 
 no_effects : {K V : Type 0} (len : ℕ) (k : K) (v : V) (answer : Answer K V)
     → is_refusal answer ≡ true → effects len (Insert k v) answer ≡ []
-no_effects len k v New refused = absurd (true≢false (sym refused))
-no_effects len k v (Old w) refused = absurd (true≢false (sym refused))
-no_effects len k v _ refused = refl
+no_effects len k v answer refused = grind arith
 
 -- what a run on a log that defines these pairs leaves
 record Grown {K V : Type 0} (eq : K → K → Bool) (start : ℕ) (log : Log K V) (mode : Mode)
@@ -50,9 +47,8 @@ record Inserted {K V : Type 0} (eq : K → K → Bool) (start : ℕ) (log : Log 
   given : (is_refusal reply.answer ≡ false) ⊎ (length later ≡ length contents)
 
 module _ {K V : Type 0} {eq : K → K → Bool} (laws : IsEquivalence eq) {start : ℕ} {mode : Mode} where
-  inserted : (k : K) (v : V) (reply : Reply K V) {log : Log K V} {contents : List (K × V)}
-      {capacity : ℕ} → Defines eq start log contents capacity mode
-      → IsReply eq start log (Insert k v) reply → (b : Bool) → is_refusal reply.answer ≡ b
+  inserted : (k : K) (v : V) (reply : Reply K V) {log : Log K V} {contents : List (K × V)} {capacity : ℕ}
+      → Defines eq start log contents capacity mode → IsReply eq start log (Insert k v) reply → (b : Bool) → is_refusal reply.answer ≡ b
       → Inserted eq start (log_after eq log (Insert k v) reply.answer) mode contents reply
   inserted k v reply {log} {contents} {capacity} defines is true refused = record {
     later = contents;
@@ -71,9 +67,8 @@ module _ {K V : Type 0} {eq : K → K → Bool} (laws : IsEquivalence eq) {start
         given = inl given;
       }
 
-  grown : (commands : List (Command K V)) (replies : List (Reply K V)) {log : Log K V}
-      {contents : List (K × V)} {capacity : ℕ} → Defines eq start log contents capacity mode
-      → IsRun eq start log commands replies → list_all is_insertion commands ≡ true
+  grown : (commands : List (Command K V)) (replies : List (Reply K V)) {log : Log K V} {contents : List (K × V)} {capacity : ℕ}
+      → Defines eq start log contents capacity mode → IsRun eq start log commands replies → list_all is_insertion commands ≡ true
       → Grown eq start (last_log eq log commands replies) mode contents (length commands) replies
   grown [] [] {contents = contents} {capacity} defines run are =
       record { later = contents; capacity = capacity; defines = defines; most = omega arith; all = λ _. refl }
@@ -98,8 +93,7 @@ module _ {K V : Type 0} {eq : K → K → Bool} (laws : IsEquivalence eq) {start
 -- a run of these commands, each of which is an insertion
 module _ {K V S : Type 0} {eq : K → K → Bool} (laws : IsEquivalence eq) {old new : LinkedMap K V S}
     {commands : List (Command K V)} {replies : List (Reply K V)} (these : List (Command K V)) where
-  pub NoneRefused-inserted : IsValid eq old → Replayed eq old commands replies new
-      → commands ≡ these → list_all is_insertion these ≡ true
+  pub NoneRefused-inserted : IsValid eq old → Replayed eq old commands replies new → commands ≡ these → list_all is_insertion these ≡ true
       → length new.pairs ≡ length old.pairs + length these → NoneRefused replies
   NoneRefused-inserted valid replayed are insertions longer =
       let run = grown laws commands replies (Defines-first laws valid) replayed.run

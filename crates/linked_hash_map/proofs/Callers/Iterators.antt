@@ -19,6 +19,5 @@ YieldsList-from_rev {X} {s} xs is =
     (λ s x t goes. ap reverse goes ∙ reverse-append (rev_source t) (x ∷ [])) s)
 
 pub items_from_rev_collect : {X Z E : Type 0} {s : _} (xs : List X) (r : Result (Vec X Z) E)
-    → IsCollectResult (rev_steps (TakesLast (λ (x : X). x))) s r → rev_source s ≡ xs
-    → IfOk r (λ items. vec_items items ≡ reverse xs)
+    → IsCollectResult (rev_steps (TakesLast (λ (x : X). x))) s r → rev_source s ≡ xs → IfOk r (λ items. vec_items items ≡ reverse xs)
 items_from_rev_collect xs r told is = items_from_collect r told (YieldsList-from_rev xs is)

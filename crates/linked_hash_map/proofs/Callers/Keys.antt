@@ -1,7 +1,7 @@
 -- For callers: which pairs and keys there are after each call, and how many.
-use Rattle.std.proofs.Common.{◌≡◌, ℕ, zero, suc, ◌+◌, ◌-◌, ◌≤◌, Bool, true, false, cond, not, ◌||◌, IsTrue, List, []}
-use Rattle.std.proofs.Common.{◌∷◌, ◌++◌, length, take, drop, option_map, unwrap_or}
-use Rattle.std.proofs.Common.{filter, Option, Some, None, is_some, refl, sym, ap, ◌∙◌, subst, true≢false, arith, length-append}
+use Rattle.std.proofs.Common.{◌≡◌, ℕ, zero, suc, ◌+◌, ◌≤◌, Bool, true, false, cond, not, ◌||◌, IsTrue, List, []}
+use Rattle.std.proofs.Common.{◌∷◌, ◌++◌, length, drop, option_map, unwrap_or}
+use Rattle.std.proofs.Common.{filter, Some, None, is_some, refl, sym, ap, ◌∙◌, subst, true≢false, arith, length-append}
 use Rattle.std.specs.Option.{IsSome}
 use Rattle.std.specs.List.{IsDistinct, list_any}
 use Rattle.std.specs.List as lists
@@ -56,11 +56,7 @@ module _ {A K V : Type 0} (eq : A → K → Bool) (pairs : List (K × V)) (k : A
   is_some-find = is_some-lookup_entry (eq k) pairs
 
   pub IsSome-find : (v : V) → value_at eq pairs k ≡ Some v → IsSome (find eq pairs k)
-  IsSome-find v found = by_pair (find eq pairs k) found
-    where
-      by_pair : (o : Option (K × V)) → option_map (λ pair. pair.1) o ≡ Some v → IsSome o
-      by_pair None found = absurd (true≢false (sym (ap is_some found)))
-      by_pair (Some pair) found = refl
+  IsSome-find v found = grind arith
 
 -- the stored key of a key, or the key itself if it has none, in words of the keys alone
 pub key_or-find : {K V : Type 0} (eq : K → K → Bool) (pairs : List (K × V)) (k : K)
@@ -80,41 +76,26 @@ keys_of-filter kept (pair ∷ pairs) = by_test (kept pair.0) (keys_of-filter kep
     by_test false rest = rest
 
 module _ {A K V : Type 0} (eq : A → K → Bool) where
-  pub keys_of-without : (pairs : List (K × V)) (k : A)
-      → keys_of (without eq pairs k) ≡ filter (λ j. not (eq k j)) (keys_of pairs)
+  pub keys_of-without : (pairs : List (K × V)) (k : A) → keys_of (without eq pairs k) ≡ filter (λ j. not (eq k j)) (keys_of pairs)
   keys_of-without pairs k = keys_of-filter (λ j. not (eq k j)) pairs
 
-  pub keys_of-set_value : (pairs : List (K × V)) (k : A) (v : V)
-      → keys_of (set_value eq pairs k v) ≡ keys_of pairs
+  pub keys_of-set_value : (pairs : List (K × V)) (k : A) (v : V) → keys_of (set_value eq pairs k v) ≡ keys_of pairs
   keys_of-set_value [] k v = refl
   keys_of-set_value (pair ∷ pairs) k v = grind (arith, keys_of-set_value pairs k v)
 
 module _ {K V : Type 0} (eq : K → K → Bool) where
   pub keys_of-to_back : (pairs : List (K × V)) (k : K) (v : V)
-      → keys_of (to_back eq pairs k v)
-      ≡ filter (λ j. not (eq k j)) (keys_of pairs) ++ key_or k (find eq pairs k) ∷ []
-  keys_of-to_back pairs k v =
-      map-append (λ (pair : K × V). pair.0) (without eq pairs k) ((key_or k (find eq pairs k), v) ∷ [])
-      ∙ ap (λ ks. ks ++ key_or k (find eq pairs k) ∷ []) (keys_of-without eq pairs k)
+      → keys_of (to_back eq pairs k v) ≡ filter (λ j. not (eq k j)) (keys_of pairs) ++ key_or k (find eq pairs k) ∷ []
+  keys_of-to_back pairs k v = grind (arith, map-append, keys_of-without)
 
   pub keys_of-set_or_push : (pairs : List (K × V)) (k : K) (v : V)
-      → keys_of (set_or_push eq pairs k v)
-      ≡ cond (is_some (find eq pairs k)) (keys_of pairs) (keys_of pairs ++ k ∷ [])
-  keys_of-set_or_push pairs k v = by_test (is_some (find eq pairs k))
-    where
-      by_test : (b : Bool)
-          → keys_of (cond b (set_value eq pairs k v) (pairs ++ (k, v) ∷ []))
-          ≡ cond b (keys_of pairs) (keys_of pairs ++ k ∷ [])
-      by_test true = keys_of-set_value eq pairs k v
-      by_test false = map-append (λ (pair : K × V). pair.0) pairs ((k, v) ∷ [])
+      → keys_of (set_or_push eq pairs k v) ≡ cond (is_some (find eq pairs k)) (keys_of pairs) (keys_of pairs ++ k ∷ [])
+  keys_of-set_or_push pairs k v = grind (arith, keys_of-set_value, map-append)
 
 -- if equality decides `≡`, the key that goes to the back is the key of the call
-pub keys_of-to_back_own : {K V : Type 0} {eq : K → K → Bool} → IsEquivalence eq
-    → (pairs : List (K × V)) (k : K) (v : V) → ((a b : K) → IsTrue (eq a b) → a ≡ b)
-    → keys_of (to_back eq pairs k v) ≡ filter (λ j. not (eq k j)) (keys_of pairs) ++ k ∷ []
-keys_of-to_back_own {eq = eq} laws pairs k v decides = keys_of-to_back eq pairs k v
-    ∙ ap (λ key. filter (λ j. not (eq k j)) (keys_of pairs) ++ key ∷ [])
-    (sym (decides k (key_or k (find eq pairs k)) (eq-stored laws pairs k)))
+pub keys_of-to_back_own : {K V : Type 0} {eq : K → K → Bool} → IsEquivalence eq → (pairs : List (K × V)) (k : K) (v : V)
+    → ((a b : K) → IsTrue (eq a b) → a ≡ b) → keys_of (to_back eq pairs k v) ≡ filter (λ j. not (eq k j)) (keys_of pairs) ++ k ∷ []
+keys_of-to_back_own laws pairs k v decides = grind (arith, keys_of-to_back, eq-stored)
 
 -- how many there are
 module _ {K V : Type 0} (eq : K → K → Bool) where
@@ -123,8 +104,7 @@ module _ {K V : Type 0} (eq : K → K → Bool) where
       → find eq pairs k ≡ None → length (put eq mode pairs k v) ≡ length pairs + 1
   length-put_absent mode pairs k v none =
       let pushed = ap length (put-absent eq mode pairs k v none) in
-      let longer = length-append pairs ((k, v) ∷ []) in
-      omega arith
+      grind (arith, length-append)
 
 module _ {K V : Type 0} {eq : K → K → Bool} (laws : IsEquivalence eq) where
   pub length-without_present : (pairs : List (K × V)) (k : K) → IsDistinct eq (keys_of pairs)
@@ -133,24 +113,20 @@ module _ {K V : Type 0} {eq : K → K → Bool} (laws : IsEquivalence eq) where
       subst (λ (b : Bool). length (without eq pairs k) + cond b 1 0 ≡ length pairs) found
       (length-without laws pairs k distinct)
 
-  pub length-put_present : (mode : Mode) (pairs : List (K × V)) (k : K) (v : V)
-      → IsDistinct eq (keys_of pairs) → IsSome (find eq pairs k)
+  pub length-put_present : (mode : Mode) (pairs : List (K × V)) (k : K) (v : V) → IsDistinct eq (keys_of pairs) → IsSome (find eq pairs k)
       → length (put eq mode pairs k v) ≡ length pairs
   length-put_present mode pairs k v distinct found = length-put laws mode pairs k v distinct
       ∙ ap (λ b. cond b (length pairs) (length pairs + 1)) found
 
-  pub length-to_back_present : (pairs : List (K × V)) (k : K) (v : V)
-      → IsDistinct eq (keys_of pairs) → IsSome (find eq pairs k)
+  pub length-to_back_present : (pairs : List (K × V)) (k : K) (v : V) → IsDistinct eq (keys_of pairs) → IsSome (find eq pairs k)
       → length (to_back eq pairs k v) ≡ length pairs
   length-to_back_present = length-put_present Touch
 
 -- one more pair at most
 most : (b : Bool) (n length_after : ℕ) → length_after ≡ cond b n (n + 1) → length_after ≤ n + 1
-most true n length_after h = omega arith
-most false n length_after h = omega arith
+most b n length_after h = grind arith
 
-pub length-set_or_push_most : {K V : Type 0} (eq : K → K → Bool) (pairs : List (K × V))
-    (k : K) (v : V)
+pub length-set_or_push_most : {K V : Type 0} (eq : K → K → Bool) (pairs : List (K × V)) (k : K) (v : V)
     → length (set_or_push eq pairs k v) ≤ length pairs + 1
 length-set_or_push_most eq pairs k v = most (is_some (find eq pairs k)) (length pairs)
     (length (set_or_push eq pairs k v)) (length-set_or_push eq pairs k v)
@@ -183,8 +159,7 @@ module _ {K V : Type 0} (pairs : List (K × V)) where
   keys_of-without_first = sym (drop-map (λ (pair : K × V). pair.0) 1 pairs)
 
   pub keys_of-without_last : keys_of (without_last pairs) ≡ without_last (keys_of pairs)
-  keys_of-without_last = sym (take-map (λ (pair : K × V). pair.0) (length pairs - 1) pairs)
-      ∙ ap (λ (n : ℕ). take (n - 1) (keys_of pairs)) (sym (length-map pairs (λ (pair : K × V). pair.0)))
+  keys_of-without_last = grind (arith, take-map, length-map)
 
   pub first-keys_of : first (keys_of pairs) ≡ option_map (λ pair. pair.0) (first pairs)
   first-keys_of = by_list pairs

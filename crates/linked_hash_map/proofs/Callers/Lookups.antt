@@ -1,15 +1,13 @@
 -- For callers: what a map has at a key after each call.
-use Rattle.std.proofs.Common.{◌≡◌, ◌-◌, Bool, true, false, cond, not, List, [], ◌∷◌, ◌++◌, length}
-use Rattle.std.proofs.Common.{length-append, drop, remove, slice_get, filter, Option, Some, None}
-use Rattle.std.proofs.Common.{is_some, option_map, refl, sym, ap, ap₂, ◌∙◌, true≢false, arith}
+use Rattle.std.proofs.Common.{◌≡◌, ◌-◌, Bool, true, false, cond, not, List, [], ◌∷◌, ◌++◌, length, length-append, drop, remove, slice_get}
+use Rattle.std.proofs.Common.{filter, Option, Some, None, is_some, option_map, refl, sym, ap, ◌∙◌, true≢false, arith}
 use Rattle.std.specs.List.{IsDistinct}
 use Rattle.std.specs.Option.{option_or}
 use Rattle.std.specs.Map.{lookup_entry, keys_of}
 use Rattle.std.specs.Cmp.{IsEquivalence}
 use Rattle.linked_hash_map.specs.declared.map.Mode.{Mode}
-use Rattle.linked_hash_map.specs.declared.map.Mode.TheVariants.{Touch, Keep}
+use Rattle.linked_hash_map.specs.declared.map.Mode.TheVariants.{Touch}
 use Rattle.linked_hash_map.specs.Pairs.{last, key_or, find, value_at, without, to_back, set_value, set_or_push, put}
-use Rattle.linked_hash_map.proofs.lists.Elements.{option_or_none}
 use Rattle.linked_hash_map.proofs.log.LiveKeys.{same_test}
 use Rattle.linked_hash_map.proofs.pairs.Indexes.{without-own, slice_get-last}
 
@@ -23,23 +21,18 @@ last-append xs x =
 -- as the pair of an insertion in Touch does
 pub last-put : {K V : Type 0} (eq : K → K → Bool) (mode : Mode) (before after : List (K × V)) (k : K)
     (v : V) → after ≡ put eq mode before k v → mode ≡ Touch → last after ≡ Some (key_or k (find eq before k), v)
-last-put eq mode before after k v changed touch =
-    ap last (changed ∙ ap (λ m. put eq m before k v) touch)
-    ∙ last-append (without eq before k) (key_or k (find eq before k), v)
+last-put eq mode before after k v changed touch = grind (arith, last-append)
 
 cond-none : {X : Type 0} (b : Bool) (x : Option X) → cond (not b) x None ≡ cond b None x
-cond-none true x = refl
-cond-none false x = refl
+cond-none b x = grind arith
 
 option_map-cond : {X Y : Type 0} (f : X → Y) (b : Bool) (x y : Option X)
     → option_map f (cond b x y) ≡ cond b (option_map f x) (option_map f y)
-option_map-cond f true x y = refl
-option_map-cond f false x y = refl
+option_map-cond f b x y = grind arith
 
 -- a lookup in two lists, one after the other
 pub lookup_entry-append : {K V : Type 0} (test : K → Bool) (pairs others : List (K × V))
-    → lookup_entry test (pairs ++ others)
-    ≡ option_or (lookup_entry test pairs) (lookup_entry test others)
+    → lookup_entry test (pairs ++ others) ≡ option_or (lookup_entry test pairs) (lookup_entry test others)
 lookup_entry-append test [] others = refl
 lookup_entry-append test (pair ∷ pairs) others = by_test (test pair.0) (lookup_entry-append test pairs others)
   where
@@ -53,23 +46,17 @@ lookup_entry-append test (pair ∷ pairs) others = by_test (test pair.0) (lookup
 
 option_map-option_or : {X Y : Type 0} (f : X → Y) (x y : Option X)
     → option_map f (option_or x y) ≡ option_or (option_map f x) (option_map f y)
-option_map-option_or f None y = refl
-option_map-option_or f (Some x) y = refl
+option_map-option_or f x y = grind arith
 
 -- the value of a key in a list with one pair more at its end: what it has among the others, and
 -- else that of the last pair
 pub value_at-append : {K V : Type 0} (eq : K → K → Bool) (pairs : List (K × V)) (k q : K) (v : V)
-    → value_at eq (pairs ++ (k, v) ∷ []) q
-    ≡ option_or (value_at eq pairs q) (cond (eq q k) (Some v) None)
-value_at-append eq pairs k q v =
-    ap (option_map (λ pair. pair.1)) (lookup_entry-append (eq q) pairs ((k, v) ∷ []))
-    ∙ option_map-option_or (λ pair. pair.1) (lookup_entry (eq q) pairs) (cond (eq q k) (Some (k, v)) None)
-    ∙ ap (option_or (value_at eq pairs q)) (option_map-cond (λ pair. pair.1) (eq q k) (Some (k, v)) None)
+    → value_at eq (pairs ++ (k, v) ∷ []) q ≡ option_or (value_at eq pairs q) (cond (eq q k) (Some v) None)
+value_at-append eq pairs k q v = grind (arith, lookup_entry-append, option_map-option_or, option_map-cond)
 
 -- a lookup among the pairs of which a test holds that returns b at each key that the lookup may
 -- find
-lookup_entry-filter : {K V : Type 0} (test kept : K → Bool) (b : Bool)
-    → ((k : K) → test k ≡ true → kept k ≡ b) → (pairs : List (K × V))
+lookup_entry-filter : {K V : Type 0} (test kept : K → Bool) (b : Bool) → ((k : K) → test k ≡ true → kept k ≡ b) → (pairs : List (K × V))
     → lookup_entry test (filter (λ pair. kept pair.0) pairs) ≡ cond b (lookup_entry test pairs) None
 lookup_entry-filter test kept true alike [] = refl
 lookup_entry-filter test kept false alike [] = refl
@@ -99,8 +86,7 @@ lookup_entry-filter test kept b alike (pair ∷ pairs) =
     by_test false false is passes rest = rest
 
 remove-first : {X : Type 0} (xs : List X) → drop 1 xs ≡ remove xs 0
-remove-first [] = refl
-remove-first (x ∷ xs) = refl
+remove-first xs = grind arith
 
 -- what is the same as a key tells it from another as that key does
 alike : {K : Type 0} {eq : K → K → Bool} → IsEquivalence eq → (k q j : K) → eq q j ≡ true → eq k j ≡ eq k q
@@ -108,17 +94,14 @@ alike laws k q j same = laws.symm k j ∙ sym (laws.congr q j k same) ∙ laws.s
 
 module _ {K V : Type 0} {eq : K → K → Bool} (laws : IsEquivalence eq) where
   -- two names of one key find one pair, and one value
-  pub find-same : (pairs : List (K × V)) (j k : K) → eq j k ≡ true
-      → find eq pairs j ≡ find eq pairs k
+  pub find-same : (pairs : List (K × V)) (j k : K) → eq j k ≡ true → find eq pairs j ≡ find eq pairs k
   find-same pairs j k same = ap (λ test. lookup_entry test pairs) (same_test laws j k same)
 
-  pub value_at-same : (pairs : List (K × V)) (j k : K) → eq j k ≡ true
-      → value_at eq pairs j ≡ value_at eq pairs k
+  pub value_at-same : (pairs : List (K × V)) (j k : K) → eq j k ≡ true → value_at eq pairs j ≡ value_at eq pairs k
   value_at-same pairs j k same = ap (option_map (λ pair. pair.1)) (find-same pairs j k same)
 
   -- the key of the pair that is found is the key asked for
-  pub eq-find : (pairs : List (K × V)) (k : K) (pair : K × V) → find eq pairs k ≡ Some pair
-      → eq k pair.0 ≡ true
+  pub eq-find : (pairs : List (K × V)) (k : K) (pair : K × V) → find eq pairs k ≡ Some pair → eq k pair.0 ≡ true
   eq-find [] k pair found = absurd (true≢false (sym (ap is_some found)))
   eq-find (first ∷ pairs) k pair found = by_test (eq k first.0) refl found (eq-find pairs k pair)
     where
@@ -128,39 +111,30 @@ module _ {K V : Type 0} {eq : K → K → Bool} (laws : IsEquivalence eq) where
       by_test false same found rest = rest found
 
   eq-key_or : (k : K) (o : Option (K × V)) → ((pair : K × V) → o ≡ Some pair → eq k pair.0 ≡ true) → eq k (key_or k o) ≡ true
-  eq-key_or k None found = laws.refl k
-  eq-key_or k (Some pair) found = found pair refl
+  eq-key_or k o found = grind arith
 
   -- the stored key that a key has, or gets, is the same key
   pub eq-stored : (pairs : List (K × V)) (k : K) → eq k (key_or k (find eq pairs k)) ≡ true
   eq-stored pairs k = eq-key_or k (find eq pairs k) (eq-find pairs k)
 
   -- after `remove`
-  pub find-without : (pairs : List (K × V)) (k q : K)
-      → find eq (without eq pairs k) q ≡ cond (eq k q) None (find eq pairs q)
+  pub find-without : (pairs : List (K × V)) (k q : K) → find eq (without eq pairs k) q ≡ cond (eq k q) None (find eq pairs q)
   find-without pairs k q =
       lookup_entry-filter (eq q) (λ j. not (eq k j)) (not (eq k q)) (λ j same. ap not (alike laws k q j same)) pairs
       ∙ cond-none (eq k q) (find eq pairs q)
 
   pushed : (q key : K) (v : V) (b : Bool) (o : Option (K × V)) → eq q key ≡ b
       → option_or (cond b None o) (lookup_entry (eq q) ((key, v) ∷ [])) ≡ cond b (Some (key, v)) o
-  pushed q key v true o same = ap (λ b. cond b (Some (key, v)) None) same
-  pushed q key v false o same = ap (λ b. option_or o (cond b (Some (key, v)) None)) same ∙ option_or_none o
+  pushed q key v b o same = grind arith
 
   -- after `insert`
   pub find-to_back : (pairs : List (K × V)) (k q : K) (v : V)
-      → find eq (to_back eq pairs k v) q
-      ≡ cond (eq k q) (Some (key_or k (find eq pairs k), v)) (find eq pairs q)
-  find-to_back pairs k q v =
-      let key = key_or k (find eq pairs k) in
-      lookup_entry-append (eq q) (without eq pairs k) ((key, v) ∷ [])
-      ∙ ap (λ o. option_or o (lookup_entry (eq q) ((key, v) ∷ []))) (find-without pairs k q)
-      ∙ pushed q key v (eq k q) (find eq pairs q) (laws.symm q key ∙ sym (laws.congr k key q (eq-stored pairs k)))
+      → find eq (to_back eq pairs k v) q ≡ cond (eq k q) (Some (key_or k (find eq pairs k), v)) (find eq pairs q)
+  find-to_back pairs k q v = grind (arith, lookup_entry-append, find-without, pushed, eq-stored)
 
   -- after a value is written, as through `get_mut`
   find-set_value : (pairs : List (K × V)) (k q : K) (v : V)
-      → find eq (set_value eq pairs k v) q
-      ≡ cond (eq k q) (option_map (λ pair. (pair.0, v)) (find eq pairs q)) (find eq pairs q)
+      → find eq (set_value eq pairs k v) q ≡ cond (eq k q) (option_map (λ pair. (pair.0, v)) (find eq pairs q)) (find eq pairs q)
   find-set_value [] k q v = elim (eq k q) as (λ b. None ≡ cond {A = Option (K × V)} b None None) [ true ↦ refl | false ↦ refl ]
   find-set_value (pair ∷ pairs) k q v = by_test (eq k pair.0) (eq q pair.0) refl refl (find-set_value pairs k q v)
     where
@@ -181,70 +155,34 @@ module _ {K V : Type 0} {eq : K → K → Bool} (laws : IsEquivalence eq) where
 
   -- after a value is written through what `or_insert` lends
   find-set_or_push : (pairs : List (K × V)) (k q : K) (v : V)
-      → find eq (set_or_push eq pairs k v) q
-      ≡ cond (eq k q) (Some (key_or k (find eq pairs k), v)) (find eq pairs q)
-  find-set_or_push pairs k q v = by_pair (find eq pairs k) refl
-    where
-      present : (b : Bool) (pair : K × V) → eq k q ≡ b → find eq pairs k ≡ Some pair
-          → cond b (option_map (λ p. (p.0, v)) (find eq pairs q)) (find eq pairs q)
-          ≡ cond b (Some (pair.0, v)) (find eq pairs q)
-      present true pair same found = ap (option_map (λ p. (p.0, v))) (sym (find-same pairs k q same) ∙ found)
-      present false pair same found = refl
-
-      absent : (b : Bool) → eq k q ≡ b → find eq pairs k ≡ None → find eq pairs q ≡ cond b None (find eq pairs q)
-      absent true same none = sym (find-same pairs k q same) ∙ none
-      absent false same none = refl
-
-      by_pair : (o : Option (K × V)) → find eq pairs k ≡ o
-          → lookup_entry (eq q) (cond (is_some o) (set_value eq pairs k v) (pairs ++ (k, v) ∷ []))
-          ≡ cond (eq k q) (Some (key_or k o, v)) (find eq pairs q)
-      by_pair None none =
-          lookup_entry-append (eq q) pairs ((k, v) ∷ [])
-          ∙ ap (λ o. option_or o (lookup_entry (eq q) ((k, v) ∷ []))) (absent (eq k q) refl none)
-          ∙ pushed q k v (eq k q) (find eq pairs q) (laws.symm q k)
-      by_pair (Some pair) found = find-set_value pairs k q v ∙ present (eq k q) pair refl found
+      → find eq (set_or_push eq pairs k v) q ≡ cond (eq k q) (Some (key_or k (find eq pairs k), v)) (find eq pairs q)
+  find-set_or_push pairs k q v = grind (arith, find-same, lookup_entry-append, pushed, find-set_value)
 
   -- after `insert` in either mode
   pub find-put : (mode : Mode) (pairs : List (K × V)) (k q : K) (v : V)
-      → find eq (put eq mode pairs k v) q
-      ≡ cond (eq k q) (Some (key_or k (find eq pairs k), v)) (find eq pairs q)
-  find-put Touch = find-to_back
-  find-put Keep = find-set_or_push
+      → find eq (put eq mode pairs k v) q ≡ cond (eq k q) (Some (key_or k (find eq pairs k), v)) (find eq pairs q)
+  find-put mode = grind (arith, find-to_back, find-set_or_push)
 
   -- the value that a key has after each of these
-  pub value_at-without : (pairs : List (K × V)) (k q : K)
-      → value_at eq (without eq pairs k) q ≡ cond (eq k q) None (value_at eq pairs q)
-  value_at-without pairs k q = ap (option_map (λ pair. pair.1)) (find-without pairs k q)
-      ∙ option_map-cond (λ pair. pair.1) (eq k q) None (find eq pairs q)
+  pub value_at-without : (pairs : List (K × V)) (k q : K) → value_at eq (without eq pairs k) q ≡ cond (eq k q) None (value_at eq pairs q)
+  value_at-without pairs k q = grind (arith, find-without, option_map-cond)
 
   value_at-to_back : (pairs : List (K × V)) (k q : K) (v : V)
       → value_at eq (to_back eq pairs k v) q ≡ cond (eq k q) (Some v) (value_at eq pairs q)
-  value_at-to_back pairs k q v =
-      ap (option_map (λ pair. pair.1)) (find-to_back pairs k q v)
-      ∙ option_map-cond (λ pair. pair.1) (eq k q) (Some (key_or k (find eq pairs k), v)) (find eq pairs q)
+  value_at-to_back pairs k q v = grind (arith, find-to_back, option_map-cond)
 
   pub value_at-set_or_push : (pairs : List (K × V)) (k q : K) (v : V)
       → value_at eq (set_or_push eq pairs k v) q ≡ cond (eq k q) (Some v) (value_at eq pairs q)
-  value_at-set_or_push pairs k q v =
-      ap (option_map (λ pair. pair.1)) (find-set_or_push pairs k q v)
-      ∙ option_map-cond (λ pair. pair.1) (eq k q) (Some (key_or k (find eq pairs k), v)) (find eq pairs q)
+  value_at-set_or_push pairs k q v = grind (arith, find-set_or_push, option_map-cond)
 
   pub value_at-put : (mode : Mode) (pairs : List (K × V)) (k q : K) (v : V)
       → value_at eq (put eq mode pairs k v) q ≡ cond (eq k q) (Some v) (value_at eq pairs q)
-  value_at-put Touch = value_at-to_back
-  value_at-put Keep = value_at-set_or_push
+  value_at-put mode = grind (arith, value_at-to_back, value_at-set_or_push)
 
   -- after a removal and an insertion, or an insertion in Touch by the stored key
   pub value_at-without_append : (pairs : List (K × V)) (k q : K) (v : V)
       → value_at eq (without eq pairs k ++ (k, v) ∷ []) q ≡ cond (eq k q) (Some v) (value_at eq pairs q)
-  value_at-without_append pairs k q v = let more = value_at-append eq (without eq pairs k) k q v in
-      let others = value_at-without pairs k q in let same = laws.symm q k in
-      more ∙ by_test (eq k q) (value_at eq (without eq pairs k) q) (value_at eq pairs q) (eq q k) others same
-    where
-      by_test : (b : Bool) (o p : Option V) (c : Bool) → o ≡ cond b None p → c ≡ b
-          → option_or o (cond c (Some v) None) ≡ cond b (Some v) p
-      by_test true o p c others same = ap₂ (λ (r : Option V) (d : Bool). option_or r (cond d (Some v) None)) others same
-      by_test false o p c others same = ap₂ (λ (r : Option V) (d : Bool). option_or r (cond d (Some v) None)) others same ∙ option_or_none p
+  value_at-without_append pairs k q v = grind (arith, value_at-append, value_at-without)
 
   -- at the key of the call
   module _ (pairs : List (K × V)) (k : K) where
@@ -260,14 +198,11 @@ module _ {K V : Type 0} {eq : K → K → Bool} (laws : IsEquivalence eq) where
     pub value_at-set_or_push_here : (v : V) → value_at eq (set_or_push eq pairs k v) k ≡ Some v
     value_at-set_or_push_here v = value_at-set_or_push pairs k k v ∙ ap (λ b. cond b (Some v) (value_at eq pairs k)) (laws.refl k)
 
-  pub value_at-put_here : (mode : Mode) (pairs : List (K × V)) (k : K) (v : V)
-      → value_at eq (put eq mode pairs k v) k ≡ Some v
-  value_at-put_here Touch = value_at-to_back_here
-  value_at-put_here Keep = value_at-set_or_push_here
+  pub value_at-put_here : (mode : Mode) (pairs : List (K × V)) (k : K) (v : V) → value_at eq (put eq mode pairs k v) k ≡ Some v
+  value_at-put_here mode = grind (arith, value_at-to_back_here, value_at-set_or_push_here)
 
   -- at another key
-  pub value_at-without_apart : (pairs : List (K × V)) (k q : K) → eq k q ≡ false
-      → value_at eq (without eq pairs k) q ≡ value_at eq pairs q
+  pub value_at-without_apart : (pairs : List (K × V)) (k q : K) → eq k q ≡ false → value_at eq (without eq pairs k) q ≡ value_at eq pairs q
   value_at-without_apart pairs k q apart = value_at-without pairs k q ∙ ap (λ b. cond b None (value_at eq pairs q)) apart
 
   module _ (pairs : List (K × V)) (k q : K) (v : V) (apart : eq k q ≡ false) where
@@ -282,8 +217,7 @@ module _ {K V : Type 0} {eq : K → K → Bool} (laws : IsEquivalence eq) where
 
   pub value_at-put_apart : (mode : Mode) (pairs : List (K × V)) (k q : K) (v : V) → eq k q ≡ false
       → value_at eq (put eq mode pairs k v) q ≡ value_at eq pairs q
-  value_at-put_apart Touch = value_at-to_back_apart
-  value_at-put_apart Keep = value_at-set_or_push_apart
+  value_at-put_apart mode = grind (arith, value_at-to_back_apart, value_at-set_or_push_apart)
 
   -- if the keys differ, a pop removes what the first key has, as `remove` of that key does
   pub drop-first : (pairs : List (K × V)) (pair : K × V) → IsDistinct eq (keys_of pairs)

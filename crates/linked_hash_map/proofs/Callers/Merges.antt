@@ -1,7 +1,6 @@
 -- For callers: insertions of items with distinct keys one by one, as one list.
-use Rattle.std.proofs.Common.{◌≡◌, Bool, true, false, cond, not, List, [], ◌∷◌, ◌++◌, map, filter, append_assoc}
-use Rattle.std.proofs.Common.{append-nil, Option, Some, None}
-use Rattle.std.proofs.Common.{is_some, option_map, unwrap_or, refl, sym, ap, ap₂, ◌∙◌}
+use Rattle.std.proofs.Common.{◌≡◌, Bool, true, false, cond, not, List, [], ◌∷◌, ◌++◌, map, filter, append_assoc, arith, append-nil, Option}
+use Rattle.std.proofs.Common.{Some, None, is_some, unwrap_or, refl, sym, ap, ap₂, ◌∙◌}
 use Rattle.std.specs.Cmp.{IsEquivalence}
 use Rattle.std.specs.List.{IsDistinct, AllByRecursion}
 use Rattle.std.specs.Map.{keys_of}
@@ -30,29 +29,19 @@ module _ {K V : Type 0} {eq : K → K → Bool} (laws : IsEquivalence eq) where
 
   module _ (item : K × V) (items : List (K × V)) (distinct : IsDistinct eq (keys_of (item ∷ items))) where
     updated-set : (pair : K × V) → updated items (cond (eq item.0 pair.0) (pair.0, item.1) pair) ≡ updated (item ∷ items) pair
-    updated-set pair = by_test (eq item.0 pair.0) (laws.symm pair.0 item.0)
-      where
-        by_test : (b : Bool) → eq pair.0 item.0 ≡ b → updated items (cond b (pair.0, item.1) pair) ≡ updated (item ∷ items) pair
-        by_test true same =
-            ap (λ o. (pair.0, unwrap_or (option_map (λ (p : K × V). p.1) o) item.1))
-            (find-others laws items pair.0 item distinct same)
-            ∙ ap (λ b. (pair.0, unwrap_or (option_map (λ (p : K × V). p.1) (cond b (Some item) (find eq items pair.0))) pair.1)) (sym same)
-        by_test false apart =
-            ap (λ b. (pair.0, unwrap_or (option_map (λ (p : K × V). p.1) (cond b (Some item) (find eq items pair.0))) pair.1)) (sym apart)
+    updated-set pair = grind (arith, find-others)
 
     map-updated_set : (pairs : List (K × V)) → map (updated items) (set_value eq pairs item.0 item.1) ≡ map (updated (item ∷ items)) pairs
     map-updated_set [] = refl
     map-updated_set (pair ∷ pairs) = ap₂ (λ p ps. p ∷ ps) (updated-set pair) (map-updated_set pairs)
 
     own : updated items (item.0, item.1) ≡ item
-    own = ap (λ o. (item.0, unwrap_or (option_map (λ (p : K × V). p.1) o) item.1))
-        (find-others laws items item.0 item distinct (laws.refl item.0))
+    own = grind (arith, find-others)
 
   new_pairs : (pairs : List (K × V)) (k : K) (v : V) (items : List (K × V)) → AllByRecursion (λ j. eq k j ≡ false) (keys_of items)
       → filter (λ p. not (is_some (find eq (set_or_push eq pairs k v) p.0))) items ≡ filter (λ p. not (is_some (find eq pairs p.0))) items
   new_pairs pairs k v [] apart = refl
-  new_pairs pairs k v (item ∷ items) apart = ap₂ (λ b rest. cond b (item ∷ rest) rest)
-      (ap (λ o. not (is_some o)) (find-set_or_push_apart laws pairs k item.0 v apart.0)) (new_pairs pairs k v items apart.1)
+  new_pairs pairs k v (item ∷ items) apart = grind (arith, find-set_or_push_apart, new_pairs pairs k v items apart.1)
 
   -- in Keep: the old pairs with the values that come with their keys, and behind them the new ones
   pub insert_each-keep : (pairs items : List (K × V)) → IsDistinct eq (keys_of items)
@@ -86,10 +75,7 @@ module _ {K V : Type 0} {eq : K → K → Bool} (laws : IsEquivalence eq) where
   stored_pairs : (pairs : List (K × V)) (k : K) (v : V) (items : List (K × V)) → AllByRecursion (λ j. eq k j ≡ false) (keys_of items)
       → map (stored (to_back eq pairs k v)) items ≡ map (stored pairs) items
   stored_pairs pairs k v [] apart = refl
-  stored_pairs pairs k v (item ∷ items) apart = ap₂ (λ (j : K) (rest : List (K × V)). (j, item.1) ∷ rest)
-      (ap (key_or item.0) (find-to_back laws pairs k item.0 v
-      ∙ ap (λ b. cond b (Some (key_or k (find eq pairs k), v)) (find eq pairs item.0)) apart.0))
-      (stored_pairs pairs k v items apart.1)
+  stored_pairs pairs k v (item ∷ items) apart = grind (arith, find-to_back, stored_pairs pairs k v items apart.1)
 
   -- in Touch: the old pairs whose keys do not come, and behind them the items, each with the
   -- stored key

@@ -1,5 +1,5 @@
 -- For callers: loops over the pairs of another map, whose values go into the values of this one.
-use Rattle.std.proofs.Common.{◌≡◌, ◌⊎◌, inl, inr, Bool, true, false, cond, List, ◌∷◌, Option, Some, None, option_map}
+use Rattle.std.proofs.Common.{◌≡◌, ◌⊎◌, inl, inr, Bool, true, false, cond, List, ◌∷◌, Option, Some, None, option_map, arith}
 use Rattle.std.proofs.Common.{refl, sym, ap, subst, ◌∙◌}
 use Rattle.std.specs.Cmp.{IsEquivalence}
 use Rattle.std.specs.List.{IsDistinct}
@@ -15,16 +15,7 @@ use Rattle.linked_hash_map.proofs.Callers.Turns.{find-others}
 pub value_at_next : {K V W : Type 0} {eq : K → K → Bool} → IsEquivalence eq → (pairs : List (K × V)) {left rest : List (K × W)}
     {k : K} {w : W} (q : K) → left ≡ (k, w) ∷ rest
     → ((value_at eq left q ≡ Some w) × (value_at eq pairs q ≡ value_at eq pairs k)) ⊎ (value_at eq left q ≡ value_at eq rest q)
-value_at_next {K} {W = W} {eq} laws pairs {left} {rest} {k} {w} q more = by_test (eq q k) refl
-  where
-    found : (b : Bool) → eq q k ≡ b → value_at eq left q ≡ option_map (λ (p : K × W). p.1) (cond b (Some (k, w)) (find eq rest q))
-    found b is = ap (λ (ps : List (K × W)). value_at eq ps q) more
-        ∙ ap (λ c. option_map (λ (p : K × W). p.1) (cond c (Some (k, w)) (find eq rest q))) is
-
-    by_test : (b : Bool) → eq q k ≡ b
-        → ((value_at eq left q ≡ Some w) × (value_at eq pairs q ≡ value_at eq pairs k)) ⊎ (value_at eq left q ≡ value_at eq rest q)
-    by_test true same = inl (found true same, value_at-same laws pairs q k same)
-    by_test false apart = inr (found false apart)
+value_at_next laws pairs q more = grind (arith, value_at-same)
 
 -- how far a loop over the pairs of another map has come that makes of the value that a key has, or
 -- none, and the value in the other map the new one, by f: each key is still to come, and has what

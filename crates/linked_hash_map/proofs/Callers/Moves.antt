@@ -1,7 +1,7 @@
 -- For callers: the pairs with one moved to the back or to the front, as it is, or rotated. Each key
 -- finds what it found.
-use Rattle.std.proofs.Common.{◌≡◌, ℕ, Bool, true, false, cond, List, [], ◌∷◌, ◌++◌, take, drop, Option, Some, None}
-use Rattle.std.proofs.Common.{option_to_list, refl, sym, ap, ◌∙◌, subst}
+use Rattle.std.proofs.Common.{◌≡◌, ℕ, Bool, true, false, cond, List, [], ◌∷◌, ◌++◌, take, drop, Option, Some, None, arith}
+use Rattle.std.proofs.Common.{option_to_list, refl, sym, ap, ◌∙◌}
 use Rattle.std.specs.Cmp.{IsEquivalence}
 use Rattle.std.specs.List.{IsDistinct}
 use Rattle.std.specs.Map.{keys_of}
@@ -27,8 +27,7 @@ module _ {K V : Type 0} {eq : K → K → Bool} (laws : IsEquivalence eq) (pairs
   -- the pair of k is what k finds, and each key that is the same
   same_pair : {pair : K × V} → find eq pairs k ≡ Some pair → (b : Bool) → eq k q ≡ b
       → cond b (Some pair) (find eq pairs q) ≡ find eq pairs q
-  same_pair found true same = sym found ∙ find-same laws pairs k q same
-  same_pair found false apart = refl
+  same_pair found b same = grind (arith, find-same)
 
   pub find-to_back_as_is : find eq (to_back_as_is eq pairs k) q ≡ find eq pairs q
   find-to_back_as_is = by_pair (find eq pairs k) refl
@@ -61,8 +60,7 @@ module _ {K V : Type 0} {eq : K → K → Bool} (laws : IsEquivalence eq) (pairs
 module _ {K V : Type 0} {eq : K → K → Bool} (laws : IsEquivalence eq) (q : K) where
   -- what neither of two lists has
   neither : (o p : Option (K × V)) → option_or o p ≡ None → p ≡ None
-  neither None p e = e
-  neither (Some pair) p e = absurd cc
+  neither o p e = grind arith
 
   -- what one part of pairs with different keys has, the other does not
   other_lacks : (xs ys : List (K × V)) (pair : K × V) → IsDistinct eq (keys_of (xs ++ ys)) → find eq xs q ≡ Some pair → find eq ys q ≡ None
@@ -77,18 +75,8 @@ module _ {K V : Type 0} {eq : K → K → Bool} (laws : IsEquivalence eq) (q : K
       by_test rest false apart there = rest there
 
   find-swapped : (xs ys : List (K × V)) → IsDistinct eq (keys_of (xs ++ ys)) → find eq (ys ++ xs) q ≡ find eq (xs ++ ys) q
-  find-swapped xs ys distinct =
-      lookup_entry-append (eq q) ys xs ∙ either (find eq xs q) (find eq ys q) (λ pair found. other_lacks xs ys pair distinct found)
-      ∙ sym (lookup_entry-append (eq q) xs ys)
-    where
-      either : (o p : Option (K × V)) → ((pair : K × V) → o ≡ Some pair → p ≡ None) → option_or p o ≡ option_or o p
-      either None None lacks = refl
-      either None (Some pair) lacks = refl
-      either (Some pair) p lacks = ap (λ r. option_or r (Some pair)) (lacks pair refl)
+  find-swapped xs ys distinct = grind (arith, lookup_entry-append, other_lacks)
 
   pub find-rotated : (count : ℕ) (pairs : List (K × V)) → IsDistinct eq (keys_of pairs)
       → find eq (drop count pairs ++ take count pairs) q ≡ find eq pairs q
-  find-rotated count pairs distinct =
-      let whole = take-append-drop count pairs in
-      find-swapped (take count pairs) (drop count pairs) (subst (λ ps. IsDistinct eq (keys_of ps)) (sym whole) distinct)
-      ∙ ap (λ ps. find eq ps q) whole
+  find-rotated count pairs distinct = grind (arith, take-append-drop, find-swapped)

@@ -1,7 +1,6 @@
 -- For callers: the pairs with a key in place of the stored key that is the same. Each key finds the
 -- same value.
-use Rattle.std.proofs.Common.{◌≡◌, Bool, true, false, cond, List, [], ◌∷◌, map, length, Option, Some, None, option_map}
-use Rattle.std.proofs.Common.{refl, ap, ap₂, ◌∙◌}
+use Rattle.std.proofs.Common.{◌≡◌, Bool, true, false, cond, List, [], ◌∷◌, map, length, Some, option_map, arith, refl, ap}
 use Rattle.std.specs.Cmp.{IsEquivalence}
 use Rattle.std.specs.Map.{keys_of}
 use Rattle.std.proofs.lemmas.List.{length-map}
@@ -19,11 +18,7 @@ module _ {K V : Type 0} (eq : K → K → Bool) where
 
 -- each key is the same as before
 pub eq-replaced : {K : Type 0} {eq : K → K → Bool} → IsEquivalence eq → (k stored q : K) → eq q (replaced eq k stored) ≡ eq q stored
-eq-replaced {eq = eq} laws k stored q = by_test (eq k stored) refl
-  where
-    by_test : (b : Bool) → eq k stored ≡ b → eq q (cond b k stored) ≡ eq q stored
-    by_test true same = laws.symm q k ∙ laws.congr k stored q same ∙ laws.symm stored q
-    by_test false apart = refl
+eq-replaced laws k stored q = grind arith
 
 module _ {K V : Type 0} {eq : K → K → Bool} (laws : IsEquivalence eq) where
   abbrev rekeyed : K → K × V → K × V
@@ -32,9 +27,7 @@ module _ {K V : Type 0} {eq : K → K → Bool} (laws : IsEquivalence eq) where
   pub find-set_key : (pairs : List (K × V)) (k q : K)
       → find eq (set_key eq pairs k) q ≡ option_map (λ (pair : K × V). (replaced eq k pair.0, pair.1)) (find eq pairs q)
   find-set_key [] k q = refl
-  find-set_key (first ∷ pairs) k q =
-      ap₂ (λ b o. cond b (Some (rekeyed k first)) o) (eq-replaced laws k first.0 q) (find-set_key pairs k q)
-      ∙ by_test (eq q first.0)
+  find-set_key (first ∷ pairs) k q = grind (arith, eq-replaced, find-set_key pairs k q)
     where
       by_test : (b : Bool) → cond b (Some (rekeyed k first)) (option_map (rekeyed k) (find eq pairs q))
           ≡ option_map (rekeyed k) (cond b (Some first) (find eq pairs q))
@@ -42,9 +35,4 @@ module _ {K V : Type 0} {eq : K → K → Bool} (laws : IsEquivalence eq) where
       by_test false = refl
 
   pub value_at-set_key : (pairs : List (K × V)) (k q : K) → value_at eq (set_key eq pairs k) q ≡ value_at eq pairs q
-  value_at-set_key pairs k q = ap (option_map (λ (pair : K × V). pair.1)) (find-set_key pairs k q) ∙ by_pair (find eq pairs q)
-    where
-      by_pair : (o : Option (K × V)) → option_map (λ (pair : K × V). pair.1) (option_map (rekeyed k) o)
-          ≡ option_map (λ (pair : K × V). pair.1) o
-      by_pair None = refl
-      by_pair (Some pair) = refl
+  value_at-set_key pairs k q = grind (arith, find-set_key)

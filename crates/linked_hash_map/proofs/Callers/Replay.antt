@@ -1,7 +1,6 @@
 -- For callers: what a reply in a run says of the answer and of what the map has then, in the words
 -- of single calls.
-use Rattle.std.proofs.Common.{◌≡◌, ℕ, ◌-◌, Bool, true, false, cond, IsFalse, List, [], length, take}
-use Rattle.std.proofs.Common.{drop, slice_get, Option, Some, None, is_some, refl, ap, ◌∙◌}
+use Rattle.std.proofs.Common.{◌≡◌, ℕ, ◌-◌, Bool, false, cond, IsFalse, List, [], length, take, arith, drop, slice_get, Option, is_some, ap}
 use Rattle.std.specs.Cmp.{IsEquivalence}
 use Rattle.linked_hash_map.specs.LinkedMap.{LinkedMap}
 use Rattle.linked_hash_map.specs.Validity.{IsValid}
@@ -30,12 +29,10 @@ Defines-first laws {m} valid = Defines-first_log laws m.mode m.pairs m.capacity 
 
 is_refusal-old_or : {K V : Type 0} (otherwise : Answer K V) → is_refusal otherwise ≡ false
     → (o : Option V) → is_refusal (old_or otherwise o) ≡ false
-is_refusal-old_or otherwise given None = given
-is_refusal-old_or otherwise given (Some v) = refl
+is_refusal-old_or otherwise given o = grind arith
 
 is_refusal-pair_or_empty : {K V : Type 0} (o : Option (K × V)) → is_refusal (pair_or_empty o) ≡ false
-is_refusal-pair_or_empty None = refl
-is_refusal-pair_or_empty (Some pair) = refl
+is_refusal-pair_or_empty o = grind arith
 
 -- the reply to a command on a log has this answer, this length and this capacity, and the log after
 -- it defines these pairs, this capacity and this mode
@@ -49,16 +46,10 @@ pub record Replied {K V : Type 0} (eq : K → K → Bool) (start : ℕ) (log : L
 
 module _ {K V : Type 0} {eq : K → K → Bool} (laws : IsEquivalence eq) {start : ℕ} {log : Log K V} where
   replied : (command : Command K V) (reply : Reply K V) → IsReply eq start log command reply
-      → {answer : Answer K V} {later : List (K × V)} {capacity : ℕ} {m : Mode}
-      → reply.answer ≡ answer
+      → {answer : Answer K V} {later : List (K × V)} {capacity : ℕ} {m : Mode} → reply.answer ≡ answer
       → Defines eq start (log_after eq log command reply.answer) later capacity m
       → Replied eq start log command reply answer later capacity m
-  replied command reply is same after = record {
-    answer_is = same;
-    len_is = is.len ∙ size-contents laws after;
-    capacity_is = is.capacity ∙ after.same_capacity;
-    defines = after;
-  }
+  replied command reply is same after = grind (arith, size-contents)
 
 module _ {K V : Type 0} {eq : K → K → Bool} (laws : IsEquivalence eq) {start : ℕ} {log : Log K V}
     {contents : List (K × V)} {capacity : ℕ} {mode : Mode} where
@@ -74,10 +65,8 @@ module _ {K V : Type 0} {eq : K → K → Bool} (laws : IsEquivalence eq) {start
       replied laws command reply is done.0 done.1
 
   -- the commands that are never refused
-  Replied-write : (k : K) (v : V) (reply : Reply K V) → Defines eq start log contents capacity mode
-      → IsReply eq start log (Write k v) reply
-      → Replied eq start log (Write k v) reply (old_or (Absent k v) (value_at eq contents k))
-      (set_value eq contents k v) capacity mode
+  Replied-write : (k : K) (v : V) (reply : Reply K V) → Defines eq start log contents capacity mode → IsReply eq start log (Write k v) reply
+      → Replied eq start log (Write k v) reply (old_or (Absent k v) (value_at eq contents k)) (set_value eq contents k v) capacity mode
   Replied-write k v reply defines is =
       let done = write_outcome laws defines k v reply.answer is.allowed.answers in
       replied laws (Write k v) reply is done.0 done.1
@@ -90,26 +79,21 @@ module _ {K V : Type 0} {eq : K → K → Bool} (laws : IsEquivalence eq) {start
       let done = refresh_outcome laws defines k reply.answer is.allowed.answers in
       replied laws (Refresh k) reply is done.0 done.1
 
-  Replied-remove : (k : K) (reply : Reply K V) → Defines eq start log contents capacity mode
-      → IsReply eq start log (Remove k) reply
-      → Replied eq start log (Remove k) reply (old_or Missing (value_at eq contents k))
-      (without eq contents k) capacity mode
+  Replied-remove : (k : K) (reply : Reply K V) → Defines eq start log contents capacity mode → IsReply eq start log (Remove k) reply
+      → Replied eq start log (Remove k) reply (old_or Missing (value_at eq contents k)) (without eq contents k) capacity mode
   Replied-remove k reply defines is =
       let done = remove_outcome laws defines k reply.answer is.allowed.answers in
       replied laws (Remove k) reply is done.0 done.1
 
   Replied-entry_remove : (k : K) (reply : Reply K V) → Defines eq start log contents capacity mode
       → IsReply eq start log (EntryRemove k) reply
-      → Replied eq start log (EntryRemove k) reply (old_or Missing (value_at eq contents k))
-      (without eq contents k) capacity mode
+      → Replied eq start log (EntryRemove k) reply (old_or Missing (value_at eq contents k)) (without eq contents k) capacity mode
   Replied-entry_remove k reply defines is =
       let done = remove_outcome laws defines k reply.answer is.allowed.answers in
       replied laws (EntryRemove k) reply is done.0 done.1
 
-  Replied-pop_front : (reply : Reply K V) → Defines eq start log contents capacity mode
-      → IsReply eq start log PopFront reply
-      → Replied eq start log PopFront reply (pair_or_empty (slice_get contents 0))
-      (drop 1 contents) capacity mode
+  Replied-pop_front : (reply : Reply K V) → Defines eq start log contents capacity mode → IsReply eq start log PopFront reply
+      → Replied eq start log PopFront reply (pair_or_empty (slice_get contents 0)) (drop 1 contents) capacity mode
   Replied-pop_front reply defines is =
       let done = pop_front_outcome laws defines reply.answer is.allowed.answers in
       replied laws PopFront reply is done.0 done.1
@@ -129,48 +113,35 @@ module _ {K V : Type 0} {eq : K → K → Bool} (laws : IsEquivalence eq) {start
       let done = clear_outcome laws defines reply.answer is.allowed.answers in
       replied laws Clear reply is done.0 done.1
 
-  Replied-set_mode : (m : Mode) (reply : Reply K V) → Defines eq start log contents capacity mode
-      → IsReply eq start log (SetMode m) reply
+  Replied-set_mode : (m : Mode) (reply : Reply K V) → Defines eq start log contents capacity mode → IsReply eq start log (SetMode m) reply
       → Replied eq start log (SetMode m) reply Done contents capacity m
   Replied-set_mode m reply defines is =
       let done = set_mode_outcome laws defines m reply.answer is.allowed.answers in
       replied laws (SetMode m) reply is done.0 done.1
 
-  pub is_refusal-write : (k : K) (v : V) (reply : Reply K V)
-      → Defines eq start log contents capacity mode → IsReply eq start log (Write k v) reply
-      → IsFalse (is_refusal reply.answer)
-  is_refusal-write k v reply defines is =
-      ap is_refusal (Replied-write k v reply defines is).answer_is
-      ∙ is_refusal-old_or (Absent k v) refl (value_at eq contents k)
+  pub is_refusal-write : (k : K) (v : V) (reply : Reply K V) → Defines eq start log contents capacity mode
+      → IsReply eq start log (Write k v) reply → IsFalse (is_refusal reply.answer)
+  is_refusal-write k v reply defines is = grind (arith, Replied-write, is_refusal-old_or)
 
   pub is_refusal-refresh : (k : K) (reply : Reply K V) → Defines eq start log contents capacity mode
       → IsReply eq start log (Refresh k) reply → IsFalse (is_refusal reply.answer)
-  is_refusal-refresh k reply defines is = ap is_refusal
-      (Replied-refresh k reply defines is).answer_is ∙ elim (is_some (find eq contents k)) as (λ b.
-      is_refusal {K = K} {V = V} (cond b Found Missing) ≡ false) [ true ↦ refl | false ↦ refl ]
+  is_refusal-refresh k reply defines is = grind (arith, Replied-refresh)
 
   pub is_refusal-remove : (k : K) (reply : Reply K V) → Defines eq start log contents capacity mode
       → IsReply eq start log (Remove k) reply → IsFalse (is_refusal reply.answer)
-  is_refusal-remove k reply defines is = ap is_refusal (Replied-remove k reply defines is).answer_is
-      ∙ is_refusal-old_or Missing refl (value_at eq contents k)
+  is_refusal-remove k reply defines is = grind (arith, Replied-remove, is_refusal-old_or)
 
-  pub is_refusal-entry_remove : (k : K) (reply : Reply K V)
-      → Defines eq start log contents capacity mode → IsReply eq start log (EntryRemove k) reply
-      → IsFalse (is_refusal reply.answer)
-  is_refusal-entry_remove k reply defines is =
-      ap is_refusal (Replied-entry_remove k reply defines is).answer_is
-      ∙ is_refusal-old_or Missing refl (value_at eq contents k)
+  pub is_refusal-entry_remove : (k : K) (reply : Reply K V) → Defines eq start log contents capacity mode
+      → IsReply eq start log (EntryRemove k) reply → IsFalse (is_refusal reply.answer)
+  is_refusal-entry_remove k reply defines is = grind (arith, Replied-entry_remove, is_refusal-old_or)
 
   pub is_refusal-pop_front : (reply : Reply K V) → Defines eq start log contents capacity mode
       → IsReply eq start log PopFront reply → IsFalse (is_refusal reply.answer)
-  is_refusal-pop_front reply defines is =
-      ap is_refusal (Replied-pop_front reply defines is).answer_is
-      ∙ is_refusal-pair_or_empty (slice_get contents 0)
+  is_refusal-pop_front reply defines is = grind (arith, Replied-pop_front, is_refusal-pair_or_empty)
 
   pub is_refusal-pop_back : (reply : Reply K V) → Defines eq start log contents capacity mode
       → IsReply eq start log PopBack reply → IsFalse (is_refusal reply.answer)
-  is_refusal-pop_back reply defines is = ap is_refusal (Replied-pop_back reply defines is).answer_is
-      ∙ is_refusal-pair_or_empty (slice_get contents (length contents - 1))
+  is_refusal-pop_back reply defines is = grind (arith, Replied-pop_back, is_refusal-pair_or_empty)
 
   pub is_refusal-clear : (reply : Reply K V) → Defines eq start log contents capacity mode
       → IsReply eq start log Clear reply → IsFalse (is_refusal reply.answer)

@@ -1,6 +1,6 @@
 -- For callers: what `retain` keeps, by what the closure's contract says of each call. T says what a
 -- call does: it may return this, leave this value there, and leave the closure so.
-use Rattle.std.proofs.Common.{◌≡◌, Bool, true, false, cond, List, [], ◌∷◌, map, filter, refl, ap, ◌∙◌, subst}
+use Rattle.std.proofs.Common.{◌≡◌, Bool, true, cond, List, [], ◌∷◌, map, filter, refl, ap, ◌∙◌, subst, arith}
 use Rattle.std.specs.Map.Calls.{RetainsPairs}
 use Rattle.std.proofs.lemmas.Map.Made as made
 -- the first pair
@@ -13,14 +13,11 @@ module _ {F K V : Type 0} (T : F → K → V → Bool → V → F → Type 0) (t
   changed pair = (pair.0, change pair)
 
   cond-changed : (b : Bool) (pair : K × V) (pairs : List (K × V))
-      → cond b (changed pair ∷ map changed pairs) (map changed pairs)
-      ≡ map changed (cond b (pair ∷ pairs) pairs)
-  cond-changed true pair pairs = refl
-  cond-changed false pair pairs = refl
+      → cond b (changed pair ∷ map changed pairs) (map changed pairs) ≡ map changed (cond b (pair ∷ pairs) pairs)
+  cond-changed b pair pairs = grind arith
 
   pub map-filter_from_retain_pairs : (pairs kept : List (K × V))
-      → ((k : K) (v : V) (b : Bool) (w : V) (g : F) → T f k v b w g
-      → (b ≡ test (k, v)) × (w ≡ change (k, v)) × (g ≡ f))
+      → ((k : K) (v : V) (b : Bool) (w : V) (g : F) → T f k v b w g → (b ≡ test (k, v)) × (w ≡ change (k, v)) × (g ≡ f))
       → RetainsPairs T f pairs kept → kept ≡ map changed (filter test pairs)
   map-filter_from_retain_pairs [] kept says r = r
   map-filter_from_retain_pairs (pair ∷ pairs) kept says r =
@@ -36,8 +33,7 @@ module _ {F K V : Type 0} (T : F → K → V → Bool → V → F → Type 0) (c
   filter-true (pair ∷ pairs) = ap (λ ps. pair ∷ ps) (filter-true pairs)
 
   pub map_from_retain_pairs : (pairs kept : List (K × V))
-      → ((k : K) (v : V) (b : Bool) (w : V) (g : F) → T f k v b w g
-      → (b ≡ true) × (w ≡ change (k, v)) × (g ≡ f))
+      → ((k : K) (v : V) (b : Bool) (w : V) (g : F) → T f k v b w g → (b ≡ true) × (w ≡ change (k, v)) × (g ≡ f))
       → RetainsPairs T f pairs kept → kept ≡ map (λ pair. (pair.0, change pair)) pairs
   map_from_retain_pairs pairs kept says r = map-filter_from_retain_pairs T (λ _. true) change f pairs kept says r
       ∙ ap (map (λ (pair : K × V). (pair.0, change pair))) (filter-true pairs)
@@ -46,7 +42,6 @@ module _ {F K V : Type 0} (T : F → K → V → Bool → V → F → Type 0) (c
 -- of all lemmas here
 module _ {F K V : Type 0} (T : F → K → V → Bool → V → F → Type 0) where
   pub filter_same_pairs : (test : K × V → Bool) (f : F) (pairs kept : List (K × V))
-      → ((k : K) (v : V) (b : Bool) (w : V) (g : F) → T f k v b w g
-      → (b ≡ test (k, v)) × (w ≡ v) × (g ≡ f))
-      → RetainsPairs T f pairs kept → kept ≡ filter test pairs
+      → ((k : K) (v : V) (b : Bool) (w : V) (g : F) → T f k v b w g → (b ≡ test (k, v)) × (w ≡ v) × (g ≡ f)) → RetainsPairs T f pairs kept
+      → kept ≡ filter test pairs
   filter_same_pairs test f pairs kept says r = made.filter_same_pairs T test f says pairs kept r

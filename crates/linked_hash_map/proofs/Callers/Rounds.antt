@@ -12,8 +12,7 @@ module _ {X : Type 0} (change : X → X) (old : List X) where
   pub IsTurned-start : IsTurned change old old 0
   IsTurned-start = record { list = sym (append-nil old) }
 
-  turn_list : (turns : ℕ) (x : X) (rest : List X) → turns < length old
-      → x ∷ rest ≡ drop turns old ++ map change (take turns old)
+  turn_list : (turns : ℕ) (x : X) (rest : List X) → turns < length old → x ∷ rest ≡ drop turns old ++ map change (take turns old)
       → rest ++ change x ∷ [] ≡ drop (turns + 1) old ++ map change (take (turns + 1) old)
   turn_list turns x rest within is =
       let split : x ∷ rest ≡ get_or old turns x ∷ (drop (turns + 1) old ++ map change (take turns old)) =
@@ -28,8 +27,7 @@ module _ {X : Type 0} (change : X → X) (old : List X) where
 
 -- one turn, and once each pair had its turn
 module _ {X : Type 0} {change : X → X} {old now : List X} {turns : ℕ} (w : IsTurned change old now turns) where
-  pub IsTurned-turn : {after : List X} → turns < length old
-      → ((x : X) → first now ≡ Some x → after ≡ without_first now ++ change x ∷ [])
+  pub IsTurned-turn : {after : List X} → turns < length old → ((x : X) → first now ≡ Some x → after ≡ without_first now ++ change x ∷ [])
       → IsTurned change old after (turns + 1)
   IsTurned-turn {after} within turned = by_list now w.list turned
     where

@@ -2,7 +2,7 @@
 -- using(linked_hash_map::proofs::Callers::Rules::number_keys))]. At numbers a lemma is stated at
 -- their equality, so that `grind` has none to find; the first part of a conclusion shows it the
 -- call to match.
-use Rattle.std.proofs.Common.{◌≡◌, ◌⊎◌, false, ℕ, ◌+◌, ◌<◌, ◌≤◌, inl, inr, sym, take, get_or, cond, not, List, [], ◌∷◌}
+use Rattle.std.proofs.Common.{◌≡◌, ◌⊎◌, false, ℕ, ◌+◌, ◌<◌, ◌≤◌, inl, inr, sym, take, get_or, cond, not, List, [], ◌∷◌, arith}
 use Rattle.std.proofs.Common.{◌++◌, length, filter, map, is_some, Some, None, refl, ap, ◌∙◌, nat_eq, true}
 use Rattle.std.proofs.Common.{slice_get, reverse, subst, append_assoc, Option, option_to_list, ap₂, true≢false}
 use Rattle.std.specs.Cmp.Lexicographic.{nat_list_eq_equiv}
@@ -48,14 +48,12 @@ module _ {V : Type 0} (mode : Mode) (pairs : List (ℕ × V)) (k : ℕ) (v : V) 
       ≡ filter (λ j. not (nat_eq k j)) (keys_of pairs) ++ k ∷ [])
   keys_of-put_number touch = (refl, ap (λ m. keys_of (put nat_eq m pairs k v)) touch ∙ keys_of-to_back_own nat_eq_equiv pairs k v eqb-true)
 
-  pub length-put_number : (put nat_eq mode pairs k v ≡ put nat_eq mode pairs k v)
-      × (length (put nat_eq mode pairs k v) ≤ length pairs + 1)
+  pub length-put_number : (put nat_eq mode pairs k v ≡ put nat_eq mode pairs k v) × (length (put nat_eq mode pairs k v) ≤ length pairs + 1)
   length-put_number = (refl, length-put_most nat_eq mode pairs k v)
 
 -- the pairs, if the key goes to the back
 pub put_number : {V : Type 0} (mode : Mode) (pairs : List (ℕ × V)) (k : ℕ) (v : V) → mode ≡ Touch
-    → (put nat_eq mode pairs k v ≡ put nat_eq mode pairs k v)
-    × (put nat_eq mode pairs k v ≡ without nat_eq pairs k ++ (k, v) ∷ [])
+    → (put nat_eq mode pairs k v ≡ put nat_eq mode pairs k v) × (put nat_eq mode pairs k v ≡ without nat_eq pairs k ++ (k, v) ∷ [])
 put_number mode pairs k v touch = (
   refl,
   ap (λ m. put nat_eq m pairs k v) touch ∙ ap (λ j. without nat_eq pairs k ++ (j, v) ∷ [])
@@ -88,8 +86,7 @@ module _ {V : Type 0} (mode : Mode) (pairs : List (ℕ × V)) (k : ℕ) (v : V) 
 pub keys_of-put_to_front : {V : Type 0} (mode : Mode) (pairs : List (ℕ × V)) (k : ℕ) (v : V) {inserted moved : List (ℕ × V)}
     → inserted ≡ put nat_eq mode pairs k v → moved ≡ to_front nat_eq inserted k
     → keys_of moved ≡ k ∷ filter (λ j. not (nat_eq k j)) (keys_of pairs)
-keys_of-put_to_front {V} mode pairs k v put_is moved_is = ap keys_of (moved_is ∙ ap (λ (ps : List (ℕ × V)). to_front nat_eq ps k) put_is
-    ∙ (to_front-put_number mode pairs k v).1) ∙ ap (λ (ks : List ℕ). k ∷ ks) (keys_of-without nat_eq pairs k)
+keys_of-put_to_front mode pairs k v put_is moved_is = grind (arith, to_front-put_number, keys_of-without)
 
 pub keys_of-without_number : {V : Type 0} (pairs : List (ℕ × V)) (k : ℕ)
     → (without nat_eq pairs k ≡ without nat_eq pairs k)
@@ -113,8 +110,7 @@ module _ {V : Type 0} (pairs : List (ℕ × V)) (k : ℕ) where
 
   module _ (i : ℕ) (d : ℕ × V) where
     pub in-without_number : i < length (without nat_eq pairs k)
-        → (get_or (without nat_eq pairs k) i d ≡ get_or (without nat_eq pairs k) i d)
-        × Contains pairs (get_or (without nat_eq pairs k) i d)
+        → (get_or (without nat_eq pairs k) i d ≡ get_or (without nat_eq pairs k) i d) × Contains pairs (get_or (without nat_eq pairs k) i d)
     in-without_number within = (refl, All-without (Contains pairs) nat_eq pairs k (All-contains_itself pairs) i d within)
 
     pub in-to_back_as_is_number : i < length (to_back_as_is nat_eq pairs k)

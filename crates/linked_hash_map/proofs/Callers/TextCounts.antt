@@ -1,6 +1,6 @@
 -- For callers: a count for each text of a slice, one text after another.
 use Rattle.std.proofs.Common.{◌≡◌, ℕ, ◌+◌, ◌<◌, ◌≤◌, length, length-take, take, take_all, get_or, unwrap_or, List, [], Some}
-use Rattle.std.proofs.Common.{refl, sym, ap, subst, ◌∙◌, arith}
+use Rattle.std.proofs.Common.{refl, ap, ◌∙◌, arith}
 use Rattle.std.specs.Borrow.{Bor}
 use Rattle.std.specs.List.{count_by}
 use Rattle.std.specs.Prelude.{String, string_eq}
@@ -26,12 +26,9 @@ CountsTexts-start counts empty = record { count = λ q. ap (λ pairs. unwrap_or 
 -- a step of the loop: the next text is counted
 pub CountsTexts-counted : {before after : List (String Global × ℕ)} (texts : List (Bor (List ℕ))) (i : ℕ)
     → CountsTexts before (take i texts) → i < length texts
-    → UpdatesBy string_eq before after (is_text (text_at texts i))
-    (Some (unwrap_or (value_at is_text before (text_at texts i)) 0 + 1))
+    → UpdatesBy string_eq before after (is_text (text_at texts i)) (Some (unwrap_or (value_at is_text before (text_at texts i)) 0 + 1))
     → CountsTexts after (take (i + 1) texts)
-CountsTexts-counted {before = before} {after} texts i w within updates = record {
-  count = λ q. count_by-updated before after texts i (record { ref_ptr = (0, 0); now = [] }) q within updates (w.count q);
-}
+CountsTexts-counted texts i w within updates = grind (arith, count_by-updated)
 
 -- what a text has as its count; the first part shows the lookup, whose test is written out, since
 -- `grind` matches no call of `is_text`
@@ -52,5 +49,4 @@ module _ (counts : List (String Global × ℕ)) (q : List ℕ) (texts : List (Bo
       ≡ value_at (λ (t : List ℕ) (key : String Global). bytes_eq t (string_bytes key)) counts q)
       × (unwrap_or (value_at (λ (t : List ℕ) (key : String Global). bytes_eq t (string_bytes key)) counts q) 0
       ≡ count_by (λ t. bytes_eq t.now q) texts)
-  CountsTexts-all past =
-      (refl, w.count q ∙ ap (λ ts. count_by (λ (t : Bor (List ℕ)). bytes_eq t.now q) ts) (take_all i texts past))
+  CountsTexts-all past = (refl, w.count q ∙ ap (λ ts. count_by (λ (t : Bor (List ℕ)). bytes_eq t.now q) ts) (take_all i texts past))

@@ -1,8 +1,7 @@
 -- For callers: `String` keys that are looked up as texts, and the laws of the equality of `&str`
 -- keys.
-use Rattle.std.proofs.Common.{◌≡◌, ℕ, ◌+◌, ◌<◌, length, take, get_or, unwrap_or, Bool, true, false, cond, List, [], ◌∷◌}
-use Rattle.std.proofs.Common.{◌++◌, map, drop, option_map, Option, Some, None}
-use Rattle.std.proofs.Common.{refl, sym, ap, ap₂, ◌∙◌, arith}
+use Rattle.std.proofs.Common.{◌≡◌, ℕ, ◌+◌, ◌<◌, length, take, get_or, unwrap_or, Bool, true, false, cond, List, [], ◌∷◌, ◌++◌, map, drop}
+use Rattle.std.proofs.Common.{Option, Some, None, refl, sym, ap, ap₂, ◌∙◌, arith}
 use Rattle.std.specs.Borrow.{Bor}
 use Rattle.std.specs.Cmp.{IsEquivalence}
 use Rattle.std.specs.Cmp.Lexicographic.{bytes_decides}
@@ -88,8 +87,7 @@ module _ {Y V : Type 0} where
 
   -- an insertion in Touch
   pub by_bytes-to_back : (pairs : List (String Y × V)) (key : String Y) (v : V)
-      → by_bytes (to_back string_eq pairs key v)
-      ≡ without bytes_eq (by_bytes pairs) (string_bytes key) ++ (string_bytes key, v) ∷ []
+      → by_bytes (to_back string_eq pairs key v) ≡ without bytes_eq (by_bytes pairs) (string_bytes key) ++ (string_bytes key, v) ∷ []
   by_bytes-to_back pairs key v = let stored = key_or key (find string_eq pairs key) in
       by_bytes-append (without string_eq pairs key) stored v
       ∙ ap₂ (λ (ps : List (List ℕ × V)) (t : List ℕ). ps ++ (t, v) ∷ []) (by_bytes-without pairs (string_bytes key))
@@ -98,16 +96,13 @@ module _ {Y V : Type 0} where
   -- what a removal and an insertion leave of a view
   pub by_bytes-removed : (pairs : List (String Y × V)) (text : List ℕ) {after : List (String Y × V)} {view : List (List ℕ × V)}
       → after ≡ without is_text pairs text → by_bytes pairs ≡ view → by_bytes after ≡ without bytes_eq view text
-  by_bytes-removed pairs text removed view_is = ap by_bytes removed ∙ by_bytes-without pairs text
-      ∙ ap (λ (ps : List (List ℕ × V)). without bytes_eq ps text) view_is
+  by_bytes-removed pairs text removed view_is = grind (arith, by_bytes-without)
 
   pub by_bytes-inserted : (mode : Mode) (pairs : List (String Y × V)) (key : String Y) (v : V) (text : List ℕ)
       {after : List (String Y × V)} {view : List (List ℕ × V)}
       → after ≡ put string_eq mode pairs key v → mode ≡ Touch → string_bytes key ≡ text → by_bytes pairs ≡ view
       → by_bytes after ≡ without bytes_eq view text ++ (text, v) ∷ []
-  by_bytes-inserted mode pairs key v text inserted touch bytes view_is =
-      ap by_bytes inserted ∙ ap (λ m. by_bytes (put string_eq m pairs key v)) touch ∙ by_bytes-to_back pairs key v
-      ∙ ap₂ (λ (ps : List (List ℕ × V)) (t : List ℕ). without bytes_eq ps t ++ (t, v) ∷ []) view_is bytes
+  by_bytes-inserted mode pairs key v text inserted touch bytes view_is = grind (arith, by_bytes-to_back)
 
   -- a text that finds nothing finds nothing without the first pair, nor does a key with its bytes
   pub find-drop_text : (pairs : List (String Y × V)) (text : List ℕ) (key : String Y) (n : ℕ) → string_bytes key ≡ text
@@ -120,15 +115,7 @@ module _ {Y V : Type 0} where
       → before ≡ cond drops (without_first old) old
       → (value_at string_eq before key ≡ None → after ≡ before ++ (key, v) ∷ [])
       → by_bytes after ≡ by_bytes (cond drops (without_first old) old) ++ (text, v) ∷ []
-  by_bytes_pushed drops old text key v {before} bytes absent left pushed =
-      ap by_bytes (pushed (ap (λ (ps : List (String Y × V)). value_at string_eq ps key) left
-      ∙ ap (option_map (λ (pair : String Y × V). pair.1)) (by_test drops)))
-      ∙ by_bytes-append before key v
-      ∙ ap₂ (λ (ps : List (String Y × V)) (t : List ℕ). by_bytes ps ++ (t, v) ∷ []) left bytes
-    where
-      by_test : (b : Bool) → find string_eq (cond b (without_first old) old) key ≡ None
-      by_test true = find-drop_text old text key 1 bytes absent
-      by_test false = find-is_text old text key bytes ∙ absent
+  by_bytes_pushed drops old text key v bytes absent left pushed = grind (arith, by_bytes-append, find-drop_text, find-is_text)
 
 -- one text more is counted
 pub count_by-updated : {Y : Type 0} (before after : List (String Y × ℕ)) (texts : List (Bor (List ℕ))) (i : ℕ)

@@ -1,8 +1,7 @@
 -- For callers: the first pair taken out and put back behind the others, and turns of this kind one
 -- after another.
-use Rattle.std.proofs.Common.{◌≡◌, ℕ, ◌+◌, ◌<◌, Bool, true, false, cond, List, [], ◌∷◌, ◌++◌}
-use Rattle.std.proofs.Common.{length, take, drop, map, get_or, append_assoc, subst, Option, Some}
-use Rattle.std.proofs.Common.{None, is_some, true≢false, refl, sym, ap, ap₂, ◌∙◌}
+use Rattle.std.proofs.Common.{◌≡◌, ℕ, ◌+◌, ◌<◌, Bool, true, false, cond, List, [], ◌∷◌, ◌++◌, arith, length, take, drop, map, get_or}
+use Rattle.std.proofs.Common.{append_assoc, subst, Option, Some, None, is_some, true≢false, refl, sym, ap, ap₂, ◌∙◌}
 use Rattle.std.specs.Option.{option_or}
 use Rattle.std.specs.List.{IsDistinct}
 use Rattle.std.specs.Map.{keys_of}
@@ -14,10 +13,8 @@ use Rattle.linked_hash_map.proofs.Callers.Lookups.{lookup_entry-append, find-sam
 use Rattle.linked_hash_map.proofs.Callers.Keys.{find-drop, put-absent}
 
 -- a list with a first pair is that pair and the others, and so are its keys
-cons-without_first : {X : Type 0} (xs : List X) (x : X) → first xs ≡ Some x
-    → x ∷ without_first xs ≡ xs
-cons-without_first [] x there = cc
-cons-without_first (y ∷ xs) x there = let same : y ≡ x = cc in ap (λ z. z ∷ xs) (sym same)
+cons-without_first : {X : Type 0} (xs : List X) (x : X) → first xs ≡ Some x → x ∷ without_first xs ≡ xs
+cons-without_first xs x there = grind arith
 
 pub cons-keys_of_first : {K V : Type 0} (pairs : List (K × V)) (pair : K × V)
     → first pairs ≡ Some pair → pair.0 ∷ keys_of (without_first pairs) ≡ keys_of pairs
@@ -38,11 +35,9 @@ module _ {K V : Type 0} {eq : K → K → Bool} (laws : IsEquivalence eq) where
       ap (λ ps. find eq ps pair.0) (drop-first laws pairs pair distinct there) ∙ find-without_here laws pairs pair.0
 
   -- so the first pair that is put back goes behind the others, in either mode
-  pub put-without_first : (mode : Mode) (pairs : List (K × V)) (pair : K × V) (v : V)
-      → IsDistinct eq (keys_of pairs) → first pairs ≡ Some pair
-      → put eq mode (without_first pairs) pair.0 v ≡ without_first pairs ++ (pair.0, v) ∷ []
-  put-without_first mode pairs pair v distinct there = put-absent eq mode (without_first pairs)
-      pair.0 v (find-without_first pairs pair distinct there)
+  pub put-without_first : (mode : Mode) (pairs : List (K × V)) (pair : K × V) (v : V) → IsDistinct eq (keys_of pairs)
+      → first pairs ≡ Some pair → put eq mode (without_first pairs) pair.0 v ≡ without_first pairs ++ (pair.0, v) ∷ []
+  put-without_first mode pairs pair v distinct there = grind (arith, put-absent, find-without_first)
 
 -- after some turns of a renaming the first of the old pairs stand behind the others, the one of
 -- `from` with `to` as its key; and while the pair of `from` is there, `to` is free
@@ -101,8 +96,7 @@ module _ {K V : Type 0} {eq : K → K → Bool} (laws : IsEquivalence eq) (from 
               ∙ or_none (find eq rest from))) ∙ found
 
   pair-turned : (pair : K × V) (b : Bool) → (cond b to pair.0, pair.1) ≡ cond b (to, pair.1) pair
-  pair-turned pair true = refl
-  pair-turned pair false = refl
+  pair-turned pair b = grind arith
 
   list_turn : (old : List (K × V)) (turns : ℕ) (pair : K × V) (rest : List (K × V)) → turns < length old
       → pair ∷ rest ≡ drop turns old ++ map (λ p. cond (eq from p.0) (to, p.1) p) (take turns old)
@@ -126,21 +120,10 @@ module _ {K V : Type 0} {eq : K → K → Bool} (laws : IsEquivalence eq)
     (distinct : IsDistinct eq (keys_of now)) (there : first now ≡ Some pair) where
   -- the name that the first pair takes is free among the others
   find-renamed : find eq (without_first now) (cond (eq from pair.0) to pair.0) ≡ None
-  find-renamed = by_list now distinct there w.free
-    where
-      by_list : (contents : List (K × V)) → IsDistinct eq (keys_of contents)
-          → first contents ≡ Some pair
-          → (is_some (find eq contents from) ≡ true → find eq contents to ≡ None)
-          → find eq (without_first contents) (cond (eq from pair.0) to pair.0) ≡ None
-      by_list [] distinct there free = absurd (let no : Some pair ≡ None = sym there in cc)
-      by_list (one ∷ rest) distinct there free =
-          let same : one ≡ pair = (let some : Some one ≡ Some pair = there in cc) in
-          (free_turn laws from to pair rest (subst (λ (p : K × V). IsDistinct eq (keys_of (p ∷ rest))) same distinct)
-          (subst (λ (p : K × V). is_some (find eq (p ∷ rest) from) ≡ true → find eq (p ∷ rest) to ≡ None) same free)).0
+  find-renamed = grind (arith, free_turn)
 
   IsRenaming-pushed : (after : List (K × V)) → turns < length old
-      → after ≡ without_first now ++ (cond (eq from pair.0) to pair.0, pair.1) ∷ []
-      → IsRenaming eq old after from to (turns + 1)
+      → after ≡ without_first now ++ (cond (eq from pair.0) to pair.0, pair.1) ∷ [] → IsRenaming eq old after from to (turns + 1)
   IsRenaming-pushed after within done = by_list now distinct there w.list w.free done
     where
       by_list : (contents : List (K × V)) → IsDistinct eq (keys_of contents) → first contents ≡ Some pair
@@ -159,11 +142,10 @@ module _ {K V : Type 0} {eq : K → K → Bool} (laws : IsEquivalence eq)
 
 -- one turn: the first pair goes behind the others, under the new name if it has the old one
 module _ {K V : Type 0} {eq : K → K → Bool} (laws : IsEquivalence eq) (mode : Mode) where
-  pub IsRenaming-turn : (old now : List (K × V)) {rest after : List (K × V)} (from to : K)
-      {name : K} (pair : K × V) (turns : ℕ)
-      → IsRenaming eq old now from to turns → IsDistinct eq (keys_of now) → first now ≡ Some pair
-      → turns < length old → rest ≡ without_first now → name ≡ cond (eq from pair.0) to pair.0
-      → after ≡ put eq mode rest name pair.1 → IsRenaming eq old after from to (turns + 1)
+  pub IsRenaming-turn : (old now : List (K × V)) {rest after : List (K × V)} (from to : K) {name : K} (pair : K × V) (turns : ℕ)
+      → IsRenaming eq old now from to turns → IsDistinct eq (keys_of now) → first now ≡ Some pair → turns < length old
+      → rest ≡ without_first now → name ≡ cond (eq from pair.0) to pair.0 → after ≡ put eq mode rest name pair.1
+      → IsRenaming eq old after from to (turns + 1)
   IsRenaming-turn old now {rest} {after} from to {name} pair turns w distinct there within popped named inserted =
       IsRenaming-pushed laws w distinct there after within
       (inserted ∙ (λ i. put eq mode (popped i) (named i) pair.1)

@@ -14,10 +14,9 @@ use Rattle.linked_hash_map.proofs.Callers.WholeRuns.{pairs-replayed_never_refuse
 
 -- the pairs and the replies of a run of these commands, each of which is never refused
 pub replayed_never_refused : {K V S : Type 0} {eq : K → K → Bool} → IsEquivalence eq → {old new : LinkedMap K V S}
-    → {commands : List (Command K V)} {replies : List (Reply K V)} (these : List (Command K V))
-    → IsValid eq old → Replayed eq old commands replies new → commands ≡ these → list_all never_refused these ≡ true
-    → (new.pairs ≡ pairs_after_all eq old.mode old.pairs these)
-    × (replies ≡ replies_to eq old.mode old.capacity old.pairs these)
+    → {commands : List (Command K V)} {replies : List (Reply K V)} (these : List (Command K V)) → IsValid eq old
+    → Replayed eq old commands replies new → commands ≡ these → list_all never_refused these ≡ true
+    → (new.pairs ≡ pairs_after_all eq old.mode old.pairs these) × (replies ≡ replies_to eq old.mode old.capacity old.pairs these)
 replayed_never_refused laws these valid replayed are never = (
   pairs-replayed_never_refused laws these valid replayed are never,
   replies-replayed_never_refused laws these valid replayed are never,

@@ -1,9 +1,7 @@
 -- For callers: a map stays valid through each change. The map after it is one whose pairs, capacity
 -- and cursor are as the clauses of the call say.
-use Rattle.std.proofs.Common.{◌≡◌, ◌+◌, ◌<◌, ◌≤◌, max, Bool, length, None, is_some, true≢false, refl, sym, ap, ◌∙◌, subst, arith}
+use Rattle.std.proofs.Common.{◌≡◌, ◌+◌, ◌<◌, ◌≤◌, max, Bool, length, None, is_some, true≢false, refl, sym, ap, ◌∙◌, arith}
 use Rattle.std.specs.Option.{IsSome}
-use Rattle.std.specs.List.{IsDistinct}
-use Rattle.std.specs.Map.{keys_of}
 use Rattle.std.specs.Cmp.{IsEquivalence}
 use Rattle.std.specs.declared.cmp.PartialEq as eq
 use Rattle.std.specs.declared.hash.Hash as hash
@@ -28,14 +26,7 @@ module _ {K V S : Type 0} {eq : K → K → Bool} (laws : IsEquivalence eq) {m n
   pub IsValid-put : (mode : Mode) (k : K) (v : V) → IsValid eq m → n.pairs ≡ put eq mode m.pairs k v
       → n.capacity ≡ max m.capacity (length n.pairs) → length n.pairs ≤ LIMIT
       → n.cursor.bookmark + n.cursor.unvisited ≤ length n.pairs → IsValid eq n
-  IsValid-put mode k v valid changed more enough reach =
-      let limit = valid.limit in
-      record {
-        distinct = subst (λ ps. IsDistinct eq (keys_of ps)) (sym changed) (distinct-put laws mode m.pairs k v valid.distinct);
-        within = omega arith;
-        limit = omega arith;
-        reach = reach;
-      }
+  IsValid-put mode k v valid changed more enough reach = grind (arith, distinct-put)
 
   -- after `or_insert`, which leaves what is to be visited
   module _ (k : K) (v : V) (valid : IsValid eq m) (changed : n.pairs ≡ set_or_push eq m.pairs k v)
@@ -55,17 +46,14 @@ module _ {K V S : Type 0} {eq : K → K → Bool} (laws : IsEquivalence eq) {m n
         IsValid-set_or_push (omega arith)
 
 -- after `drain`
-pub IsValid-drained : {K V S : Type 0} {eq : K → K → Bool} {m : LinkedMap K V S} → IsValid eq m
-    → IsValid eq (drained m)
-IsValid-drained {eq = eq} valid =
-    record { distinct = distinct-nil eq; within = omega arith; limit = valid.limit; reach = omega arith }
+pub IsValid-drained : {K V S : Type 0} {eq : K → K → Bool} {m : LinkedMap K V S} → IsValid eq m → IsValid eq (drained m)
+IsValid-drained valid = grind (arith, distinct-nil)
 
 -- after the insertions of an entry, by what their clause `limit` says
 module _ {K V S H : Type 0} {g : eq.Ghosts K} {h : hash.Ghosts K} {b : builder.Ghosts S H} {w : hasher.Ghosts H} where
   -- `or_insert`, `or_insert_with` and `or_default`
-  pub IsValid-set_or_pushed : IsEquivalence g.eq → (e : Entry K V S H g h b w) (v : V)
-      → IsValid g.eq (entry_map e) → (entry_value e ≡ None → length (entry_map e).pairs < LIMIT)
-      → IsValid g.eq (set_or_pushed g.eq (entry_map e) (entry_key e) v)
+  pub IsValid-set_or_pushed : IsEquivalence g.eq → (e : Entry K V S H g h b w) (v : V) → IsValid g.eq (entry_map e)
+      → (entry_value e ≡ None → length (entry_map e).pairs < LIMIT) → IsValid g.eq (set_or_pushed g.eq (entry_map e) (entry_key e) v)
   IsValid-set_or_pushed laws (Occupied o) v valid limit =
       IsValid-set_or_push_present laws (occupied_key o) v valid refl refl refl (is_some-occupied o laws)
   IsValid-set_or_pushed laws (Vacant e) v valid limit =

@@ -85,10 +85,8 @@ module _ {K V : Type 0} {eq : K → K → Bool} (laws : IsEquivalence eq) (keeps
   }
 
 -- the keys visited and those still to visit stay what they are at the start
-pub append-visited : {X : Type 0} (seen later : List X) {now left rest keys : List X}
-    {pushed key : X}
-    → now ≡ seen ++ pushed ∷ [] → pushed ≡ key → left ≡ key ∷ later → rest ≡ later
-    → seen ++ left ≡ keys → now ++ rest ≡ keys
+pub append-visited : {X : Type 0} (seen later : List X) {now left rest keys : List X} {pushed key : X} → now ≡ seen ++ pushed ∷ []
+    → pushed ≡ key → left ≡ key ∷ later → rest ≡ later → seen ++ left ≡ keys → now ++ rest ≡ keys
 append-visited seen later {key = key} grown is visits stays all =
     (λ i. grown i ++ stays i) ∙ append_assoc seen (_ ∷ []) later ∙ ap (λ k. seen ++ k ∷ later) is
     ∙ ap (λ keys. seen ++ keys) (sym visits) ∙ all
@@ -104,19 +102,11 @@ module _ {K V : Type 0} {eq : K → K → Bool} (laws : IsEquivalence eq) {keeps
 
   pub VisitKeeps-passed : {after : List (K × V)} {to_come_after : List K} → keeps (k, v) ≡ true
       → after ≡ pairs → to_come_after ≡ left → VisitKeeps keeps start after to_come_after
-  VisitKeeps-passed {after} {to_come_after} kept stands stays =
-      let r : VisitKeeps keeps start after left = subst (λ ps. VisitKeeps keeps start ps left)
-      (sym (stands ∙ same)) (VisitKeeps-pass laws keeps before distinct has kept) in
-      subst (λ ks. VisitKeeps keeps start after ks) (sym stays) r
+  VisitKeeps-passed kept stands stays = grind (arith, VisitKeeps-pass, before)
 
-  pub VisitKeeps-removed : {after : List (K × V)} {to_come_after : List K} → keeps (k, v) ≡ false
-      → after ≡ without eq pairs k → to_come_after ≡ left
-      → VisitKeeps keeps start after to_come_after
-  VisitKeeps-removed {after} {to_come_after} gone removed stays =
-      let r : VisitKeeps keeps start (without eq now k) left = VisitKeeps-remove laws keeps before distinct has gone in
-      let s : VisitKeeps keeps start after left = subst (λ ps. VisitKeeps keeps start ps left)
-      (sym (removed ∙ ap (λ ps. without eq ps k) same)) r in
-      subst (λ ks. VisitKeeps keeps start after ks) (sym stays) s
+  pub VisitKeeps-removed : {after : List (K × V)} {to_come_after : List K} → keeps (k, v) ≡ false → after ≡ without eq pairs k
+      → to_come_after ≡ left → VisitKeeps keeps start after to_come_after
+  VisitKeeps-removed gone removed stays = grind (arith, VisitKeeps-remove, before)
 
 -- a step of a visit that only puts pairs behind the others: the key that is next is that of the pair
 -- behind the first n
@@ -144,11 +134,7 @@ module _ {K V : Type 0} {eq : K → K → Bool} (laws : IsEquivalence eq) (start
       ∙ ap Some (get_or_append_left start behind (k, v) n within-visited)
 
   come-is : come ≡ (k, v)
-  come-is =
-      let key : come.0 ≡ k = let same = keys in cc in
-      let value : v ≡ come.1 = Some-injective _ _
-      (sym has ∙ ap (value_at eq now) (sym key) ∙ ap (option_map (λ p. p.1)) (find-own laws now distinct n come has_come)) in
-      λ i. (key i, sym value i)
+  come-is = grind (arith, keys, value, Some-injective, find-own, has_come)
 
   pub take-visited : take (n + 1) start ≡ take n start ++ (k, v) ∷ []
   take-visited = take_more start n (k, v) within-visited ∙ ap (λ pair. take n start ++ pair ∷ []) come-is
@@ -157,9 +143,7 @@ module _ {K V : Type 0} {eq : K → K → Bool} (laws : IsEquivalence eq) (start
   slice_get-visited = slice_get-get_or start n (k, v) within-visited ∙ ap Some come-is
 
   pub drop-visited : left ≡ drop (n + 1) (keys_of start)
-  drop-visited =
-      let rest : left ≡ keys_of (drop (n + 1) start) = let same = keys in cc in
-      rest ∙ sym (drop-map (λ (pair : K × V). pair.0) (n + 1) start)
+  drop-visited = grind (arith, keys, drop-map)
 
 -- how far a visit has come that puts what it makes of each pair behind the others: n of the pairs
 -- at the start are passed, and the others are left to visit
@@ -190,9 +174,8 @@ module _ {K V : Type 0} {eq : K → K → Bool} (laws : IsEquivalence eq) {chang
   pub VisitAppends-at : slice_get start n ≡ Some (k, v)
   VisitAppends-at = slice_get-visited laws start copies n w.now_is w.left_is visits distinct has
 
-  pub VisitAppends-appended : {pairs after : List (K × V)} {to_come_after : List K} → pairs ≡ now
-      → after ≡ pairs ++ change (k, v) ∷ [] → to_come_after ≡ left
-      → VisitAppends change start after to_come_after (n + 1)
+  pub VisitAppends-appended : {pairs after : List (K × V)} {to_come_after : List K} → pairs ≡ now → after ≡ pairs ++ change (k, v) ∷ []
+      → to_come_after ≡ left → VisitAppends change start after to_come_after (n + 1)
   VisitAppends-appended same appended stays = record {
     now_is = appended ∙ ap (λ (ps : List (K × V)). ps ++ change (k, v) ∷ []) (same ∙ w.now_is)
         ∙ append_assoc start copies (change (k, v) ∷ [])
@@ -210,9 +193,8 @@ module _ {V S : Type 0} {change : ℕ × V → ℕ × V} {start : List (ℕ × V
   pub VisitAppends-at_number : slice_get start n ≡ Some (k, v)
   VisitAppends-at_number = VisitAppends-at nat_eq_equiv w visits valid.distinct has
 
-  pub VisitAppends-appended_number : {pairs after : List (ℕ × V)} {to_come_after : List ℕ}
-      → pairs ≡ now.pairs → after ≡ pairs ++ change (k, v) ∷ [] → to_come_after ≡ left
-      → VisitAppends change start after to_come_after (n + 1)
+  pub VisitAppends-appended_number : {pairs after : List (ℕ × V)} {to_come_after : List ℕ} → pairs ≡ now.pairs
+      → after ≡ pairs ++ change (k, v) ∷ [] → to_come_after ≡ left → VisitAppends change start after to_come_after (n + 1)
   VisitAppends-appended_number = VisitAppends-appended nat_eq_equiv w visits valid.distinct has
 
 -- the end of a visit that puts pairs behind the others
@@ -252,8 +234,7 @@ module _ {K V S : Type 0} {eq : K → K → Bool} (laws : IsEquivalence eq) {kee
         counted = omega (arith, w.counted, ap length stands);
       }
 
-  pub VisitTakes-removed : {after : LinkedMap K V S} → keeps (k, v) ≡ false
-      → after.pairs ≡ without eq now.pairs k → to_visit after ≡ left
+  pub VisitTakes-removed : {after : LinkedMap K V S} → keeps (k, v) ≡ false → after.pairs ≡ without eq now.pairs k → to_visit after ≡ left
       → VisitTakes keeps start after (taken + 1)
   VisitTakes-removed {after} gone removed stays =
       let fewer : length after.pairs + 1 ≡ length now.pairs = ap (λ (ps : List (K × V)). length ps + 1) removed

@@ -1,7 +1,7 @@
 -- For callers: whole runs. If nothing is refused, the replies, the pairs and the capacity follow
 -- from the commands and the first map. Two runs with the same refusals have the same answers.
 use Rattle.std.proofs.Common.{◌≡◌, ℕ, Bool, true, false, Result, Ok, Err, IfOk, IsOkAnd, Vec, Global, ◌||◌, ◌&&◌, IsFalse, List, [], ◌∷◌}
-use Rattle.std.proofs.Common.{Option, Some, None, slice_get, map, refl, sym, ap, ap₂, ◌∙◌, subst, true≢false}
+use Rattle.std.proofs.Common.{Option, Some, None, slice_get, map, refl, sym, ap, ap₂, ◌∙◌, subst}
 use Rattle.std.specs.List.{list_any, list_all}
 use Rattle.std.specs.Cmp.{IsEquivalence}
 use Rattle.linked_hash_map.specs.declared.map.Mode.{Mode}
@@ -12,13 +12,11 @@ use Rattle.linked_hash_map.specs.AllowedAnswers.{log_after, Answers}
 use Rattle.linked_hash_map.specs.Run.{first_log, last_log, IsReply, IsRun}
 use Rattle.linked_hash_map.specs.Commands.{is_refusal, refused_after, refusals, answer_to, replies_to}
 use Rattle.linked_hash_map.specs.Commands.{mode_after, pairs_after, capacity_after, pairs_after_all}
-use Rattle.linked_hash_map.specs.LastUses.{sets_keep, pairs_by_use}
 use Rattle.linked_hash_map.specs.declared.replay.Command.{Command}
-use Rattle.linked_hash_map.specs.declared.replay.Command.TheVariants.{Insert, Write, Refresh, Remove, PopFront, PopBack, Clear, Drain}
-use Rattle.linked_hash_map.specs.declared.replay.Command.TheVariants.{Extend, OrInsert, EntryInsert, EntryRemove, Reserve, Shrink, SetMode}
+use Rattle.linked_hash_map.specs.declared.replay.Command.TheVariants.{Insert, Write, Refresh, Remove, PopFront, PopBack, Clear}
+use Rattle.linked_hash_map.specs.declared.replay.Command.TheVariants.{Extend, OrInsert, EntryInsert, EntryRemove, SetMode}
 use Rattle.linked_hash_map.specs.declared.replay.Answer.{Answer}
-use Rattle.linked_hash_map.specs.declared.replay.Answer.TheVariants.{New, Old, Found, Missing, Absent, Refused, Pair, Empty, Pairs, Stopped}
-use Rattle.linked_hash_map.specs.declared.replay.Answer.TheVariants.{Done, TooLarge, NoRoom}
+use Rattle.linked_hash_map.specs.declared.replay.Answer.TheVariants.{Refused, Stopped, NoRoom}
 use Rattle.linked_hash_map.specs.declared.replay.Reply.{Reply}
 use Rattle.linked_hash_map.proofs.Callers.Replay.{Replied-given, Defines-first, is_refusal-write, is_refusal-refresh, is_refusal-remove}
 use Rattle.linked_hash_map.proofs.Callers.Replay.{is_refusal-entry_remove, is_refusal-pop_front, is_refusal-pop_back, is_refusal-clear}
@@ -26,6 +24,7 @@ use Rattle.linked_hash_map.proofs.Callers.Replay.{is_refusal-set_mode}
 use Rattle.linked_hash_map.proofs.lists.Elements.{none_first, none_later}
 pub use Rattle.linked_hash_map.proofs.log.WithoutKeep.{pairs-in_touch}
 use Rattle.linked_hash_map.proofs.runs.Outcomes.{outcome}
+use Rattle.std.proofs.Common.{arith}
 -- what `replay` says if it returns replies
 pub use Rattle.linked_hash_map.specs.Run.{Replayed}
 
@@ -94,30 +93,24 @@ module _ {K V : Type 0} {eq : K → K → Bool} (laws : IsEquivalence eq) where
       Defines-given commands replies replied.defines run.1 (none_later refused later given)
 
 pub both_hold : (a b : Bool) → (a && b) ≡ true → (a ≡ true) × (b ≡ true)
-both_hold true b h = (refl, h)
-both_hold false b h = absurd (true≢false (sym h))
+both_hold a b h = grind arith
 
 -- commands that are never refused get no such reply
 module _ {K V : Type 0} {eq : K → K → Bool} (laws : IsEquivalence eq) (start : ℕ) where
-  is_refusal-never : {log : Log K V} {contents : List (K × V)} {capacity : ℕ} {mode : Mode}
-      → Defines eq start log contents capacity mode → (command : Command K V) (reply : Reply K V)
-      → IsReply eq start log command reply → never_refused command ≡ true
+  is_refusal-never : {log : Log K V} {contents : List (K × V)} {capacity : ℕ} {mode : Mode} → Defines eq start log contents capacity mode
+      → (command : Command K V) (reply : Reply K V) → IsReply eq start log command reply → never_refused command ≡ true
       → is_refusal reply.answer ≡ false
-  is_refusal-never defines (Write k v) reply is never = is_refusal-write laws k v reply defines is
-  is_refusal-never defines (Refresh k) reply is never = is_refusal-refresh laws k reply defines is
-  is_refusal-never defines (Remove k) reply is never = is_refusal-remove laws k reply defines is
-  is_refusal-never defines (EntryRemove k) reply is never = is_refusal-entry_remove laws k reply defines is
-  is_refusal-never defines PopFront reply is never = is_refusal-pop_front laws reply defines is
-  is_refusal-never defines PopBack reply is never = is_refusal-pop_back laws reply defines is
-  is_refusal-never defines Clear reply is never = is_refusal-clear laws reply defines is
-  is_refusal-never defines (SetMode mode) reply is never = is_refusal-set_mode laws mode reply defines is
-  is_refusal-never defines (Insert k v) reply is never = absurd (true≢false (sym never))
-  is_refusal-never defines Drain reply is never = absurd (true≢false (sym never))
-  is_refusal-never defines (Extend items) reply is never = absurd (true≢false (sym never))
-  is_refusal-never defines (OrInsert k v) reply is never = absurd (true≢false (sym never))
-  is_refusal-never defines (EntryInsert k v) reply is never = absurd (true≢false (sym never))
-  is_refusal-never defines (Reserve additional) reply is never = absurd (true≢false (sym never))
-  is_refusal-never defines Shrink reply is never = absurd (true≢false (sym never))
+  is_refusal-never defines command reply is never = grind (
+    arith,
+    is_refusal-write,
+    is_refusal-refresh,
+    is_refusal-remove,
+    is_refusal-entry_remove,
+    is_refusal-pop_front,
+    is_refusal-pop_back,
+    is_refusal-clear,
+    is_refusal-set_mode,
+  )
 
   NoneRefused-run : (commands : List (Command K V)) (replies : List (Reply K V)) {log : Log K V}
       {contents : List (K × V)} {capacity : ℕ} {mode : Mode}
@@ -136,20 +129,17 @@ module _ {K V S : Type 0} {eq : K → K → Bool} (laws : IsEquivalence eq) {old
     {commands : List (Command K V)} {replies : List (Reply K V)} (valid : IsValid eq old)
     (replayed : Replayed eq old commands replies new) where
   -- of a whole run: what `replay` returned, and what the map holds
-  replies-replayed : NoneRefused replies
-      → replies ≡ replies_to eq old.mode old.capacity old.pairs commands
+  replies-replayed : NoneRefused replies → replies ≡ replies_to eq old.mode old.capacity old.pairs commands
   replies-replayed = replies-given laws commands replies (Defines-first laws valid) replayed.run
 
-  pub pairs-replayed : NoneRefused replies
-      → new.pairs ≡ pairs_after_all eq old.mode old.pairs commands
+  pub pairs-replayed : NoneRefused replies → new.pairs ≡ pairs_after_all eq old.mode old.pairs commands
   pairs-replayed given =
       let defines = Defines-given laws commands replies (Defines-first laws valid) replayed.run given in
       replayed.pairs ∙ defines.same_pairs
 
   -- of commands each of which is never refused, no reply is a refusal
   pub NoneRefused-replayed : list_all never_refused commands ≡ true → NoneRefused replies
-  NoneRefused-replayed =
-      NoneRefused-run laws old.capacity commands replies (Defines-first laws valid) replayed.run
+  NoneRefused-replayed = NoneRefused-run laws old.capacity commands replies (Defines-first laws valid) replayed.run
 
 -- a run of these commands, each of which is never refused: the replies and the pairs follow from
 -- them with no more ado
@@ -189,58 +179,33 @@ module _ {K V : Type 0} {eq : K → K → Bool} (laws : IsEquivalence eq) (start
     answer-Refused : (command : Command K V) (k : K) (v : V)
         → Answers eq start log command (Refused k v) → Refused k v ≡ refused_answer 0 command
     unfolding refused_answer
-    answer-Refused (Insert k v) j w told = ap₂ (λ key value. Refused key value) told.1 told.2
-    answer-Refused (OrInsert k v) j w told = ap₂ (λ key value. Refused key value) told.1 told.2
-    answer-Refused (EntryInsert k v) j w told = ap₂ (λ key value. Refused key value) told.1 told.2
-    answer-Refused _ j w told = absurd told
+    answer-Refused command j w told = grind arith
 
     answer-Stopped : (command : Command K V) (n : ℕ) (k : K) (v : V)
         → Answers eq start log command (Stopped n k v) → Stopped n k v ≡ refused_answer n command
     unfolding refused_answer stopped_at
-    answer-Stopped (Extend items) n k v told = ap (stopped_at n) (sym told.0)
-    answer-Stopped _ n k v told = absurd told
+    answer-Stopped command n k v told = grind (arith, stopped_at)
 
-    answer-NoRoom : (command : Command K V) → Answers eq start log command NoRoom
-        → NoRoom ≡ refused_answer 0 command
+    answer-NoRoom : (command : Command K V) → Answers eq start log command NoRoom → NoRoom ≡ refused_answer 0 command
     unfolding refused_answer
-    answer-NoRoom Drain told = refl
-    answer-NoRoom (Reserve additional) told = refl
-    answer-NoRoom Shrink told = refl
-    answer-NoRoom _ told = absurd told
+    answer-NoRoom command told = grind arith
 
     answer-given : (command : Command K V) (answer : Answer K V) → Answers eq start log command answer
         → is_refusal answer ≡ false → answer ≡ answer_to eq (pairs eq log) command
     answer-given command answer told given = (outcome laws {start = start} {log = log}
         {capacity = high eq start log} (record { same_pairs = refl; same_capacity = refl; same_mode = refl }) command answer told given).0
 
-    answer-allowed : (command : Command K V) (answer : Answer K V)
-        → Answers eq start log command answer
+    answer-allowed : (command : Command K V) (answer : Answer K V) → Answers eq start log command answer
         → answer ≡ answer_if eq (pairs eq log) command (refused_after answer)
     unfolding answer_if
-    answer-allowed command (Refused k v) told = answer-Refused command k v told
-    answer-allowed command (Stopped n k v) told = answer-Stopped command n k v told
-    answer-allowed command NoRoom told = answer-NoRoom command told
-    answer-allowed command New told = answer-given command New told refl
-    answer-allowed command (Old v) told = answer-given command (Old v) told refl
-    answer-allowed command Found told = answer-given command Found told refl
-    answer-allowed command Missing told = answer-given command Missing told refl
-    answer-allowed command (Absent k v) told = answer-given command (Absent k v) told refl
-    answer-allowed command (Pair k v) told = answer-given command (Pair k v) told refl
-    answer-allowed command Empty told = answer-given command Empty told refl
-    answer-allowed command (Pairs drained) told = answer-given command (Pairs drained) told refl
-    answer-allowed command Done told = answer-given command Done told refl
-    answer-allowed command TooLarge told = answer-given command TooLarge told refl
+    answer-allowed command answer told = grind (arith, answer-Refused, answer-Stopped, answer-NoRoom, answer-given)
 
 -- two runs of the same commands on one log, from any capacities, with the same refusals have the
 -- same answers and end with one log
 module _ {K V : Type 0} {eq : K → K → Bool} (laws : IsEquivalence eq) (start start' : ℕ) where
-  same_answer : (log : Log K V) (command : Command K V) (answer answer' : Answer K V)
-      → Answers eq start log command answer → Answers eq start' log command answer'
-      → refused_after answer ≡ refused_after answer' → answer ≡ answer'
-  same_answer log command answer answer' told told' same =
-      answer-allowed laws start log command answer told
-      ∙ ap (answer_if eq (pairs eq log) command) same
-      ∙ sym (answer-allowed laws start' log command answer' told')
+  same_answer : (log : Log K V) (command : Command K V) (answer answer' : Answer K V) → Answers eq start log command answer
+      → Answers eq start' log command answer' → refused_after answer ≡ refused_after answer' → answer ≡ answer'
+  same_answer log command answer answer' told told' same = grind (arith, answer-allowed, answer_if)
 
   same_answers : (commands : List (Command K V)) (replies replies' : List (Reply K V)) (log : Log K V)
       → IsRun eq start log commands replies × IsRun eq start' log commands replies'
@@ -259,18 +224,11 @@ module _ {K V : Type 0} {eq : K → K → Bool} (laws : IsEquivalence eq) (start
       run'.0.allowed.answers first in
       let rest = same_answers commands replies replies' (log_after eq log command reply.answer) (
         run.1,
-        subst (λ answer. IsRun eq start' (log_after eq log command answer) commands replies')
-            (sym answer) run'.1,
-      ) others in (
-        ap₂ (λ answer answers. answer ∷ answers) answer rest.0,
-        rest.1 ∙ ap (λ answer. last_log eq (log_after eq log command answer) commands replies') answer,
-      )
+        grind arith,
+      ) others in grind arith
 
 refused_after-given : {K V : Type 0} (answer : Answer K V) → is_refusal answer ≡ false → refused_after answer ≡ None
-refused_after-given (Refused k v) given = absurd (true≢false given)
-refused_after-given (Stopped n k v) given = absurd (true≢false given)
-refused_after-given NoRoom given = absurd (true≢false given)
-refused_after-given _ given = refl
+refused_after-given answer given = grind arith
 
 module _ {K V : Type 0} (eq : K → K → Bool) (start : ℕ) where
   -- a run in which nothing is refused has no refusal after any command
@@ -319,28 +277,10 @@ module _ {K V S T E : Type 0} {eq : K → K → Bool} (laws : IsEquivalence eq)
 
     pub same_refusals : (run run' : Result (Vec (Reply K V) Global) E) → commands ≡ copies
         → IfOk run (λ replies. Replayed eq old commands replies.items new)
-        → IfOk run' (λ replies. Replayed eq old' copies replies.items new')
-        → IsOkAnd run (λ replies. NoneRefused replies.items)
+        → IfOk run' (λ replies. Replayed eq old' copies replies.items new') → IsOkAnd run (λ replies. NoneRefused replies.items)
         → IsOkAnd run' (λ replies. NoneRefused replies.items)
-        → IsOkAnd run (λ replies. IsOkAnd run' (λ replies'.
-        refusals replies.items ≡ refusals replies'.items))
-    same_refusals (Err refused) run' copied replayed replayed' given given' = absurd given
-    same_refusals (Ok replies) (Err refused) copied replayed replayed' given given' = absurd given'
-    same_refusals (Ok replies) (Ok replies') copied replayed replayed' given given' =
-        refusals-given eq old.capacity commands replies.items (first_log old.mode old.pairs) replayed.run given
-        ∙ sym (refusals-given eq old'.capacity commands replies'.items (first_log old'.mode old'.pairs)
-        (subst (λ cs. IsRun eq old'.capacity (first_log old'.mode old'.pairs) cs replies'.items) (sym copied) replayed'.run) given')
-
--- the pairs after a run whose log never sets the mode to Keep
-pub pairs-replayed_in_touch : {K V S E : Type 0} (eq : K → K → Bool) (old new : LinkedMap K V S)
-    (commands : List (Command K V)) (run : Result (Vec (Reply K V) Global) E)
-    → IfOk run (λ replies. Replayed eq old commands replies.items new)
-    → IfOk run (λ replies.
-    list_any sets_keep (last_log eq (first_log old.mode old.pairs) commands replies.items) ≡ false
-    → new.pairs ≡ pairs_by_use eq (last_log eq (first_log old.mode old.pairs) commands replies.items))
-pairs-replayed_in_touch eq old new commands (Err refused) replayed = tt
-pairs-replayed_in_touch eq old new commands (Ok replies) replayed = λ touch. replayed.pairs
-    ∙ pairs-in_touch eq (last_log eq (first_log old.mode old.pairs) commands replies.items) touch
+        → IsOkAnd run (λ replies. IsOkAnd run' (λ replies'. refusals replies.items ≡ refusals replies'.items))
+    same_refusals run run' copied replayed replayed' given given' = grind (arith, refusals-given)
 
 -- the pairs after a run whose log never sets the mode to Keep
 pub ruleset in_touch = (pairs-in_touch)

@@ -1,6 +1,6 @@
 -- For callers: values that are written, and calls one after another by the same key.
-use Rattle.std.proofs.Common.{◌≡◌, Bool, true, false, cond, not, List, [], ◌∷◌, ◌++◌, append-nil, Option, Some, None}
-use Rattle.std.proofs.Common.{is_some, option_map, unwrap_or, true≢false, refl, sym, ap, ap₂, ◌∙◌}
+use Rattle.std.proofs.Common.{◌≡◌, Bool, true, false, cond, List, [], ◌∷◌, append-nil, Option, Some, None, arith}
+use Rattle.std.proofs.Common.{is_some, option_map, unwrap_or, refl, ap, ap₂, ◌∙◌}
 use Rattle.std.specs.Option.{IsSome}
 use Rattle.std.specs.Borrow.{MutBor}
 use Rattle.std.specs.Fn.{Once}
@@ -17,13 +17,9 @@ use Rattle.linked_hash_map.proofs.Callers.Keys.{find-absent, IsSome-find, set_or
 pub use Rattle.linked_hash_map.proofs.pairs.Indexes.{set_value-own}
 
 -- if a call leaves `change v` for a value v, `and_modify` changes the value of a key so
-pub modified : {F X R : Type 0} {g : Once F (MutBor X × Unit {0}) (R × (MutBor X × Unit {0}))}
-    {f : F} (change : X → X) (old new : Option X)
-    → ModifiesValue g f old new → ((v w : X) → MayWrite g f v w → w ≡ change v)
-    → new ≡ option_map change old
-modified change None new called leaves = called
-modified change (Some v) None called leaves = absurd called
-modified change (Some v) (Some w) called leaves = ap Some (leaves v w called)
+pub modified : {F X R : Type 0} {g : Once F (MutBor X × Unit {0}) (R × (MutBor X × Unit {0}))} {f : F} (change : X → X) (old new : Option X)
+    → ModifiesValue g f old new → ((v w : X) → MayWrite g f v w → w ≡ change v) → new ≡ option_map change old
+modified change old new called leaves = grind arith
 
 -- nor does one that is written so
 module _ {K V : Type 0} {eq : K → K → Bool} (laws : IsEquivalence eq) (pairs : List (K × V)) (k : K)
@@ -33,25 +29,18 @@ module _ {K V : Type 0} {eq : K → K → Bool} (laws : IsEquivalence eq) (pairs
 
 -- nor does `or_insert` of a key that is there, by an entry that acts as the key does
 module _ {K V : Type 0} {eq : K → K → Bool} (laws : IsEquivalence eq) where
-  own_or : (found : Option (K × V)) (v w : V) → is_some found ≡ true
-      → w ≡ unwrap_or (option_map (λ pair. pair.1) found) v
+  own_or : (found : Option (K × V)) (v w : V) → is_some found ≡ true → w ≡ unwrap_or (option_map (λ pair. pair.1) found) v
       → option_map (λ pair. pair.1) found ≡ Some w
-  own_or None v w there is = absurd (true≢false (sym there))
-  own_or (Some pair) v w there is = ap Some (sym is)
+  own_or found v w there is = grind arith
 
-  pub set_or_push-present_own : (contents pairs : List (K × V)) (stored k : K) (v w : V) (o : Option V)
-      → ActsAs eq pairs stored k → contents ≡ pairs → w ≡ unwrap_or o v
-      → o ≡ value_at eq pairs k → IsSome (find eq pairs k) → IsDistinct eq (keys_of pairs)
+  pub set_or_push-present_own : (contents pairs : List (K × V)) (stored k : K) (v w : V) (o : Option V) → ActsAs eq pairs stored k
+      → contents ≡ pairs → w ≡ unwrap_or o v → o ≡ value_at eq pairs k → IsSome (find eq pairs k) → IsDistinct eq (keys_of pairs)
       → set_or_push eq contents stored w ≡ pairs
-  set_or_push-present_own contents pairs stored k v w o acts same is held there distinct =
-      ap (λ ps. set_or_push eq ps stored w) same ∙ acts.sets_or_pushes w
-      ∙ set_or_push-own laws pairs k w distinct
-      (own_or (find eq pairs k) v w there (is ∙ ap (λ p. unwrap_or p v) held))
+  set_or_push-present_own contents pairs stored k v w o acts same is held there distinct = grind (arith, set_or_push-own, own_or)
 
 module _ {K V : Type 0} (eq : K → K → Bool) where
   -- the later of two writes counts
-  pub set_value-set_value : (pairs : List (K × V)) (k : K) (w v : V)
-      → set_value eq (set_value eq pairs k w) k v ≡ set_value eq pairs k v
+  pub set_value-set_value : (pairs : List (K × V)) (k : K) (w v : V) → set_value eq (set_value eq pairs k w) k v ≡ set_value eq pairs k v
   set_value-set_value [] k w v = refl
   set_value-set_value (pair ∷ pairs) k w v = ap₂ (λ p ps. p ∷ ps) (by_test (eq k pair.0) refl) (set_value-set_value pairs k w v)
     where
@@ -75,34 +64,16 @@ module _ {K V : Type 0} (eq : K → K → Bool) where
   -- a write after `and_modify`, as by entry(k).and_modify(f).or_insert(v), counts alone
   pub set_or_push-set_if_some : (pairs : List (K × V)) (k : K) (o : Option V) (v : V)
       → set_or_push eq (set_if_some eq pairs k o) k v ≡ set_or_push eq pairs k v
-  set_or_push-set_if_some pairs k None v = refl
-  set_or_push-set_if_some pairs k (Some w) v = by_test (is_some (find eq pairs k)) refl
-    where
-      set : List (K × V)
-      set = set_value eq pairs k w
-
-      by_test : (b : Bool) → is_some (find eq pairs k) ≡ b → set_or_push eq set k v ≡ set_or_push eq pairs k v
-      by_test true there =
-          set_or_push-present eq set k v (found-set_value pairs k w ∙ there)
-          ∙ set_value-set_value pairs k w v
-          ∙ sym (set_or_push-present eq pairs k v there)
-      by_test false none =
-          let absent = find-absent eq pairs k none in
-          ap (λ ps. set_or_push eq ps k v) (set_value-none eq pairs k w absent)
+  set_or_push-set_if_some pairs k o v =
+      grind (arith, set_or_push-present, found-set_value, set_value-set_value, find-absent, set_value-none)
 
 -- an insertion taken back: a new key is removed, and a key that was there gets its old value
 module _ {K V : Type 0} {eq : K → K → Bool} (laws : IsEquivalence eq) where
   pub without-put : (mode : Mode) (pairs : List (K × V)) (k : K) (v : V)
       → value_at eq pairs k ≡ None → without eq (put eq mode pairs k v) k ≡ pairs
-  without-put mode pairs k v missing =
-      let none = find-absent eq pairs k (sym (is_some-value_at eq pairs k) ∙ ap is_some missing) in
-      ap (λ ps. without eq ps k) (put-absent eq mode pairs k v none)
-      ∙ filter-append (λ pair. not (eq k pair.0)) pairs ((k, v) ∷ [])
-      ∙ ap₂ (λ ps b. ps ++ cond (not b) ((k, v) ∷ []) []) (without-absent eq pairs k none) (laws.refl k)
-      ∙ append-nil pairs
+  without-put mode pairs k v missing = grind (arith, find-absent, is_some-value_at, put-absent, filter-append, without-absent, append-nil)
 
-  pub set_value-set_or_push : (pairs : List (K × V)) (k : K) (w v : V)
-      → IsDistinct eq (keys_of pairs) → value_at eq pairs k ≡ Some v
+  pub set_value-set_or_push : (pairs : List (K × V)) (k : K) (w v : V) → IsDistinct eq (keys_of pairs) → value_at eq pairs k ≡ Some v
       → set_value eq (set_or_push eq pairs k w) k v ≡ pairs
   set_value-set_or_push pairs k w v distinct own =
       ap (λ ps. set_value eq ps k v) (set_or_push-present eq pairs k w (IsSome-find eq pairs k v own))

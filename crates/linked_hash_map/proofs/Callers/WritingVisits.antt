@@ -1,8 +1,7 @@
 -- For callers: a visit that takes some of the pairs out and writes the values of the others, step
 -- by step.
-use Rattle.std.proofs.Common.{◌≡◌, ℕ, Bool, true, false, cond, List, [], ◌∷◌, ◌++◌, length, map, slice_get}
-use Rattle.std.proofs.Common.{option_map, Some, IfSome, filter, refl, sym, ap}
-use Rattle.std.proofs.Common.{subst, ◌∙◌, append_assoc}
+use Rattle.std.proofs.Common.{◌≡◌, ℕ, Bool, true, false, cond, List, [], ◌∷◌, ◌++◌, length, map, slice_get, arith, option_map, Some, IfSome}
+use Rattle.std.proofs.Common.{filter, refl, sym, ap, subst, ◌∙◌, append_assoc}
 use Rattle.std.specs.Cmp.{IsEquivalence}
 use Rattle.std.specs.List.{IsDistinct, remove}
 use Rattle.std.specs.Map.{keys_of}
@@ -80,8 +79,7 @@ module _ {K V : Type 0} {eq : K → K → Bool} (laws : IsEquivalence eq) {keeps
       ∙ ap (λ ps. remove ps (length done)) now-seam ∙ remove-append done n.node n.after)
 
   at_start : slice_get start (length w.passed) ≡ Some (k, v)
-  at_start = ap (λ ps. slice_get ps (length w.passed)) start-seam
-      ∙ slice_get-append w.passed n.node n.after ∙ ap Some (sym pair_is)
+  at_start = grind (arith, start-seam, slice_get-append, pair_is)
 
 -- a step of the loop, as the clauses of `next_entry` and of the entry's calls say it
 module _ {K V : Type 0} {eq : K → K → Bool} (laws : IsEquivalence eq) {keeps : K × V → Bool} {change : K × V → V}
@@ -99,14 +97,10 @@ module _ {K V : Type 0} {eq : K → K → Bool} (laws : IsEquivalence eq) {keeps
   pub VisitMaps-holds : (P : K × V → Type 0) → ((i : ℕ) → IfSome (slice_get start i) P) → P (k, v)
   VisitMaps-holds P each = let at = VisitMaps-start in subst (λ o. IfSome o P) at.1 (each at.0)
 
-  pub VisitMaps-written : {pairs after : List (K × V)} → pairs ≡ now → {to_come_after : List K} {new : V}
-      → keeps (k, v) ≡ true → new ≡ change (k, v) → after ≡ set_value eq pairs k new
-      → to_come_after ≡ left → VisitMaps keeps change start after to_come_after
-  VisitMaps-written {after = after} same kept is written stays = subst (λ ks. VisitMaps keeps change start after ks) (sym stays)
-      (write laws before distinct has kept (written ∙ (λ i. set_value eq (same i) k (is i))))
+  pub VisitMaps-written : {pairs after : List (K × V)} → pairs ≡ now → {to_come_after : List K} {new : V} → keeps (k, v) ≡ true
+      → new ≡ change (k, v) → after ≡ set_value eq pairs k new → to_come_after ≡ left → VisitMaps keeps change start after to_come_after
+  VisitMaps-written same kept is written stays = grind (arith, write, before)
 
-  pub VisitMaps-removed : {pairs after : List (K × V)} → pairs ≡ now → {to_come_after : List K}
-      → keeps (k, v) ≡ false → after ≡ without eq pairs k → to_come_after ≡ left
-      → VisitMaps keeps change start after to_come_after
-  VisitMaps-removed {after = after} same gone removed stays = subst (λ ks. VisitMaps keeps change start after ks) (sym stays)
-      (take_out laws before distinct has gone (removed ∙ ap (λ ps. without eq ps k) same))
+  pub VisitMaps-removed : {pairs after : List (K × V)} → pairs ≡ now → {to_come_after : List K} → keeps (k, v) ≡ false
+      → after ≡ without eq pairs k → to_come_after ≡ left → VisitMaps keeps change start after to_come_after
+  VisitMaps-removed same gone removed stays = grind (arith, take_out, before)

@@ -1,5 +1,5 @@
 -- Lists without repetitions.
-use Rattle.std.proofs.Common.{◌≡◌, ℕ, zero, suc, Bool, false, ◌||◌, List, [], ◌∷◌, ◌++◌, IsTrue, remove, refl, ap, ◌∙◌}
+use Rattle.std.proofs.Common.{◌≡◌, ℕ, zero, suc, Bool, false, ◌||◌, List, [], ◌∷◌, ◌++◌, IsTrue, remove, refl, ap, ◌∙◌, arith}
 use Rattle.std.specs.List.{list_any, IsDistinct, AllByRecursion}
 use Rattle.std.specs.Cmp.{IsEquivalence}
 use Rattle.lhm_ring.proofs.lists.ForAll.{AllByRecursion-map}
@@ -32,9 +32,7 @@ pub distinct_last : {K : Type 0} {eq : K → K → Bool} → IsEquivalence eq �
     → IsDistinct eq (ks ++ k ∷ []) → IsDistinct eq ks × (list_any (eq k) ks ≡ false)
 unfolding IsDistinct
 distinct_last laws [] k h = (tt, refl)
-distinct_last {K} {eq} laws (q ∷ ks) k h =
-    let a = all_init (λ y. eq q y ≡ false) ks k h.0 in let r = distinct_last laws ks k h.1 in
-    ((a.0, r.0), ap (λ b. b || list_any (eq k) ks) (laws.symm k q ∙ a.1) ∙ r.1)
+distinct_last {K} {eq} laws (q ∷ ks) k h = let a = all_init (λ y. eq q y ≡ false) ks k h.0 in grind (arith, distinct_last laws ks k h.1)
 
 -- an element is replaced
 pub AllByRecursion-replaced : {X : Type 0} (P : X → Type 0) (xs : List X) {x y : X} (ys : List X) → (P x → P y)

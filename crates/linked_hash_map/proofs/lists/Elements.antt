@@ -1,8 +1,6 @@
 -- Lists, cut at an element or with one more at the end.
-use Rattle.std.proofs.Common.{◌≡◌, ℕ, ◌+◌, ◌-◌, max, Bool, true, false, cond, not, ◌||◌, List, []}
-use Rattle.std.proofs.Common.{◌∷◌, ◌++◌, map, length, Option, Some, None, refl}
-use Rattle.std.proofs.Common.{sym, ap, ◌∙◌, arith, append_assoc, append-nil, drop_of_length-le}
-use Rattle.std.proofs.Common.{length-append, true≢false}
+use Rattle.std.proofs.Common.{◌≡◌, ℕ, ◌+◌, max, Bool, false, cond, ◌||◌, List, [], ◌∷◌, ◌++◌, map, length, Option, Some, None, refl}
+use Rattle.std.proofs.Common.{sym, ap, ◌∙◌, arith, append_assoc, append-nil, drop_of_length-le, length-append}
 use Rattle.std.specs.List.{after_last, suffix_len, prefix_len, zip}
 use Rattle.std.specs.Option.{option_or}
 use Rattle.std.proofs.lemmas.List.{reverse-append, drop-append-le, map-append}
@@ -21,12 +19,10 @@ module _ {A : Type 0} (P : List A → Type 0) (step : (xs : List A) (x : A) → 
 
 -- a test that holds of none holds neither of the first nor of the others
 pub none_first : (a b : Bool) → (a || b) ≡ false → a ≡ false
-none_first true b h = absurd (true≢false h)
-none_first false b h = refl
+none_first a b h = grind arith
 
 pub none_later : (a b : Bool) → (a || b) ≡ false → b ≡ false
-none_later true b h = absurd (true≢false h)
-none_later false b h = h
+none_later a b h = grind arith
 
 -- the first of a list and the others
 pub length-first_none : {X : Type 0} (xs : List X) → first xs ≡ None → length xs ≡ 0
@@ -34,8 +30,7 @@ length-first_none [] none = refl
 length-first_none (x ∷ xs) none = cc
 
 pub cons-without_first : {X : Type 0} (xs : List X) (x : X) → Some x ≡ first xs → x ∷ without_first xs ≡ xs
-cons-without_first [] x found = cc
-cons-without_first (y ∷ xs) x found = cc
+cons-without_first xs x found = grind arith
 
 module _ {X : Type 0} (p : X → Bool) where
   suffix_len-snoc : (xs : List X) (x : X) → suffix_len p (xs ++ x ∷ []) ≡ cond (p x) (1 + suffix_len p xs) 0
@@ -43,15 +38,7 @@ module _ {X : Type 0} (p : X → Bool) where
 
 module _ {X : Type 0} (p : X → Bool) where
   after_last_at : (xs : List X) (x : X) (b : Bool) → p x ≡ b → after_last p (xs ++ x ∷ []) ≡ cond b [] (after_last p xs ++ x ∷ [])
-  after_last_at xs x true e =
-      let s = suffix_len-snoc (λ y. not (p y)) xs x in let l = length-append xs (x ∷ []) in
-      drop_of_length-le (xs ++ x ∷ []) (rw (s, e) (omega arith))
-  after_last_at xs x false e =
-      let s = suffix_len-snoc (λ y. not (p y)) xs x in let l = length-append xs (x ∷ []) in
-      let le = suffix_len-le-length (λ y. not (p y)) xs in
-      let n : length (xs ++ x ∷ []) - suffix_len (λ y. not (p y)) (xs ++ x ∷ []) ≡ length xs - suffix_len (λ y. not (p y)) xs =
-      rw (s, e) (omega arith) in
-      rw n (drop-append-le (length xs - suffix_len (λ y. not (p y)) xs) xs (x ∷ []) (omega arith))
+  after_last_at xs x b e = grind (arith, suffix_len-snoc, length-append, drop_of_length-le, suffix_len-le-length, drop-append-le)
 
   -- after the last that passes, with one more at the end
   pub after_last-snoc : (xs : List X) (x : X) → after_last p (xs ++ x ∷ []) ≡ cond (p x) [] (after_last p xs ++ x ∷ [])
@@ -61,12 +48,10 @@ module _ {X : Type 0} (p : X → Bool) where
   after_last-more xs x h = after_last_at xs x false h
 
 pub option_or_assoc : {Y : Type 0} (a b c : Option Y) → option_or (option_or a b) c ≡ option_or a (option_or b c)
-option_or_assoc None b c = refl
-option_or_assoc (Some x) b c = refl
+option_or_assoc a b c = grind arith
 
 pub option_or_none : {Y : Type 0} (a : Option Y) → option_or a None ≡ a
-option_or_none None = refl
-option_or_none (Some x) = refl
+option_or_none a = grind arith
 
 module _ {X Y : Type 0} (f : X → Option Y) where
   pub first_some-snoc : (xs : List X) (x : X) → first_some f (xs ++ x ∷ []) ≡ option_or (first_some f xs) (f x)
@@ -83,8 +68,7 @@ largest-append (m ∷ ms) ns = let h = largest-append ms ns in omega arith
 
 pub beginnings-snoc : {X : Type 0} (xs : List X) (x : X) → beginnings (xs ++ x ∷ []) ≡ beginnings xs ++ (xs ++ x ∷ []) ∷ []
 beginnings-snoc [] x = refl
-beginnings-snoc (y ∷ xs) x = ap (λ bs. [] ∷ map (λ b. y ∷ b) bs) (beginnings-snoc xs x)
-    ∙ ap (λ bs. [] ∷ bs) (map-append (λ b. y ∷ b) (beginnings xs) ((xs ++ x ∷ []) ∷ []))
+beginnings-snoc (y ∷ xs) x = grind (arith, map-append, beginnings-snoc xs x)
 
 zip-map : {A B C : Type 0} (f : A → B) (xs : List A) (ys : List C) → zip (map f xs) ys ≡ map (λ p. (f p.0, p.1)) (zip xs ys)
 zip-map f [] ys = refl
@@ -98,8 +82,4 @@ moments-cons x xs = ap (λ ms. ([], x) ∷ ms) (zip-map (λ b. x ∷ b) (beginni
 -- and of one that ends with it: the whole of the others stands before it
 pub moments-snoc : {X : Type 0} (xs : List X) (x : X) → moments (xs ++ x ∷ []) ≡ moments xs ++ (xs, x) ∷ []
 moments-snoc [] x = refl
-moments-snoc (y ∷ xs) x =
-    moments-cons y (xs ++ x ∷ [])
-    ∙ ap (λ ms. ([], y) ∷ map (λ moment. (y ∷ moment.0, moment.1)) ms) (moments-snoc xs x)
-    ∙ ap (λ ms. ([], y) ∷ ms) (map-append (λ moment. (y ∷ moment.0, moment.1)) (moments xs) ((xs, x) ∷ []))
-    ∙ ap (λ ms. ms ++ (y ∷ xs, x) ∷ []) (sym (moments-cons y xs))
+moments-snoc (y ∷ xs) x = grind (arith, moments-cons, map-append, moments-snoc xs x)

@@ -1,5 +1,5 @@
 -- A list from its first element that passes a test on.
-use Rattle.std.proofs.Common.{◌≡◌, suc, ◌≤◌, Bool, true, false, cond, List, [], ◌∷◌, ◌++◌, map, length, reverse}
+use Rattle.std.proofs.Common.{◌≡◌, ◌≤◌, Bool, true, false, cond, List, [], ◌∷◌, ◌++◌, map, length, reverse}
 use Rattle.std.proofs.Common.{refl, sym, ap, ◌∙◌, subst, arith, append_assoc}
 use Rattle.std.specs.List.{IsDistinct, AllByRecursion}
 use Rattle.std.proofs.lemmas.List.{map-append, reverse-append}
@@ -49,10 +49,7 @@ module _ {X : Type 0} (test : X → Bool) where
 
   pub length-from_first : (xs : List X) → length (from_first test xs) ≤ length xs
   length-from_first [] = omega arith
-  length-from_first (x ∷ xs) =
-      let rest = length-from_first xs in
-      elim (test x) as (λ b. length (cond b (x ∷ xs) (from_first test xs)) ≤ suc (length xs))
-      [ true ↦ omega arith | false ↦ omega (arith, rest) ]
+  length-from_first (x ∷ xs) = grind (arith, length-from_first xs)
 
 -- an element that differs from all others in what f has of it
 module _ {X K : Type 0} {eq : K → K → Bool} (reflexive : (k : K) → eq k k ≡ true) (symmetric : (k q : K) → eq k q ≡ eq q k)
@@ -64,8 +61,7 @@ module _ {X K : Type 0} {eq : K → K → Bool} (reflexive : (k : K) → eq k k 
       let others = IsDistinct-head eq (f z) (map f (xs ++ x ∷ ys)) distinct in
       let apart = (AllByRecursion-right (λ k. eq (f z) k ≡ false) (map f xs) (f x ∷ map f ys)
       (subst (AllByRecursion (λ k. eq (f z) k ≡ false)) (map-append f xs (x ∷ ys)) others)).0 in
-      ap (λ b. cond b (z ∷ xs ++ x ∷ ys) (from_first (λ z. eq (f x) (f z)) (xs ++ x ∷ ys))) (symmetric (f x) (f z) ∙ apart)
-      ∙ from_first-own xs x ys (IsDistinct-tail eq (f z) (map f (xs ++ x ∷ ys)) distinct)
+      grind (arith, IsDistinct-tail, from_first-own xs x ys (IsDistinct-tail eq (f z) (map f (xs ++ x ∷ ys)) distinct))
 
   -- they differ in the reverse list too
   pub IsDistinct-reverse : (xs : List X) → IsDistinct eq (map f xs) → IsDistinct eq (map f (reverse xs))

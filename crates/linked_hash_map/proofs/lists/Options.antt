@@ -1,6 +1,5 @@
 -- What is said of an option, once its case is known.
-use Rattle.std.proofs.Common.{◌≡◌, Bool, true, false, cond, Option, Some, None, IfSome, IfNone}
-use Rattle.std.proofs.Common.{OnSome, is_some, unwrap_or, refl, sym, ap, subst, true≢false}
+use Rattle.std.proofs.Common.{◌≡◌, Bool, true, cond, Option, Some, None, IfSome, IfNone, arith, OnSome, is_some, unwrap_or, subst}
 
 pub of-Some : {X : Type 0} (P : X → Type 0) {o : Option X} {x : X} → o ≡ Some x → IfSome o P → P x
 of-Some P e h = subst (λ (r : Option _). IfSome r P) e h
@@ -13,9 +12,7 @@ of-None {P = P} e h = subst (λ (r : Option _). IfNone r P) e h
 
 -- one that is there, by what it is unwrapped to
 pub Some-unwrap_or : {X : Type 0} (o : Option X) (x y : X) → is_some o ≡ true → y ≡ unwrap_or o x → o ≡ Some y
-Some-unwrap_or None x y some same = absurd (true≢false (sym some))
-Some-unwrap_or (Some z) x y some same = ap Some (sym same)
+Some-unwrap_or o x y some same = grind arith
 
 pub cond-None : {X : Type 0} (b : Bool) → cond {A = Option X} b None None ≡ None
-cond-None true = refl
-cond-None false = refl
+cond-None b = grind arith

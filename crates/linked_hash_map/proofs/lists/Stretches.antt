@@ -14,19 +14,15 @@ stretch-step xs index zero x there h = absurd (omega arith)
 stretch-step xs index (suc n) x there h =
     let first = drop_more xs index x (slice_get_within xs index x there)
     ∙ ap (λ y. y ∷ drop (index + 1) xs) (get_or_from_slice_get xs index x x there) in
-    let one : n ≡ suc n - 1 = omega arith in
-    ap (take (suc n)) first ∙ ap (λ m. x ∷ take m (drop (index + 1) xs)) one
+    grind arith
 
 module _ {X : Type 0} where
   pub take-none : (xs : List X) → take 0 xs ≡ []
-  take-none [] = refl
-  take-none (x ∷ xs) = refl
+  take-none xs = grind arith
 
   -- one that ends within the first elements
   pub stretch-front : (xs ys : List X) (b n : ℕ) → b + n ≤ length xs → take n (drop b (xs ++ ys)) ≡ take n (drop b xs)
-  stretch-front xs ys b n within =
-      let rest = length-drop b xs in
-      ap (take n) (drop-append-le b xs ys (omega (arith, within))) ∙ take-append-le n (drop b xs) ys (omega (arith, rest, within))
+  stretch-front xs ys b n within = grind (arith, length-drop, drop-append-le, take-append-le)
 
   drop-removed : (xs : List X) (i b : ℕ) → i ≤ b → drop b (remove xs i) ≡ drop (suc b) xs
   drop-removed [] zero zero h = refl
@@ -38,8 +34,7 @@ module _ {X : Type 0} where
   drop-removed (x ∷ xs) (suc i) (suc b) h = drop-removed xs i b (omega (arith, h))
 
   -- one that begins behind an element that is removed, or ends before it
-  pub stretch-removed : (xs : List X) (i : ℕ) {b a : ℕ} (n : ℕ) → i < length xs
-      → ((i < b) × (a + 1 ≡ b)) ⊎ ((b + n ≤ i) × (a ≡ b))
+  pub stretch-removed : (xs : List X) (i : ℕ) {b a : ℕ} (n : ℕ) → i < length xs → ((i < b) × (a + 1 ≡ b)) ⊎ ((b + n ≤ i) × (a ≡ b))
       → take n (drop a (remove xs i)) ≡ take n (drop b xs)
   stretch-removed xs i {b} {a} n within (inl behind) =
       let next : suc a ≡ b = omega (arith, behind.1) in
@@ -57,6 +52,4 @@ module _ {X : Type 0} where
   stretch-set xs index start n x (inl behind) = ap (take n) (drop-set-lt start xs index x behind)
   stretch-set xs index start n x (inr before) =
       let at : start + (index - start) ≡ index = omega (arith, before) in
-      ap (λ i. take n (drop start (slice_set xs i x))) (sym at)
-      ∙ ap (take n) (drop-set-add start xs (index - start) x)
-      ∙ take-set-le n (drop start xs) (index - start) x (omega (arith, before))
+      grind (arith, drop-set-add, take-set-le)

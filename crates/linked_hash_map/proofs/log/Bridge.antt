@@ -1,7 +1,6 @@
 -- How the pairs that a log defines change with one more event: single calls on a list of pairs.
-use Rattle.std.proofs.Common.{◌≡◌, ℕ, Bool, true, false, cond, not, ◌&&◌, ◌||◌, List, [], ◌∷◌, ◌++◌}
-use Rattle.std.proofs.Common.{map, Option, Some, None, is_some, option_map, filter, filter_map}
-use Rattle.std.proofs.Common.{refl, sym, ap, ◌∙◌, true≢false, append-nil}
+use Rattle.std.proofs.Common.{◌≡◌, ℕ, Bool, true, false, cond, not, ◌&&◌, ◌||◌, List, [], ◌∷◌, ◌++◌, arith, map, Option, Some, None}
+use Rattle.std.proofs.Common.{is_some, option_map, filter, filter_map, refl, sym, ap, ◌∙◌, true≢false, append-nil}
 use Rattle.std.specs.List.{list_any, cons_option}
 use Rattle.std.specs.Option.{option_or, option_zip}
 use Rattle.std.specs.Map.{lookup_entry}
@@ -9,9 +8,8 @@ use Rattle.std.specs.Cmp.{IsEquivalence}
 use Rattle.std.proofs.lemmas.List.Elements.{filter_map-append}
 use Rattle.linked_hash_map.specs.declared.map.Mode.{Mode}
 use Rattle.linked_hash_map.specs.declared.map.Mode.TheVariants.{Touch, Keep}
-use Rattle.linked_hash_map.specs.Log.{Event, Put, Write, Refresh, Remove, RemoveAll, Need, Fit}
-use Rattle.linked_hash_map.specs.Log.{SetMode, Log, moves, mode, touched, put_key, ends, written}
-use Rattle.linked_hash_map.specs.Log.{live, stored, value, pair_of, stands, standing, pairs}
+use Rattle.linked_hash_map.specs.Log.{Event, Put, Write, Refresh, Remove, RemoveAll, Need, Fit, SetMode, Log, moves, mode, touched, put_key}
+use Rattle.linked_hash_map.specs.Log.{ends, written, live, stored, value, pair_of, stands, standing, pairs}
 use Rattle.linked_hash_map.specs.Pairs.{key_or, find, without, to_back, set_value, put}
 use Rattle.linked_hash_map.proofs.lists.Elements.{option_or_none}
 use Rattle.linked_hash_map.proofs.pairs.Calls.{filter-none, to_back-absent, put-absent, set_or_push-present}
@@ -25,12 +23,7 @@ module _ {K V : Type 0} (same : K → Bool) (g : K → Option (K × V)) (mine : 
   lookup_step : (q : K) (ks : List K) (o : Option (K × V)) (b : Bool) → g q ≡ o → same q ≡ b
       → lookup_entry same (filter_map g ks) ≡ cond (list_any same ks) mine None
       → lookup_entry same (cons_option o (filter_map g ks)) ≡ cond (b || list_any same ks) mine None
-  lookup_step q ks None true e h i = let m : mine ≡ None = sym (one q h) ∙ e in
-      i ∙ rw m (elim (list_any same ks) as (λ x. cond {A = Option (K × V)} x None None ≡ None)
-      [ true ↦ refl | false ↦ refl ])
-  lookup_step q ks None false e h i = i
-  lookup_step q ks (Some y) true e h i = ap (λ b. cond b (Some y) (lookup_entry same (filter_map g ks))) (keyed q y e ∙ h) ∙ sym e ∙ one q h
-  lookup_step q ks (Some y) false e h i = ap (λ b. cond b (Some y) (lookup_entry same (filter_map g ks))) (keyed q y e ∙ h) ∙ i
+  lookup_step q ks o b e h i = grind arith
 
   lookup-filter_map : (ks : List K) → lookup_entry same (filter_map g ks) ≡ cond (list_any same ks) mine None
   lookup-filter_map [] = refl
@@ -40,19 +33,9 @@ module _ {K V : Type 0} (same : K → Bool) (g : K → Option (K × V)) (mine : 
 module _ {K Y : Type 0} (f g : K → Option Y) (p : K → Bool) (r : Y → Bool)
     (alike : (q : K) → p q ≡ true → f q ≡ g q)
     (passes : (q : K) (y : Y) → g q ≡ Some y → r y ≡ p q) where
-  kept_step : (q : K) (ks : List K) (b : Bool) (o : Option Y) → p q ≡ b → g q ≡ o
-      → filter_map f (filter p ks) ≡ filter r (filter_map g ks)
-      → filter_map f (cond b (q ∷ filter p ks) (filter p ks))
-      ≡ filter r (cons_option o (filter_map g ks))
-  kept_step q ks true None h e i = ap (λ o. cons_option o (filter_map f (filter p ks))) (alike q h ∙ e) ∙ i
-  kept_step q ks true (Some y) h e i =
-      ap (λ o. cons_option o (filter_map f (filter p ks))) (alike q h ∙ e) ∙ ap (λ ys. y ∷ ys) i
-      ∙ sym (ap (λ b. cond b (y ∷ filter r (filter_map g ks)) (filter r (filter_map g ks)))
-      (passes q y e ∙ h))
-  kept_step q ks false None h e i = i
-  kept_step q ks false (Some y) h e i =
-      i ∙ sym (ap (λ b. cond b (y ∷ filter r (filter_map g ks)) (filter r (filter_map g ks)))
-      (passes q y e ∙ h))
+  kept_step : (q : K) (ks : List K) (b : Bool) (o : Option Y) → p q ≡ b → g q ≡ o → filter_map f (filter p ks) ≡ filter r (filter_map g ks)
+      → filter_map f (cond b (q ∷ filter p ks) (filter p ks)) ≡ filter r (cons_option o (filter_map g ks))
+  kept_step q ks b o h e i = grind arith
 
   filter_map-filter : (ks : List K) → filter_map f (filter p ks) ≡ filter r (filter_map g ks)
   filter_map-filter [] = refl
@@ -67,34 +50,24 @@ filter_false [] = refl
 filter_false (x ∷ xs) = filter_false xs
 
 moved_only : (b m : Bool) → (b ≡ true → m ≡ true) → not (b && m) ≡ not b
-moved_only true m f = ap not (f refl)
-moved_only false m f = refl
+moved_only b m f = grind arith
 
 stays : (b m : Bool) → (b ≡ true → m ≡ false) → not (b && m) ≡ true
-stays true m f = ap not (f refl)
-stays false m f = refl
+stays b m f = grind arith
 
 -- a Put that moves nothing names a live key
 moves-live : (m : Mode) (l : Bool) → moves m l ≡ false → l ≡ true
-moves-live Touch l h = absurd (true≢false h)
-moves-live Keep true h = refl
-moves-live Keep false h = absurd (true≢false h)
+moves-live m l h = grind arith
 
 stored_stays : {K : Type 0} (k : K) (s : Option K) (b : Bool) → (b ≡ true → is_some s ≡ true) → option_or s (cond b (Some k) None) ≡ s
-stored_stays k (Some s) b f = refl
-stored_stays k None true f = absurd (true≢false (sym (f refl)))
-stored_stays k None false f = refl
+stored_stays k s b f = grind arith
 
 not_not : (b : Bool) → not b ≡ true → b ≡ false
-not_not true h = sym h
-not_not false h = refl
+not_not b h = grind arith
 
-pair_at : {K V : Type 0} (k : K) (s : Option K) (w : Option V) (v : V)
-    → is_some s ≡ is_some (option_zip s w)
+pair_at : {K V : Type 0} (k : K) (s : Option K) (w : Option V) (v : V) → is_some s ≡ is_some (option_zip s w)
     → option_zip (option_or s (Some k)) (Some v) ≡ Some (key_or k (option_zip s w), v)
-pair_at k None w v h = refl
-pair_at k (Some s) None v h = absurd (true≢false h)
-pair_at k (Some s) (Some w) v h = refl
+pair_at k s w v h = grind arith
 
 module _ {K V : Type 0} {eq : K → K → Bool} (laws : IsEquivalence eq) where
   -- the pair that a log has of k
@@ -130,8 +103,7 @@ module _ {K V : Type 0} {eq : K → K → Bool} (laws : IsEquivalence eq) where
       (standing eq log))
 
   -- what an event leaves of a pair whose key it does not name
-  same_pair : (log : Log K V) (e : Event K V) (q : K) → ends (eq q) e ≡ false
-      → put_key (eq q) e ≡ None → written (eq q) e ≡ None
+  same_pair : (log : Log K V) (e : Event K V) (q : K) → ends (eq q) e ≡ false → put_key (eq q) e ≡ None → written (eq q) e ≡ None
       → pair_of (eq q) (log ++ e ∷ []) ≡ pair_of (eq q) log
   unfolding pair_of
   same_pair log e q a b c = rw (stored-snoc (eq q) log e, value-snoc (eq q) log e, a, b, c, option_or_none (stored (eq q) log)) refl
@@ -141,12 +113,7 @@ module _ {K V : Type 0} {eq : K → K → Bool} (laws : IsEquivalence eq) where
 
   put_pair : (log : Log K V) (k : K) (v : V) → pair_of (eq k) (log ++ Put k v ∷ []) ≡ Some (key_or k (pair_of (eq k) log), v)
   unfolding pair_of
-  put_pair log k v = rw (
-    stored-snoc (eq k) log (Put k v),
-    value-snoc (eq k) log (Put k v),
-    laws.refl k,
-  ) (pair_at k (stored (eq k) log) (value (eq k) log) v
-      (stored-live (eq k) log ∙ sym (pair_of-live (eq k) log)))
+  put_pair log k v = grind (arith, stored-snoc, value-snoc, pair_at, stored-live, pair_of-live)
 
   -- whatever its name, a key that a Put moves is moved
   moves_same : (log : Log K V) (k q : K) (b : Bool) → moves (mode log) (live (eq k) log) ≡ b
@@ -213,8 +180,7 @@ module _ {K V : Type 0} {eq : K → K → Bool} (laws : IsEquivalence eq) where
       rw (live-snoc (eq k) log (Refresh k), is_live) (ap (λ o. cons_option o []) (refresh_pair log k k ∙ h))
 
   refreshed : (log : Log K V) (k : K)
-      → pairs eq (log ++ Refresh k ∷ [])
-      ≡ without eq (pairs eq log) k ++ cons_option (pair_of (eq k) log) []
+      → pairs eq (log ++ Refresh k ∷ []) ≡ without eq (pairs eq log) k ++ cons_option (pair_of (eq k) log) []
   refreshed log k =
       kept_pairs log (Refresh k) (λ y. not (eq k y.0)) (λ q _. refresh_pair log k q) (other_key k)
       ∙ ap (λ es. without eq (pairs eq log) k ++ es) (refreshed_last log k (pair_of (eq k) log) refl)
@@ -222,9 +188,7 @@ module _ {K V : Type 0} {eq : K → K → Bool} (laws : IsEquivalence eq) where
   -- a Refresh of a key that has a pair moves it to the back
   pub pairs-refresh : (log : Log K V) (k : K) (pair : K × V) → pair_of (eq k) log ≡ Some pair
       → pairs eq (log ++ Refresh k ∷ []) ≡ to_back eq (pairs eq log) k pair.1
-  pairs-refresh log k pair h =
-      refreshed log k ∙ ap (λ o. without eq (pairs eq log) k ++ cons_option o []) h
-      ∙ ap (λ o. without eq (pairs eq log) k ++ (key_or k o, pair.1) ∷ []) (sym (find-pairs log k ∙ h))
+  pairs-refresh log k pair h = grind (arith, refreshed, find-pairs)
 
   -- and a Refresh of one that has none changes nothing
   pub pairs-refresh_absent : (log : Log K V) (k : K) → pair_of (eq k) log ≡ None → pairs eq (log ++ Refresh k ∷ []) ≡ pairs eq log
@@ -235,19 +199,16 @@ module _ {K V : Type 0} {eq : K → K → Bool} (laws : IsEquivalence eq) where
 -- what a Write leaves of the pairs
 module _ {K Y : Type 0} (f g : K → Option Y) (h : Y → Y) (alike : (q : K) → f q ≡ option_map h (g q)) where
   map_step : (o : Option Y) (ys zs : List Y) → ys ≡ map h zs → cons_option (option_map h o) ys ≡ map h (cons_option o zs)
-  map_step None ys zs i = i
-  map_step (Some y) ys zs i = ap (λ xs. h y ∷ xs) i
+  map_step o ys zs i = grind arith
 
   map-filter_map : (ks : List K) → filter_map f ks ≡ map h (filter_map g ks)
   map-filter_map [] = refl
-  map-filter_map (q ∷ ks) = ap (λ o. cons_option o (filter_map f ks)) (alike q)
-      ∙ map_step (g q) (filter_map f ks) (filter_map g ks) (map-filter_map ks)
+  map-filter_map (q ∷ ks) = grind (arith, map_step, map-filter_map ks)
 
 module _ {K V : Type 0} {eq : K → K → Bool} (laws : IsEquivalence eq) where
-  write_zip : (k q : K) (v : V) (b : Bool) (s : Option K) (w : Option V) → eq q k ≡ b
-      → is_some (option_zip s w) ≡ is_some s → ((t : K) → s ≡ Some t → eq q t ≡ true)
-      → option_zip s (option_or (cond b (Some v) None) w)
-      ≡ option_map (λ e. cond (eq k e.0) (e.0, v) e) (option_zip s w)
+  write_zip : (k q : K) (v : V) (b : Bool) (s : Option K) (w : Option V) → eq q k ≡ b → is_some (option_zip s w) ≡ is_some s
+      → ((t : K) → s ≡ Some t → eq q t ≡ true)
+      → option_zip s (option_or (cond b (Some v) None) w) ≡ option_map (λ e. cond (eq k e.0) (e.0, v) e) (option_zip s w)
   write_zip k q v b None w h i f = refl
   write_zip k q v b (Some s) None h i f = absurd (true≢false (sym i))
   write_zip k q v true (Some s) (Some w) h i f = ap (λ b. Some (cond b (s, v) (s, w)))
@@ -256,8 +217,7 @@ module _ {K V : Type 0} {eq : K → K → Bool} (laws : IsEquivalence eq) where
       (sym (laws.symm k s ∙ sym (laws.congr q s k (f s refl)) ∙ h))
 
   write_pair : (log : Log K V) (k : K) (v : V) (q : K)
-      → pair_of (eq q) (log ++ Write k v ∷ [])
-      ≡ option_map (λ e. cond (eq k e.0) (e.0, v) e) (pair_of (eq q) log)
+      → pair_of (eq q) (log ++ Write k v ∷ []) ≡ option_map (λ e. cond (eq k e.0) (e.0, v) e) (pair_of (eq q) log)
   unfolding pair_of
   write_pair log k v q = rw (
     stored-snoc (eq q) log (Write k v),
@@ -280,8 +240,7 @@ module _ {K V : Type 0} {eq : K → K → Bool} (laws : IsEquivalence eq) where
   stored_live log k q is_live same = stored-live (eq q) log ∙ ap (λ t. live t log) (same_test laws q k same) ∙ is_live
 
   pair_in_place : (log : Log K V) (k : K) (v : V) (q : K) → live (eq k) log ≡ true
-      → pair_of (eq q) (log ++ Put k v ∷ [])
-      ≡ option_map (λ e. cond (eq k e.0) (e.0, v) e) (pair_of (eq q) log)
+      → pair_of (eq q) (log ++ Put k v ∷ []) ≡ option_map (λ e. cond (eq k e.0) (e.0, v) e) (pair_of (eq q) log)
   unfolding pair_of
   pair_in_place log k v q is_live =
       rw (

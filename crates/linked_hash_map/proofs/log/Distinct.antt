@@ -1,14 +1,12 @@
 -- The keys of a log's pairs differ, whatever the log.
-use Rattle.std.proofs.Common.{◌≡◌, Bool, true, false, cond, not, ◌&&◌, List, [], ◌∷◌, ◌++◌, Option}
+use Rattle.std.proofs.Common.{◌≡◌, Bool, true, false, cond, ◌&&◌, List, [], ◌∷◌, ◌++◌, Option, arith}
 use Rattle.std.proofs.Common.{Some, None, filter, filter_map, refl, sym, ap, ◌∙◌, subst, append-nil}
 use Rattle.std.specs.List.{list_any, IsDistinct, AllByRecursion, cons_option}
 use Rattle.std.specs.Map.{keys_of}
 use Rattle.std.specs.Cmp.{IsEquivalence}
 use Rattle.std.proofs.lemmas.Map.Keys.{IsDistinct-push, IsDistinct-head, IsDistinct-tail, IsDistinct-cons}
 use Rattle.linked_hash_map.specs.declared.map.Mode.{Mode}
-use Rattle.linked_hash_map.specs.declared.map.Mode.TheVariants.{Touch, Keep}
-use Rattle.linked_hash_map.specs.Log.{Log, Event, Put, Write, Refresh, Remove, RemoveAll, Need, Fit, SetMode, moves, mode, touched, live}
-use Rattle.linked_hash_map.specs.Log.{pair_of, pairs, stands, standing, standing_in}
+use Rattle.linked_hash_map.specs.Log.{Log, Event, moves, touched, live, pair_of, pairs, stands, standing, standing_in}
 use Rattle.linked_hash_map.proofs.lists.Elements.{by_last}
 use Rattle.linked_hash_map.proofs.log.Standing.{standing-snoc, keeps}
 use Rattle.linked_hash_map.proofs.log.LiveKeys.{pair_of-same, keeps_same, any-filter}
@@ -37,15 +35,12 @@ unfolding IsDistinct standing standing_in
 distinct_nil V eq = tt
 
 moved_key : {K : Type 0} (m : Mode) (l : Bool) (j k : K) → cond (moves m l) (Some j) None ≡ Some k → (j ≡ k) × (moves m l ≡ true)
-moved_key Touch l j k h = (cc, refl)
-moved_key Keep true j k h = cc
-moved_key Keep false j k h = (cc, refl)
+moved_key m l j k h = grind arith
 
 module _ {K V : Type 0} {eq : K → K → Bool} (laws : IsEquivalence eq) where
   -- one more key at the end, which the filter keeps out
-  stands_distinct : (log : Log K V) (e : Event K V) (alive : K → Bool) (t : Option K)
-      → ((k : K) → t ≡ Some k → keeps eq log e k ≡ false) → IsDistinct eq (standing eq log)
-      → IsDistinct eq (filter (keeps eq log e) (standing eq log) ++ stands {V = V} eq alive [] t)
+  stands_distinct : (log : Log K V) (e : Event K V) (alive : K → Bool) (t : Option K) → ((k : K) → t ≡ Some k → keeps eq log e k ≡ false)
+      → IsDistinct eq (standing eq log) → IsDistinct eq (filter (keeps eq log e) (standing eq log) ++ stands {V = V} eq alive [] t)
   stands_distinct log e alive None f d = rw append-nil (distinct_filter eq (keeps eq log e) (standing eq log) d)
   stands_distinct log e alive (Some k) f d = at (alive k)
     where
@@ -61,17 +56,7 @@ module _ {K V : Type 0} {eq : K → K → Bool} (laws : IsEquivalence eq) where
       at false = rw append-nil (distinct_filter eq (keeps eq log e) (standing eq log) d)
 
   drops_touched : (log : Log K V) (e : Event K V) (k : K) → touched eq (log, e) ≡ Some k → keeps eq log e k ≡ false
-  drops_touched log (Put j v) k h =
-      let key = moved_key (mode log) (live (eq j) log) j k h in
-      ap (λ q. not (eq q j && moves (mode log) (live (eq q) log))) (sym key.0)
-      ∙ ap (λ b. not (b && moves (mode log) (live (eq j) log))) (laws.refl j) ∙ ap not key.1
-  drops_touched log (Write j v) k h = cc
-  drops_touched log (Refresh j) k h = let j-is : j ≡ k = cc in rw j-is (ap not (laws.refl k))
-  drops_touched log (Remove j) k h = cc
-  drops_touched log RemoveAll k h = cc
-  drops_touched log (Need m) k h = cc
-  drops_touched log Fit k h = cc
-  drops_touched log (SetMode m) k h = cc
+  drops_touched log e k h = grind (arith, moved_key)
 
   -- the keys that stand differ
   pub distinct-standing : (log : Log K V) → IsDistinct eq (standing eq log)
@@ -79,9 +64,8 @@ module _ {K V : Type 0} {eq : K → K → Bool} (laws : IsEquivalence eq) where
       (λ log e d. rw standing-snoc (stands_distinct log e (λ k. live (eq k) (log ++ e ∷ [])) (touched eq (log, e)) (drops_touched log e) d))
       (distinct_nil V eq)
 
-  pairs_differ : (g : K → Option (K × V)) → ((q : K) (y : K × V) → g q ≡ Some y → eq q y.0 ≡ true)
-      → (k : K) (ks : List K) → AllByRecursion (λ q. eq k q ≡ false) ks
-      → AllByRecursion (λ q. eq k q ≡ false) (keys_of (filter_map g ks))
+  pairs_differ : (g : K → Option (K × V)) → ((q : K) (y : K × V) → g q ≡ Some y → eq q y.0 ≡ true) → (k : K) (ks : List K)
+      → AllByRecursion (λ q. eq k q ≡ false) ks → AllByRecursion (λ q. eq k q ≡ false) (keys_of (filter_map g ks))
   pairs_differ g f k [] h = tt
   pairs_differ g f k (q ∷ ks) h = at (g q) refl (pairs_differ g f k ks h.1)
     where

@@ -1,24 +1,22 @@
 -- What a log says of a key is what its pairs have at that key.
 use Rattle.std.proofs.Common.{◌≡◌, Bool, true, false, cond, not, ◌&&◌, ◌||◌, List, [], ◌∷◌, ◌++◌, Option, Some, None, is_some, filter, refl}
-use Rattle.std.proofs.Common.{sym, ap, ◌∙◌, subst, true≢false}
+use Rattle.std.proofs.Common.{sym, ap, ◌∙◌, true≢false, arith}
 use Rattle.std.specs.List.{list_any, after_last}
 use Rattle.std.specs.Option.{option_or, option_zip}
 use Rattle.std.specs.Cmp.{IsEquivalence}
 use Rattle.std.proofs.lemmas.List.Folds.{list_any-append}
 use Rattle.linked_hash_map.specs.declared.map.Mode.{Mode}
 use Rattle.linked_hash_map.specs.declared.map.Mode.TheVariants.{Touch, Keep}
-use Rattle.linked_hash_map.specs.Log.{Event, Put, Write, Refresh, Remove, RemoveAll, Need, Fit, SetMode, Log, first_some, moves, mode}
+use Rattle.linked_hash_map.specs.Log.{Event, Log, first_some, moves}
 use Rattle.linked_hash_map.specs.Log.{touched, put_key, puts, ends, written, live, stored, value, pair_of, stands, standing_in, standing}
 use Rattle.linked_hash_map.proofs.lists.Elements.{by_last}
 use Rattle.linked_hash_map.proofs.log.Standing.{live-snoc, stored-snoc, value-snoc, standing-snoc, keeps}
 
 is_some-cond : {Y : Type 0} (b : Bool) (y : Y) → is_some (cond b (Some y) None) ≡ b
-is_some-cond true y = refl
-is_some-cond false y = refl
+is_some-cond b y = grind arith
 
 pub none_is : {Y : Type 0} (o : Option Y) → is_some o ≡ false → o ≡ None
-none_is None h = refl
-none_is (Some y) h = absurd (true≢false h)
+none_is o h = grind arith
 
 stored-live-nil : {K : Type 0} (V : Type 0) (same : K → Bool) → is_some (stored {V = V} same []) ≡ live {V = V} same []
 unfolding stored live
@@ -30,32 +28,8 @@ value-live-nil V same h = absurd (true≢false (sym h))
 
 module _ {K V : Type 0} (same : K → Bool) where
   put_step : (e : Event K V) (s : Option K)
-      → is_some (cond (ends same e) None (option_or s (put_key same e)))
-      ≡ (puts same e || (is_some s && not (ends same e)))
-  put_step (Put j v) None = is_some-cond (same j) j ∙ sym (elim (same j) as (λ b. (b || false) ≡ b) [ true ↦ refl | false ↦ refl ])
-  put_step (Put j v) (Some s) = elim (same j) as (λ b. true ≡ (b || true)) [ true ↦ refl | false ↦ refl ]
-  put_step (Write j v) None = refl
-  put_step (Write j v) (Some s) = refl
-  put_step (Refresh j) None = refl
-  put_step (Refresh j) (Some s) = refl
-  put_step (Remove j) s =
-      elim (same j) as (λ b. is_some (cond b None (option_or s None)) ≡ (is_some s && not b)) [
-        | true ↦ elim s as (λ o. false ≡ (is_some o && false)) [
-          | None ↦ refl
-          | Some
-              x ↦ refl
-        ]
-        | false ↦ elim s as (λ o. is_some (option_or o None) ≡ (is_some o && true))
-            [ None ↦ refl | Some x ↦ refl ]
-      ]
-  put_step RemoveAll None = refl
-  put_step RemoveAll (Some s) = refl
-  put_step (Need m) None = refl
-  put_step (Need m) (Some s) = refl
-  put_step Fit None = refl
-  put_step Fit (Some s) = refl
-  put_step (SetMode m) None = refl
-  put_step (SetMode m) (Some s) = refl
+      → is_some (cond (ends same e) None (option_or s (put_key same e))) ≡ (puts same e || (is_some s && not (ends same e)))
+  put_step e s = grind (arith, is_some-cond)
 
   -- exactly the live keys have a stored key
   pub stored-live : (log : Log K V) → is_some (stored same log) ≡ live same log
@@ -64,32 +38,9 @@ module _ {K V : Type 0} (same : K → Bool) where
       ∙ ap (λ b. puts same e || (b && not (ends same e))) h ∙ sym (live-snoc same log e))
       (stored-live-nil V same)
 
-  live_step : (e : Event K V) (l : Bool) (w : Option V) → (l ≡ true → is_some w ≡ true)
-      → (puts same e || (l && not (ends same e))) ≡ true
+  live_step : (e : Event K V) (l : Bool) (w : Option V) → (l ≡ true → is_some w ≡ true) → (puts same e || (l && not (ends same e))) ≡ true
       → is_some (option_or (written same e) w) ≡ true
-  live_step (Put j v) l w f h = by_test (same j) h
-    where
-      by_test : (b : Bool) → (b || (l && true)) ≡ true → is_some (option_or (cond b (Some v) None) w) ≡ true
-      by_test true h = refl
-      by_test false h = f (elim l as (λ t. (t && true) ≡ true → t ≡ true) [ true ↦ λ _. refl | false ↦ λ p. p ] h)
-  live_step (Write j v) l w f h = elim (same j) as (λ b.
-      is_some (option_or (cond b (Some v) None) w) ≡ true) [
-        | true ↦ refl
-        | false ↦ f
-            (elim l as (λ t. (t && true) ≡ true → t ≡ true) [ true ↦ λ _. refl | false ↦ λ p. p ] h)
-      ]
-  live_step (Refresh j) true w f h = f refl
-  live_step (Refresh j) false w f h = absurd (true≢false (sym h))
-  live_step (Remove j) true w f h = f refl
-  live_step (Remove j) false w f h = absurd (true≢false (sym h))
-  live_step RemoveAll true w f h = absurd (true≢false (sym h))
-  live_step RemoveAll false w f h = absurd (true≢false (sym h))
-  live_step (Need m) true w f h = f refl
-  live_step (Need m) false w f h = absurd (true≢false (sym h))
-  live_step Fit true w f h = f refl
-  live_step Fit false w f h = absurd (true≢false (sym h))
-  live_step (SetMode m) true w f h = f refl
-  live_step (SetMode m) false w f h = absurd (true≢false (sym h))
+  live_step e l w f h = grind arith
 
   -- each live key has a value
   pub value-live : (log : Log K V) → live same log ≡ true → is_some (value same log) ≡ true
@@ -98,9 +49,7 @@ module _ {K V : Type 0} (same : K → Bool) where
       (value-live-nil V same)
 
   zip_step : (s : Option K) (w : Option V) → (is_some s ≡ true → is_some w ≡ true) → is_some (option_zip s w) ≡ is_some s
-  zip_step None w f = refl
-  zip_step (Some s) None f = f refl
-  zip_step (Some s) (Some w) f = refl
+  zip_step s w f = grind arith
 
   -- exactly the live keys have a pair
   pub pair_of-live : (log : Log K V) → is_some (pair_of same log) ≡ live same log
@@ -108,18 +57,7 @@ module _ {K V : Type 0} (same : K → Bool) where
   pair_of-live log = zip_step (stored same log) (value same log) (λ h. value-live log (sym (stored-live log) ∙ h)) ∙ stored-live log
 
   put_key_same : (e : Event K V) (s : K) → put_key same e ≡ Some s → same s ≡ true
-  put_key_same (Put j v) s h = by_test (same j) refl h
-    where
-      by_test : (b : Bool) → same j ≡ b → cond b (Some j) None ≡ Some s → same s ≡ true
-      by_test true e h = let j-is : j ≡ s = cc in subst (λ q. same q ≡ true) j-is e
-      by_test false e h = cc
-  put_key_same (Write j v) s h = cc
-  put_key_same (Refresh j) s h = cc
-  put_key_same (Remove j) s h = cc
-  put_key_same RemoveAll s h = cc
-  put_key_same (Need m) s h = cc
-  put_key_same Fit s h = cc
-  put_key_same (SetMode m) s h = cc
+  put_key_same e s h = grind arith
 
   first_put_same : (log : Log K V) (s : K) → first_some (put_key same) log ≡ Some s → same s ≡ true
   first_put_same [] s h = cc
@@ -137,9 +75,7 @@ module _ {K V : Type 0} (same : K → Bool) where
   stored-same log s h = first_put_same (after_last (ends same) log) s h
 
   zip_key : (s : Option K) (w : Option V) (y : K × V) → option_zip s w ≡ Some y → s ≡ Some y.0
-  zip_key None w y h = cc
-  zip_key (Some s) None y h = cc
-  zip_key (Some s) (Some w) y h = let e : ◌≡◌ {A = K × V} (s, w) y = cc in ap (λ p. Some p.0) e
+  zip_key s w y h = grind arith
 
   pub pair_of-same : (log : Log K V) (y : K × V) → pair_of same log ≡ Some y → same y.0 ≡ true
   unfolding pair_of
@@ -151,24 +87,12 @@ same_test laws k q h i z = laws.congr k q z h i
 
 module _ {K V : Type 0} {eq : K → K → Bool} (laws : IsEquivalence eq) where
   pub keeps_same : (log : Log K V) (e : Event K V) (k q : K) → eq k q ≡ true → keeps eq log e q ≡ keeps eq log e k
-  keeps_same log (Put j v) k q h = ap (λ t. not (t j && moves (mode log) (live t log))) (sym (same_test laws k q h))
-  keeps_same log (Write j v) k q h = refl
-  keeps_same log (Refresh j) k q h = ap not (sym (laws.congr k q j h))
-  keeps_same log (Remove j) k q h = ap not (sym (laws.congr k q j h))
-  keeps_same log RemoveAll k q h = refl
-  keeps_same log (Need m) k q h = refl
-  keeps_same log Fit k q h = refl
-  keeps_same log (SetMode m) k q h = refl
+  keeps_same log e k q h = grind (arith, same_test)
 
 module _ {K : Type 0} (same p : K → Bool) (b : Bool) (f : (q : K) → same q ≡ true → p q ≡ b) where
-  any_step : (q : K) (s t a : Bool) → same q ≡ s → p q ≡ t → (ks : List K)
-      → list_any same (filter p ks) ≡ (list_any same ks && b)
+  any_step : (q : K) (s t a : Bool) → same q ≡ s → p q ≡ t → (ks : List K) → list_any same (filter p ks) ≡ (list_any same ks && b)
       → list_any same (cond t (q ∷ filter p ks) (filter p ks)) ≡ ((s || list_any same ks) && b)
-  any_step q true true a e h ks i = rw e (sym h ∙ f q e)
-  any_step q true false a e h ks i = let no : b ≡ false = sym (f q e) ∙ h in
-      i ∙ elim (list_any same ks) as (λ x. (x && b) ≡ b) [ true ↦ refl | false ↦ sym no ]
-  any_step q false true a e h ks i = rw e i
-  any_step q false false a e h ks i = i
+  any_step q s t a e h ks i = grind arith
 
   -- whether some key is the same, in the part that passes a test which the same keys pass alike
   pub any-filter : (ks : List K) → list_any same (filter p ks) ≡ (list_any same ks && b)
@@ -176,42 +100,18 @@ module _ {K : Type 0} (same p : K → Bool) (b : Bool) (f : (q : K) → same q �
   any-filter (q ∷ ks) = any_step q (same q) (p q) true refl refl ks (any-filter ks)
 
 put_standing : (m : Mode) (l n s a : Bool) → (s ≡ true → n ≡ l) → a ≡ true
-    → ((l && not (s && moves m l))
-    || list_any (λ x. s) (cond (moves m n) (cond (a && true) (true ∷ []) []) []))
-    ≡ (s || (l && true))
-put_standing m l n s false f h = absurd (true≢false (sym h))
-put_standing Touch true n true true f h = refl
-put_standing Touch true n false true f h = refl
-put_standing Touch false n true true f h = refl
-put_standing Touch false n false true f h = refl
-put_standing Keep true true true true f h = refl
-put_standing Keep true true false true f h = refl
-put_standing Keep true false true true f h = refl
-put_standing Keep true false false true f h = refl
-put_standing Keep false true true true f h = sym (f refl)
-put_standing Keep false true false true f h = refl
-put_standing Keep false false true true f h = refl
-put_standing Keep false false false true f h = refl
+    → ((l && not (s && moves m l)) || list_any (λ x. s) (cond (moves m n) (cond (a && true) (true ∷ []) []) [])) ≡ (s || (l && true))
+put_standing m l n s a f h = grind arith
 
 same_standing : (l : Bool) → ((l && true) || false) ≡ (l && true)
-same_standing true = refl
-same_standing false = refl
+same_standing l = grind arith
 
 gone_standing : (l s : Bool) → ((l && not s) || false) ≡ (l && not s)
-gone_standing true true = refl
-gone_standing true false = refl
-gone_standing false s = refl
+gone_standing l s = grind arith
 
 refresh_standing : (l m s : Bool) → (s ≡ true → m ≡ l)
-    → ((l && not s) || list_any (λ x. s) (cond ((false || (m && true)) && true) (true ∷ []) []))
-    ≡ (l && true)
-refresh_standing true true true f = refl
-refresh_standing true true false f = refl
-refresh_standing true false true f = f refl
-refresh_standing true false false f = refl
-refresh_standing false true true f = f refl
-refresh_standing false true false f = refl
-refresh_standing false false s f = refl
+    → ((l && not s) || list_any (λ x. s) (cond ((false || (m && true)) && true) (true ∷ []) [])) ≡ (l && true)
+refresh_standing l m s f = grind arith
 
 any-one : {K : Type 0} (same : K → Bool) (b : Bool) (j : K)
     → list_any same (cond b (j ∷ []) []) ≡ list_any (λ (x : Bool). same j) (cond b (true ∷ []) [])
@@ -235,20 +135,7 @@ module _ {K V : Type 0} {eq : K → K → Bool} (laws : IsEquivalence eq) (k : K
       → ((live (eq k) log && keeps eq log e k) || list_any (eq k)
       (stands {V = V} eq (λ q. live (eq q) (log ++ e ∷ [])) [] (touched eq (log, e))))
       ≡ (puts (eq k) e || (live (eq k) log && not (ends (eq k) e)))
-  new_standing log (Put j v) = ap (λ b. (live (eq k) log && keeps eq log (Put j v) k) || b)
-      (any-put V eq k (λ q. live (eq q) (log ++ Put j v ∷ [])) (mode log) (live (eq j) log) j)
-      ∙ put_standing (mode log) (live (eq k) log) (live (eq j) log) (eq k j)
-      (live (eq j) (log ++ Put j v ∷ [])) (λ h. ap (λ t. live t log) (sym (same_test laws k j h)))
-      (live-snoc (eq j) log (Put j v) ∙ ap (λ b. b || (live (eq j) log && true)) (laws.refl j))
-  new_standing log (Write j v) = same_standing (live (eq k) log)
-  new_standing log (Refresh j) =
-      rw (live-snoc (eq j) log (Refresh j), any-one (eq k) ((false || (live (eq j) log && true)) && true) j)
-      (refresh_standing (live (eq k) log) (live (eq j) log) (eq k j) (λ h. ap (λ t. live t log) (sym (same_test laws k j h))))
-  new_standing log (Remove j) = gone_standing (live (eq k) log) (eq k j)
-  new_standing log RemoveAll = gone_standing (live (eq k) log) true
-  new_standing log (Need m) = same_standing (live (eq k) log)
-  new_standing log Fit = same_standing (live (eq k) log)
-  new_standing log (SetMode m) = same_standing (live (eq k) log)
+  new_standing log e = grind (arith, any-put, put_standing, same_test, live-snoc, same_standing, any-one, refresh_standing, gone_standing)
 
   -- exactly the live keys stand
   pub any-standing : (log : Log K V) → list_any (eq k) (standing eq log) ≡ live (eq k) log

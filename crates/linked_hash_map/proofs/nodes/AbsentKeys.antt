@@ -1,6 +1,5 @@
 -- A key that a lookup does not find.
-use Rattle.std.proofs.Common.{◌≡◌, ℕ, Bool, true, false, ◌||◌, ◌&&◌, eqb, List, [], ◌∷◌, fold, None}
-use Rattle.std.proofs.Common.{IsTrue, refl, sym, ap, ◌∙◌}
+use Rattle.std.proofs.Common.{◌≡◌, ℕ, Bool, false, ◌||◌, ◌&&◌, eqb, List, [], ◌∷◌, None, arith, IsTrue, refl, ap, ◌∙◌}
 use Rattle.std.specs.List.{list_any, AllByRecursion}
 use Rattle.std.specs.Map.{keys_of}
 use Rattle.std.proofs.lemmas.Bool.{eq-eqb}
@@ -15,16 +14,11 @@ use Rattle.lhm_ring.specs.Search.{LacksKey}
 module _ {A K V : Type 0} (eq : A → K → Bool) (hash_of : A → ℕ) (hash : K → ℕ)
     (respects : (x : A) (y : K) → IsTrue (eq x y) → hash_of x ≡ hash y) (k : A) {n : ℕ}
     (is : n ≡ hash_of k) where
-  eq-other_hash : (t : Held (K × V)) → t.hash ≡ hash t.pair.0
-      → false ≡ (eqb t.hash n && eq k t.pair.0) → (b : Bool) → eq k t.pair.0 ≡ b
+  eq-other_hash : (t : Held (K × V)) → t.hash ≡ hash t.pair.0 → false ≡ (eqb t.hash n && eq k t.pair.0) → (b : Bool) → eq k t.pair.0 ≡ b
       → eq k t.pair.0 ≡ false
-  eq-other_hash t h none false differs = differs
-  eq-other_hash t h none true same =
-      let same_hash : eqb t.hash n ≡ true = eq-eqb t.hash n (h ∙ sym (respects k t.pair.0 same) ∙ sym is) in
-      sym (none ∙ ap (λ b. b && eq k t.pair.0) same_hash)
+  eq-other_hash t h none b differs = grind (arith, eq-eqb)
 
-  list_any-LacksKey : (hs : List (Held (K × V)))
-      → AllByRecursion (λ u. u.hash ≡ hash u.pair) (bare hs) → LacksKey (eq k) n hs
+  list_any-LacksKey : (hs : List (Held (K × V))) → AllByRecursion (λ u. u.hash ≡ hash u.pair) (bare hs) → LacksKey (eq k) n hs
       → list_any (eq k) (keys_of (pairs_of hs)) ≡ false
   list_any-LacksKey [] h none = refl
   list_any-LacksKey (t ∷ hs) h none =
@@ -37,14 +31,12 @@ pub hash_by-respects : {A K S H : Type 0} {eq : A → K → Bool} {input_of : A 
     → ((x : A) (y : K) → IsTrue (eq x y) → input_of x ≡ input y) → (hasher : S) (x : A) (y : K)
     → IsTrue (eq x y)
     → hash_by finish write build input_of hasher x ≡ hash_by finish write build input hasher y
-hash_by-respects finish write build respects hasher x y same =
-    ap (λ words. finish (fold write (build hasher) words)) (respects x y same)
+hash_by-respects finish write build respects hasher x y same = grind arith
 
 -- so a map of these nodes has no such key
 module _ {A K V S : Type 0} {eq : A → K → Bool} {hash_of : S → A → ℕ} {hash : S → K → ℕ}
     (respects : (hasher : S) (x : A) (y : K) → IsTrue (eq x y) → hash_of hasher x ≡ hash hasher y) where
   pub find-LacksKey : (hasher : S) (k : A) {n : ℕ} → n ≡ hash_of hasher k → (hs : List (Held (K × V)))
-      → AllByRecursion (λ u. u.hash ≡ hash hasher u.pair) (bare hs) → LacksKey (eq k) n hs
-      → find eq (pairs_of hs) k ≡ None
+      → AllByRecursion (λ u. u.hash ≡ hash hasher u.pair) (bare hs) → LacksKey (eq k) n hs → find eq (pairs_of hs) k ≡ None
   find-LacksKey hasher k is hs hashed none = lookup_entry-none (eq k) (pairs_of hs)
       (list_any-LacksKey eq (hash_of hasher) (hash hasher) (respects hasher) k is hs hashed none)

@@ -1,35 +1,29 @@
 -- The bookmark of a cursor: it goes from one pair on to the next.
-use Rattle.std.proofs.Common.{◌≡◌, ℕ, ◌+◌, ◌-◌, ◌<◌, ◌≤◌, ◌⊎◌, inl, inr, ⊎_elim, Bool, List, []}
-use Rattle.std.proofs.Common.{◌∷◌, ◌++◌, map, length, take, drop, slice_get, Option, Some, None}
-use Rattle.std.proofs.Common.{refl, sym, ap, ◌∙◌, subst, arith, length-append}
-use Rattle.std.proofs.lemmas.Bool.{cases_lt}
+use Rattle.std.proofs.Common.{◌≡◌, ℕ, ◌+◌, ◌-◌, ◌<◌, ◌≤◌, ◌⊎◌, inl, inr, ⊎_elim, Bool, List, [], ◌∷◌, ◌++◌, map, length, slice_get, Option}
+use Rattle.std.proofs.Common.{Some, None, sym, ap, ◌∙◌, subst, arith, length-append}
 use Rattle.std.proofs.lemmas.List.{append_assoc}
 use Rattle.std.specs.Map.{keys_of}
 use denote.RawPtr.{Ptr}
-use Rattle.linked_hash_map.specs.Nodes.{VisitState, IsKept, Lies, bookmark_at, bare, pairs_of}
+use Rattle.linked_hash_map.specs.Nodes.{VisitState, IsKept, bookmark_at, bare, pairs_of}
 use Rattle.lhm_ring.specs.Positions.{index_of}
 use Rattle.linked_hash_map.proofs.nodes.HeldPairs.{index_of-bare, length-bare}
 use Rattle.linked_hash_map.proofs.nodes.CutNodes.{CutAt, CutAt-index_of, index_of-append}
-use Rattle.linked_hash_map.proofs.nodes.Outside.{IsElsewhere, to_visit_of, unvisited_some, bookmark_lies}
+use Rattle.linked_hash_map.proofs.nodes.Outside.{IsElsewhere, to_visit_of}
 use Rattle.linked_hash_map.proofs.lists.Stretches.{stretch-step, take-none}
 use Rattle.lhm_ring.specs.Nodes.{IsApart}
 use Rattle.lhm_ring.specs.Ring.{Held, AtHeld, first_at}
 
 module _ {K V : Type 0} where
   pub bookmark-bare : (o : Option Ptr) (hs : List (Held (K × V))) → bookmark_at o (bare hs) ≡ bookmark_at o hs
-  bookmark-bare None hs = refl
-  bookmark-bare (Some p) hs = index_of-bare p hs
+  bookmark-bare o hs = grind (arith, index_of-bare)
 
   -- the node behind one has the next index
   bookmark_at-next : (front : List (Held (K × V))) (t : Held (K × V)) (back : List (Held (K × V)))
-      → IsApart (map (λ u. u.at) (front ++ t ∷ back)) → 0 < length back
-      → bookmark_at (first_at back) (front ++ t ∷ back) ≡ length front + 1
+      → IsApart (map (λ u. u.at) (front ++ t ∷ back)) → 0 < length back → bookmark_at (first_at back) (front ++ t ∷ back) ≡ length front + 1
   bookmark_at-next front t [] apart some = absurd (omega (arith, some))
   bookmark_at-next front t (u ∷ back) apart some =
       let on : front ++ t ∷ u ∷ back ≡ (front ++ t ∷ []) ++ u ∷ back = sym (append_assoc front (t ∷ []) (u ∷ back)) in
-      ap (index_of u.at) on
-      ∙ index_of-append (front ++ t ∷ []) u back (subst (λ l. IsApart (map (λ v. v.at) l)) on apart)
-      ∙ length-append front (t ∷ [])
+      grind (arith, index_of-append, length-append)
 
 -- a visit goes on from the pair at p: its bookmark is then at the next pair, if one is left
 pub record Goes {B : Type 0} (hs : List (Held B)) (p : Ptr) (old new : VisitState) : Type 0 where
@@ -44,10 +38,7 @@ module _ {K V : Type 0} {eq : K → K → Bool} {hash : K → ℕ} (hs : List (H
     {capacity : ℕ} {old : VisitState} (kept : IsKept eq hash (bare hs) capacity old) {p : Ptr}
     (bookmarked : old.bookmark ≡ Some p) where
   pub bookmarked_cut : CutAt p hs
-  bookmarked_cut =
-      let lies = bookmark_lies kept bookmarked in let at = index_of-bare p hs in
-      let long = length-bare hs in
-      CutAt-index_of p hs (omega (arith, lies, at, long))
+  bookmarked_cut = grind (arith, index_of-bare, length-bare, CutAt-index_of)
 
 module _ {K V : Type 0} {eq : K → K → Bool} {hash : K → ℕ} (hs : List (Held (K × V))) {p : Ptr}
     {capacity : ℕ} {old new : VisitState} (kept : IsKept eq hash (bare hs) capacity old)
@@ -73,36 +64,13 @@ module _ {K V : Type 0} {eq : K → K → Bool} {hash : K → ℕ} (hs : List (H
 
   -- nothing is left to visit, or the bookmark is at the next index
   moved : ((new.unvisited ≡ 0) × (bookmark_at new.bookmark nodes ≡ 0)) ⊎ (bookmark_at new.bookmark nodes ≡ index_of p nodes + 1)
-  moved =
-      ⊎_elim (λ some. inr (next_index some))
-      (λ few. let none : new.unvisited ≡ 0 = omega (arith, few) in inl (none, ap (λ o. bookmark_at o nodes) (goes.none none)))
-      (cases_lt 0 new.unvisited)
+  moved = grind (arith, next_index)
 
   pub outside_on : IsElsewhere (index_of p nodes) new nodes
   outside_on = ⊎_elim (λ m. inr (omega (arith, m.0, m.1))) (λ m. inl (omega (arith, m))) moved
 
   pub kept_on : IsKept eq hash nodes capacity new
-  kept_on =
-      let some = unvisited_some kept goes.bookmarked in
-      record {
-        distinct = kept.distinct;
-        hashed = kept.hashed;
-        within = kept.within;
-        limit = kept.limit;
-        bookmarked = λ no. let at = ap (λ o. bookmark_at o nodes) no in ⊎_elim (λ m. m.0) (λ m. absurd (omega (arith, m, at))) moved;
-        ended = goes.none;
-        in_reach = ⊎_elim (λ m. omega (arith, m.0, m.1)) (λ m. omega (arith, m, reach, some, goes.fewer)) moved;
-        current_lies = subst (λ o. Lies o nodes) (sym goes.current) (bookmark_lies kept goes.bookmarked);
-      }
+  kept_on = grind (arith, moved, reach)
 
-  pub to_visit_on : (k : K) → slice_get (keys_of (pairs_of hs)) (index_of p nodes) ≡ Some k
-      → to_visit_of old hs ≡ k ∷ to_visit_of new hs
-  to_visit_on k there =
-      let keys = keys_of (pairs_of hs) in let behind = drop (index_of p nodes + 1) keys in
-      ap (λ o. take old.unvisited (drop (bookmark_at o nodes) keys)) goes.bookmarked
-      ∙ stretch-step keys (index_of p nodes) old.unvisited k there (unvisited_some kept goes.bookmarked)
-      ∙ ap (λ n. k ∷ take n behind) (sym goes.fewer)
-      ∙ ap (λ ks. k ∷ ks)
-      (⊎_elim (λ m. subst (λ n. take n behind ≡ take n (drop (bookmark_at new.bookmark nodes) keys))
-      (sym m.0) (take-none behind ∙ sym (take-none (drop (bookmark_at new.bookmark nodes) keys))))
-      (λ m. ap (λ i. take new.unvisited (drop i keys)) (sym m)) moved)
+  pub to_visit_on : (k : K) → slice_get (keys_of (pairs_of hs)) (index_of p nodes) ≡ Some k → to_visit_of old hs ≡ k ∷ to_visit_of new hs
+  to_visit_on k there = grind (arith, stretch-step, take-none, moved)

@@ -1,9 +1,8 @@
 -- The pair at the current index.
-use Rattle.std.proofs.Common.{◌≡◌, ℕ, ◌+◌, ◌<◌, ◌≤◌, ◌⊎◌, Bool, true, false, cond, List, length}
-use Rattle.std.proofs.Common.{Option, Some, None, slice_get, refl, sym, ap, ◌∙◌, subst, arith}
+use Rattle.std.proofs.Common.{◌≡◌, ℕ, ◌<◌, Bool, cond, List, length, Option, Some, None, slice_get, refl, sym, ap, ◌∙◌, subst, arith}
 use denote.RawPtr.{Ptr}
 use Rattle.lhm_ring.specs.declared.pointer.Position.{Position}
-use Rattle.linked_hash_map.specs.LinkedMap.{LinkedMap, CursorState}
+use Rattle.linked_hash_map.specs.LinkedMap.{LinkedMap}
 use Rattle.linked_hash_map.specs.Changes.{MovesCurrent}
 use Rattle.linked_hash_map.specs.Cursor.{IsOutside}
 use Rattle.linked_hash_map.specs.Nodes.{VisitState, Beside, bare, current_at, cursor_at, pairs_of, map_of, Lies, IsKept}
@@ -30,10 +29,7 @@ module _ {K V : Type 0} {eq : K → K → Bool} {hash : K → ℕ} (hs : List (H
     {capacity : ℕ} {visit : VisitState} (kept : IsKept eq hash (bare hs) capacity visit) where
   -- a node lies there
   pub index_of-current : {p : Ptr} → visit.current ≡ Some p → index_of p hs < length hs
-  index_of-current {p} is =
-      let lies : index_of p (bare hs) < length (bare hs) = subst (λ z. Lies z (bare hs)) is kept.current_lies in
-      let of_before = index_of-bare p hs in let of_bare = length-bare hs in
-      omega (arith, lies, of_before, of_bare)
+  index_of-current is = grind (arith, index_of-bare, length-bare)
 
   -- and that at the current index
   pub IsAt-current : {o : Option (Position K V)} {at : Position K V} → pointer_of_some o ≡ visit.current
@@ -46,49 +42,21 @@ module _ {K V : Type 0} {eq : K → K → Bool} {hash : K → ℕ} (hs : List (H
   pub IsCurrent-outside : {o : Option (Position K V)} {at : Position K V} → pointer_of_some o ≡ visit.current
       → o ≡ Some at → {S : Type 0} (m : LinkedMap K V S) → cursor_at visit (bare hs) ≡ m.cursor → IsOutside m.cursor.current m
       → IsCurrent visit hs (pointer_of at)
-  IsCurrent-outside of some m view outside =
-      let is = current_of-Some of some in
-      record {
-        is = is;
-        lies = index_of-current is;
-        elsewhere = subst (λ k. IsElsewhere k visit (bare hs)) (current_at-Some is hs)
-            (subst (λ (c : CursorState). (c.current < c.bookmark) ⊎ (c.bookmark + c.unvisited ≤ c.current)) (sym view) outside);
-      }
+  IsCurrent-outside of some m view outside = grind (arith, current_of-Some, index_of-current, current_at-Some)
 
 -- another pair becomes the current one
 module _ {K : Type 0} {eq : K → K → Bool} {hash : K → ℕ} {us : List (Held K)} {capacity : ℕ}
     {visit : VisitState} (kept : IsKept eq hash us capacity visit) where
   pub IsKept-current : (o : Option Ptr) → Lies o us → IsKept eq hash us capacity (record visit { current = o })
-  IsKept-current o lies =
-      record {
-        distinct = kept.distinct;
-        hashed = kept.hashed;
-        within = kept.within;
-        limit = kept.limit;
-        bookmarked = kept.bookmarked;
-        ended = kept.ended;
-        in_reach = kept.in_reach;
-        current_lies = lies;
-      }
+  IsKept-current o lies = grind arith
 
   -- and nothing is to be visited
   pub IsKept-visited : (o : Option Ptr) → Lies o us → IsKept eq hash us capacity (record no_visit { current = o })
-  IsKept-visited o lies =
-      record {
-        distinct = kept.distinct;
-        hashed = kept.hashed;
-        within = kept.within;
-        limit = kept.limit;
-        bookmarked = λ _. refl;
-        ended = λ _. refl;
-        in_reach = omega arith;
-        current_lies = lies;
-      }
+  IsKept-visited o lies = grind arith
 
   -- an entry is done with
   pub IsKept-left : (active : Bool) → IsKept eq hash us capacity (record visit { current = cond active None None })
-  IsKept-left true = IsKept-current None tt
-  IsKept-left false = IsKept-current None tt
+  IsKept-left active = grind (arith, IsKept-current)
 
 -- other nodes of the same counts, among which the current one was moved and written
 module _ {K V S : Type 0} {eq : K → K → Bool} {hash : K → ℕ} (s t : TableState (K × V)) (b : Beside S)
@@ -100,14 +68,8 @@ module _ {K V S : Type 0} {eq : K → K → Bool} {hash : K → ℕ} (s t : Tabl
       → IsElsewhere (index_of p t.held) b.visit (bare t.held) → IsKept eq hash (bare t.held) t.capacity b.visit
       → MovesCurrent eq write (map_of s b) (map_of t b)
   MovesCurrent-nodes at counts visits elsewhere still = record {
-    pair = λ pair there. ap (slice_get (pairs_of t.held)) (current_at-Some is t.held)
-        ∙ at pair (ap (slice_get (pairs_of s.held)) (sym (current_at-Some is s.held)) ∙ there);
-    keeps = record {
-      capacity = counts.capacity;
-      rechained = counts.rechained;
-      hasher = refl;
-      mode = refl;
-    };
+    pair = grind (arith, current_at-Some);
+    keeps = grind arith;
     visit = visits;
     outside = subst (λ k. IsElsewhere k b.visit (bare t.held)) (sym (current_at-Some is t.held)) elsewhere;
     valid = IsValid-kept s.held kept refl refl refl;

@@ -1,11 +1,11 @@
 -- The nodes, cut at one of them: the pair there, and its index.
-use Rattle.std.proofs.Common.{◌≡◌, ℕ, suc, ◌+◌, ◌<◌, cond, List, [], ◌∷◌, ◌++◌, map}
+use Rattle.std.proofs.Common.{◌≡◌, ℕ, ◌+◌, ◌<◌, cond, List, [], ◌∷◌, ◌++◌, map}
 use Rattle.std.proofs.Common.{length, slice_get, option_map, Some, sym, ap, ◌∙◌, subst, arith}
 use denote.RawPtr.{Ptr}
 use Rattle.lhm_ring.proofs.lists.Apart.{same_ptr-reflexive, IsFresh-head, IsApart-tail}
 use Rattle.lhm_ring.proofs.rings.HeldPointers.{same_ptr-fresh}
 use Rattle.linked_hash_map.specs.Nodes.{Beside, pairs_of, map_of}
-use Rattle.lhm_ring.specs.Positions.{index_of}
+use Rattle.lhm_ring.specs.Positions.{index_of, IsAt}
 use Rattle.linked_hash_map.specs.Indexes.{set_value_at}
 use Rattle.linked_hash_map.proofs.nodes.HeldPairs.{bare-change, length-pairs_of, pairs_of-append}
 use Rattle.linked_hash_map.proofs.nodes.Kept.{map_of-revalued}
@@ -13,7 +13,6 @@ use Rattle.linked_hash_map.proofs.pairs.Indexes.{set_value_at-append}
 use Rattle.lhm_ring.proofs.tables.Positions.{slice_get-append, CutAt-IsAt, IsAt-index_of, cut_at}
 use Rattle.lhm_ring.proofs.tables.Positions as Positions
 use Rattle.lhm_ring.specs.Nodes.{IsApart}
-use Rattle.lhm_ring.specs.Positions.{IsAt}
 use Rattle.lhm_ring.specs.Ring.{Held, AtHeld, change_at, IsHeld, revalued}
 use Rattle.lhm_ring.specs.Table.{TableState, WritesOnly}
 
@@ -23,9 +22,7 @@ module _ {K V : Type 0} {hs : List (Held (K × V))} {p : Ptr} (held : IsHeld hs 
   pairs_of-held = ap pairs_of held.is ∙ pairs_of-append held.before (held.node ∷ held.after)
 
   pub slice_get-held : slice_get (pairs_of hs) (length held.before) ≡ Some held.node.pair
-  slice_get-held = subst (λ i. slice_get (pairs_of hs) i ≡ Some held.node.pair)
-      (length-pairs_of held.before) (ap (λ ps. slice_get ps (length (pairs_of held.before)))
-      pairs_of-held ∙ slice_get-append (pairs_of held.before) held.node.pair (pairs_of held.after))
+  slice_get-held = grind (arith, length-pairs_of, pairs_of-held, slice_get-append)
 
   pub pairs_of-change_at : WritesOnly hs p → (w : V)
       → pairs_of (change_at p (revalued w) hs) ≡ set_value_at (pairs_of hs) (length held.before) w
@@ -51,10 +48,7 @@ module _ {K V : Type 0} (hs : List (Held (K × V))) {p : Ptr} (i : ℕ) (at : Is
 
   pub pair-at : {k : K} {v : V} → AtHeld hs p (λ xs t ys. k ≡ t.pair.0) → AtHeld hs p (λ xs t ys. v ≡ t.pair.1)
       → slice_get (pairs_of hs) i ≡ Some (k, v)
-  pair-at key value =
-      let h = held-at in
-      slice_get-at
-      ∙ (λ j. Some (sym (key h.before h.node h.after h.is h.at_is) j, sym (value h.before h.node h.after h.is h.at_is) j))
+  pair-at key value = grind (arith, slice_get-at)
 
   -- once a value is written there
   pub pairs_of-written : WritesOnly hs p → (w : V) → pairs_of (change_at p (revalued w) hs) ≡ set_value_at (pairs_of hs) i w
@@ -64,8 +58,7 @@ module _ {K V : Type 0} (hs : List (Held (K × V))) {p : Ptr} (i : ℕ) (at : Is
 pub map_of-written : {K V S : Type 0} (s : TableState (K × V)) (b : Beside S) {p : Ptr} (i : ℕ) → IsAt s.held p i
     → WritesOnly s.held p → (w : V) {ps : List (K × V)} → set_value_at (pairs_of s.held) i w ≡ ps
     → map_of (record s { held = change_at p (revalued w) s.held }) b ≡ record (map_of s b) { pairs = ps }
-map_of-written s b {p} i at alone w is =
-    map_of-revalued s (change_at p (revalued w) s.held) b (bare-change p w s.held) (pairs_of-written s.held i at alone w ∙ is)
+map_of-written s b i at alone w is = grind (arith, map_of-revalued, bare-change, pairs_of-written)
 
 -- the first node at a pointer
 abbrev pub CutAt : {B : Type 0} → Ptr → List (Held B) → Type 0
@@ -81,6 +74,4 @@ module _ {K V : Type 0} where
   index_of-append [] t ys d = ap (λ y. cond y 0 (index_of t.at ys + 1)) (same_ptr-reflexive t.at)
   index_of-append (x ∷ xs) t ys d =
       let on = index_of-append xs t ys (IsApart-tail x.at (map (λ u. u.at) (xs ++ t ∷ ys)) d) in
-      let one : index_of t.at (xs ++ t ∷ ys) + 1 ≡ suc (length xs) = omega (arith, on) in
-      ap (λ y. cond y 0 (index_of t.at (xs ++ t ∷ ys) + 1))
-      (same_ptr-fresh x.at xs t ys (IsFresh-head x.at (map (λ u. u.at) (xs ++ t ∷ ys)) d)) ∙ one
+      grind (arith, same_ptr-fresh, IsFresh-head)

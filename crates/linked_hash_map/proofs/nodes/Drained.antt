@@ -31,7 +31,6 @@ module _ {K V : Type 0} where
   stays_back = along DrainStepsBack (λ s t r h. h.1)
 
 -- what is left of a `Drain` that was made of a table
-pub rest_drained : {K V : Type 0} (d : Drain K V) (ts : List (ℕ × (K × V)))
-    (hs : List (Held (K × V))) → drain_rest d ≡ map (λ t. t.1) ts → ts ≡ triples hs
-    → drain_rest d ≡ pairs_of hs
+pub rest_drained : {K V : Type 0} (d : Drain K V) (ts : List (ℕ × (K × V))) (hs : List (Held (K × V))) → drain_rest d ≡ map (λ t. t.1) ts
+    → ts ≡ triples hs → drain_rest d ≡ pairs_of hs
 rest_drained d ts hs rest e = rest ∙ ap (map (λ t. t.1)) e ∙ pairs-triples hs

@@ -14,15 +14,13 @@ module _ {K V : Type 0} where
   pairs_of-triples hs ks same = sym (pairs-triples ks) ∙ ap (map (λ z. z.1)) same ∙ pairs-triples hs
 
   hashed-triples : (hash : K → ℕ) (hs ks : List (Held (K × V))) → triples ks ≡ triples hs
-      → AllByRecursion (λ u. u.hash ≡ hash u.pair) (bare hs)
-      → AllByRecursion (λ u. u.hash ≡ hash u.pair) (bare ks)
+      → AllByRecursion (λ u. u.hash ≡ hash u.pair) (bare hs) → AllByRecursion (λ u. u.hash ≡ hash u.pair) (bare ks)
   hashed-triples hash [] [] same all = tt
   hashed-triples hash [] (k ∷ ks) same all = absurd (cc)
   hashed-triples hash (t ∷ hs) [] same all = absurd (cc)
   hashed-triples hash (t ∷ hs) (k ∷ ks) same all =
       let rest : triples ks ≡ triples hs = cc in
-      let first : (k.hash, k.pair) ≡ (t.hash, t.pair) = cc in
-      (ap (λ z. z.0) first ∙ all.0 ∙ ap (λ (z : ℕ × (K × V)). hash z.1.0) (sym first), hashed-triples hash hs ks rest all.1)
+      grind (arith, hashed-triples hash hs ks rest all.1)
 
   -- the pairs that stand in some nodes stand in others, as many as the capacity then is
   pub IsKept-fitted : {eq : K → K → Bool} {hash : K → ℕ} (hs ks : List (Held (K × V))) {capacity n : ℕ} {visit : VisitState}

@@ -25,10 +25,7 @@ module _ {K V : Type 0} {is_key : K → Bool} {hash : ℕ} {hs : List (Held (K �
   index_of-HasKey = index_of-held h.held
 
   pub index_of-HasKey_bare : index_of p (bare hs) < length (bare hs)
-  index_of-HasKey_bare =
-      let lies = index_of-HasKey in let of_before = index_of-bare p hs in
-      let of_bare = length-bare hs in
-      omega (arith, lies, of_before, of_bare)
+  index_of-HasKey_bare = grind (arith, index_of-HasKey, index_of-bare, length-bare)
 
 module _ {K V : Type 0} {eq : K → K → Bool} {hash : ℕ} {k : K} {hs : List (Held (K × V))} {p : Ptr} (h : HasKey (eq k) hash hs p) where
   pub IsIndex-index_of : IsIndex eq (pairs_of hs) k (index_of p hs)

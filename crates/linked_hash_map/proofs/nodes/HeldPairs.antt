@@ -1,5 +1,5 @@
 -- The pairs of held nodes, and the nodes with their keys alone.
-use Rattle.std.proofs.Common.{◌≡◌, suc, ◌+◌, true, false, cond, List, [], ◌∷◌, ◌++◌, map, length, refl, sym, ap, ◌∙◌}
+use Rattle.std.proofs.Common.{◌≡◌, suc, ◌+◌, cond, List, [], ◌∷◌, ◌++◌, map, length, refl, sym, ap, ◌∙◌, arith}
 use Rattle.std.specs.Map.{keys_of}
 use Rattle.std.proofs.lemmas.List.{map-append}
 use denote.RawPtr.{Ptr}
@@ -17,11 +17,7 @@ module _ {K V : Type 0} where
 
   pub bare-change : (p : Ptr) (w : V) (hs : List (Held (K × V))) → bare (change_at p (revalued w) hs) ≡ bare hs
   bare-change p w [] = refl
-  bare-change p w (t ∷ hs) =
-      elim (same_ptr t.at p) as (λ y. bare_node (cond y (revalued w t) t) ∷ bare (change_at p (revalued w) hs) ≡ bare_node t ∷ bare hs) [
-        | true ↦ ap (λ us. bare_node t ∷ us) (bare-change p w hs)
-        | false ↦ ap (λ us. bare_node t ∷ us) (bare-change p w hs)
-      ]
+  bare-change p w (t ∷ hs) = grind (arith, bare-change p w hs)
 
   pub bare-values : (hs : List (Held (K × V))) (vs : List V) → bare (set_held_values hs vs) ≡ bare hs
   bare-values [] vs = refl

@@ -12,10 +12,8 @@ use Rattle.lhm_ring.specs.Index.{Spot, spot, spots}
 use Rattle.lhm_ring.specs.Ring.{Held}
 
 module _ {K V : Type 0} (hash : K → ℕ) where
-  count_by-spots : (test : ℕ → Bool) (hs : List (Held (K × V)))
-      → AllByRecursion (λ u. u.hash ≡ hash u.pair) (bare hs)
-      → count_by (λ (s : Spot). test s.hash) (spots hs)
-      ≡ count_by (λ (pair : K × V). test (hash pair.0)) (pairs_of hs)
+  count_by-spots : (test : ℕ → Bool) (hs : List (Held (K × V))) → AllByRecursion (λ u. u.hash ≡ hash u.pair) (bare hs)
+      → count_by (λ (s : Spot). test s.hash) (spots hs) ≡ count_by (λ (pair : K × V). test (hash pair.0)) (pairs_of hs)
   count_by-spots test [] h = refl
   count_by-spots test (t ∷ hs) h =
       let rest = count_by-spots test hs h.1 in let by_spot : Spot → Bool = λ s. test s.hash in

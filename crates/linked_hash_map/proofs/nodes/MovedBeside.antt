@@ -1,7 +1,6 @@
 -- A node that is moved before another, or behind all.
-use Rattle.std.proofs.Common.{◌≡◌, ℕ, suc, ◌+◌, ◌-◌, Bool, cond, List, [], ◌∷◌, ◌++◌, map, filter, not, length, take}
-use Rattle.std.proofs.Common.{drop, remove, slice_get}
-use Rattle.std.proofs.Common.{Option, Some, None, IsTrue, option_to_list, refl, sym, ap, ◌∙◌, subst, arith}
+use Rattle.std.proofs.Common.{◌≡◌, ℕ, ◌+◌, ◌-◌, Bool, cond, List, [], ◌∷◌, ◌++◌, map, filter, not, length, take, drop, remove, slice_get}
+use Rattle.std.proofs.Common.{Option, Some, None, IsTrue, option_to_list, sym, ap, ◌∙◌, subst, arith}
 use Rattle.std.specs.Prelude.{nat_lt, IfSome}
 use Rattle.std.specs.Cmp.{IsEquivalence}
 use Rattle.std.specs.List.{IsDistinct, position_or_len}
@@ -72,21 +71,16 @@ module _ {K V : Type 0} {eq : K → K → Bool} (laws : IsEquivalence eq) {is_ke
 -- what comes after a node has the next index
 module _ {B : Type 0} where
   first-at : (hs : List (Held B)) → slice_get (map (λ t. t.at) hs) 0 ≡ first_at hs
-  first-at [] = refl
-  first-at (t ∷ hs) = refl
+  first-at hs = grind arith
 
   next-at : (xs : List (Held B)) (t : Held B) (ys : List (Held B))
       → slice_get (map (λ u. u.at) (xs ++ t ∷ ys)) (length xs + 1) ≡ first_at ys
   next-at [] t ys = first-at ys
-  next-at (x ∷ xs) t ys = let one : suc (length xs) + 1 ≡ suc (length xs + 1) = omega arith in
-      ap (slice_get (map (λ u. u.at) (x ∷ xs ++ t ∷ ys))) one ∙ next-at xs t ys
+  next-at (x ∷ xs) t ys = grind (arith, next-at xs t ys)
 
   pub PlaceAt-next : {hs : List (Held B)} {p : Ptr} (i : ℕ) → IsAt hs p i → {o : Option Ptr} → AtHeld hs p (λ xs t ys. o ≡ first_at ys)
       → PlaceAt hs o (i + 1)
-  PlaceAt-next {hs} {p} i at next =
-      let cut = CutAt-IsAt hs p i at in let h = cut.held in
-      (λ j. slice_get (map (λ u. u.at) (h.is j)) (sym cut.long j + 1)) ∙ next-at h.before h.node h.after
-      ∙ sym (next h.before h.node h.after h.is h.at_is)
+  PlaceAt-next {hs} {p} i at next = let cut = CutAt-IsAt hs p i at in grind (arith, next-at)
 
 -- where a position is the place of an index, a node lies there
 pub IsHeld-PlaceAt : {K V : Type 0} (hs : List (Held (K × V))) (i : ℕ) (o : Option (Position K V)) → PlaceAt hs (pointer_of_some o) i

@@ -1,6 +1,6 @@
 -- A node that is moved before the others.
 use Rattle.std.proofs.Common.{◌≡◌, ℕ, suc, ◌+◌, ◌<◌, ◌⊎◌, inl, inr, ⊎_elim, Bool, List, map, length, take, drop, remove, ◌++◌}
-use Rattle.std.proofs.Common.{Option, Some, None, refl, sym, ap, ◌∙◌, subst, arith}
+use Rattle.std.proofs.Common.{Some, None, sym, ap, ◌∙◌, subst, arith}
 use Rattle.std.specs.Cmp.{IsEquivalence}
 use Rattle.std.proofs.lemmas.List.Sorted.{length_permutation}
 use denote.RawPtr.{Ptr}
@@ -11,8 +11,7 @@ use Rattle.linked_hash_map.proofs.nodes.Kept.{no_visit, IsKept-same}
 use Rattle.linked_hash_map.proofs.nodes.Current.{IsKept-visited}
 use Rattle.linked_hash_map.proofs.nodes.HeldPairs.{index_of-bare, length-bare}
 use Rattle.linked_hash_map.proofs.nodes.MovedNode.{IsKept-permuted}
-use Rattle.linked_hash_map.proofs.nodes.Outside.{IsElsewhere, IsCurrent, to_visit_at, to_visit_of}
-use Rattle.linked_hash_map.proofs.nodes.Outside.{to_visit-bare, to_visit-out, unvisited_some}
+use Rattle.linked_hash_map.proofs.nodes.Outside.{IsElsewhere, IsCurrent, to_visit_at, to_visit_of, to_visit-bare, to_visit-out}
 use Rattle.linked_hash_map.proofs.nodes.TakenNode.{IsKept-out}
 use Rattle.linked_hash_map.proofs.lists.Stretches.{take-none}
 use Rattle.std.specs.Option.{option_to_list}
@@ -33,15 +32,7 @@ module _ {K : Type 0} {eq : K → K → Bool} {hash : K → ℕ} {us : List (Hel
   -- nothing is to be visited, or the bookmark is at the next index
   pub shifts : ((visit.unvisited ≡ 0) × (bookmark_at visit.bookmark moved_us ≡ 0))
       ⊎ (bookmark_at visit.bookmark moved_us ≡ bookmark_at visit.bookmark others + 1)
-  shifts = by_bookmark visit.bookmark refl
-    where
-      by_bookmark : (o : Option Ptr) → visit.bookmark ≡ o
-          → ((visit.unvisited ≡ 0) × (bookmark_at o moved_us ≡ 0)) ⊎ (bookmark_at o moved_us ≡ bookmark_at o others + 1)
-      by_bookmark None is = inl (kept.bookmarked is, refl)
-      by_bookmark (Some q) is =
-          let some = unvisited_some kept is in let at = ap (λ o. bookmark_at o us) is in
-          inr (index_of-behind_front us (index_of p us) (IsAt-index_of p us lies) q
-          (λ same. ⊎_elim (λ h. absurd (omega (arith, h, at, same))) (λ h. absurd (omega (arith, h, at, same, some))) elsewhere))
+  shifts = grind (arith, index_of-behind_front, IsAt-index_of)
 
   pub IsKept-to_front : IsEquivalence eq → visit.current ≡ Some p → IsKept eq hash moved_us capacity visit
   IsKept-to_front laws is =

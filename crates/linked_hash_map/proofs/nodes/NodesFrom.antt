@@ -1,5 +1,5 @@
 -- The nodes from one on: what an iterator that begins at a pair has left.
-use Rattle.std.proofs.Common.{◌≡◌, ℕ, ◌≤◌, Bool, true, List, [], ◌∷◌, ◌++◌, map, length, reverse, Option, Some, None}
+use Rattle.std.proofs.Common.{◌≡◌, ◌≤◌, Bool, true, List, [], ◌∷◌, ◌++◌, map, length, reverse, Option, Some}
 use Rattle.std.proofs.Common.{IsTrue, refl, sym, ap, ◌∙◌, subst, arith, append_assoc}
 use Rattle.std.specs.Cmp.{IsEquivalence}
 use Rattle.std.specs.List.{IsDistinct}
@@ -9,7 +9,6 @@ use denote.RawPtr.{Ptr}
 use Rattle.lhm_ring.specs.Nodes.{same_ptr, IsApart}
 use Rattle.lhm_ring.specs.declared.pointer.Position.{Position}
 use Rattle.lhm_ring.specs.Pointer.{pointer_of, pointer_of_some}
-use Rattle.lhm_ring.specs.Positions.{index_of}
 use Rattle.lhm_ring.specs.Ring.{Held, IsHeld, AtHeld, first_at, last_at, last_of}
 use Rattle.lhm_ring.proofs.lists.Apart.{same_ptr-equal, same_ptr-reflexive, same_ptr-symmetric}
 use Rattle.lhm_ring.proofs.tables.Positions.{index_of-within, index_of-held}
@@ -37,13 +36,10 @@ module _ {K V : Type 0} where
   -- the nodes behind others, each at a pointer of its own
   pairs_from-behind : (xs ys : List (Held (K × V))) → IsApart (map (λ t. t.at) (xs ++ ys))
       → pairs_from (first_at ys) (xs ++ ys) ≡ pairs_of ys
-  pairs_from-behind xs [] apart = refl
-  pairs_from-behind xs (y ∷ ys) apart = ap pairs_of
-      (from_first-own same_ptr-reflexive same_ptr-symmetric (λ (t : Held (K × V)). t.at) xs y ys apart)
+  pairs_from-behind xs ys apart = grind (arith, from_first-own, same_ptr-reflexive, same_ptr-symmetric)
 
   Lies-behind : (xs ys : List (Held (K × V))) → Lies (first_at ys) (xs ++ ys)
-  Lies-behind xs [] = tt
-  Lies-behind xs (y ∷ ys) = index_of-within y.at xs y ys refl
+  Lies-behind xs ys = grind (arith, index_of-within)
 
   -- a step from the node at p to the next one
   module _ {hs : List (Held (K × V))} {p : Ptr} (h : IsHeld hs p) {o : Option Ptr}
@@ -62,16 +58,10 @@ module _ {K V : Type 0} where
 
     pub pairs_from-step : {pair : K × V} → AtHeld hs p (λ xs t ys. pair ≡ t.pair) → IsApart (map (λ t. t.at) hs)
         → pairs_from (Some p) hs ≡ pair ∷ pairs_from o hs
-    pairs_from-step {pair} is apart =
-        let pairs_behind = pairs_from-behind (first.before ++ first.node ∷ []) first.after
-        (subst (λ (ks : List (Held (K × V))). IsApart (map (λ t. t.at) ks)) behind apart) in
-        ap pairs_of first.from
-        ∙ ap (λ q. q ∷ pairs_of first.after) (sym (is first.before first.node first.after first.is at_is))
-        ∙ ap (λ ps. pair ∷ ps) (sym ((λ i. pairs_from (next_is i) (behind i)) ∙ pairs_behind))
+    pairs_from-step is apart = grind (arith, pairs_from-behind, first, behind, at_is, next_is)
 
     pub Lies-step : Lies o hs
-    Lies-step = subst (λ (x : Option Ptr × List (Held (K × V))). Lies x.0 x.1) (λ i. (sym next_is i, sym behind i))
-        (Lies-behind (first.before ++ first.node ∷ []) first.after)
+    Lies-step = grind (arith, next_is, behind, Lies-behind, first)
 
   -- the same of the reverse list
   pub AtHeld-reverse : {hs : List (Held (K × V))} {p : Ptr} (P : List (Held (K × V)) → Held (K × V) → List (Held (K × V)) → Type 0)
@@ -93,8 +83,7 @@ module _ {K V : Type 0} where
   IsHeld-unreversed {hs} {p} h = subst (λ (ks : List (Held (K × V))). IsHeld ks p) (reverse-reverse hs) (IsHeld-reverse h)
 
   pub Lies-unreversed : (hs : List (Held (K × V))) (o : Option Ptr) → Lies o (reverse hs) → Lies o hs
-  Lies-unreversed hs None lies = tt
-  Lies-unreversed hs (Some p) lies = index_of-held (IsHeld-unreversed (IsHeld-Lies lies))
+  Lies-unreversed hs o lies = grind (arith, index_of-held, IsHeld-unreversed, IsHeld-Lies)
 
   last_of-append : (t : Held (K × V)) (hs : List (Held (K × V))) (u : Held (K × V)) → last_of t (hs ++ u ∷ []) ≡ u.at
   last_of-append t [] u = refl
@@ -118,14 +107,10 @@ module _ {K V : Type 0} where
 
   -- as many as there are, and one if there is a pointer
   pub length-pairs_from : (o : Option Ptr) (hs : List (Held (K × V))) → length (pairs_from o hs) ≤ length hs
-  length-pairs_from None hs = omega arith
-  length-pairs_from (Some p) hs =
-      let test : Held (K × V) → Bool = λ t. same_ptr p t.at in
-      let long = length-pairs_of (from_first test hs) in let few = length-from_first test hs in omega (arith, long, few)
+  length-pairs_from o hs = grind (arith, length-pairs_of, length-from_first)
 
   pub length-pairs_from_held : {hs : List (Held (K × V))} {p : Ptr} → IsHeld hs p → 1 ≤ length (pairs_from (Some p) hs)
-  length-pairs_from_held h =
-      let some = ap (λ ks. length (pairs_of ks)) (FirstPasses-held h).from in omega (arith, some)
+  length-pairs_from_held h = let some = ap (λ ks. length (pairs_of ks)) (FirstPasses-held h).from in omega (arith, some)
 
 -- the pairs from that of a key on
 module _ {K V : Type 0} {eq : K → K → Bool} (laws : IsEquivalence eq) {is_key : K → Bool}

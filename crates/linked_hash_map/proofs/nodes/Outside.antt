@@ -1,7 +1,6 @@
 -- What a cursor has still to visit, and nodes elsewhere: once one of them is out.
-use Rattle.std.proofs.Common.{◌≡◌, ℕ, suc, ◌+◌, ◌<◌, ◌≤◌, ◌⊎◌, inl, inr, ⊎_elim, Bool, true, false}
-use Rattle.std.proofs.Common.{cond, List, [], ◌∷◌, ◌++◌, map, length, take, drop, remove, Option, Some}
-use Rattle.std.proofs.Common.{None, refl, sym, ap, ◌∙◌, arith}
+use Rattle.std.proofs.Common.{◌≡◌, ℕ, suc, ◌+◌, ◌<◌, ◌≤◌, ◌⊎◌, Bool, true, false, cond, List, [], ◌∷◌, ◌++◌, map, length, take, drop}
+use Rattle.std.proofs.Common.{remove, Option, Some, None, refl, sym, ap, ◌∙◌, arith}
 use Rattle.std.specs.Map.{keys_of}
 use Rattle.std.proofs.Math.Nat.{pos_of_ne-zero}
 use Rattle.std.proofs.lemmas.List.{length-map}
@@ -58,9 +57,7 @@ module _ {K : Type 0} {eq : K → K → Bool} {hash : K → ℕ} {us : List (Hel
   unvisited_some = pos_of_ne-zero (λ z. let h : Some p ≡ None = sym is ∙ kept.ended z in cc)
 
   pub bookmark_lies : index_of p us < length us
-  bookmark_lies =
-      let some = unvisited_some in let at = ap (λ o. bookmark_at o us) is in
-      omega (arith, some, at, kept.in_reach)
+  bookmark_lies = grind (arith, unvisited_some)
 
 -- the nodes, of which the one at an index is none to visit
 module _ {K : Type 0} {eq : K → K → Bool} {hash : K → ℕ} {us : List (Held K)} {capacity : ℕ}
@@ -72,21 +69,11 @@ module _ {K : Type 0} {eq : K → K → Bool} {hash : K → ℕ} {us : List (Hel
 
   -- without that node the index of the bookmark is less by one if it was behind it, else the same
   shifts : Shifts visit.bookmark
-  shifts = by_bookmark visit.bookmark refl elsewhere
-    where
-      by_bookmark : (o : Option Ptr) → visit.bookmark ≡ o → IsElsewhere i (record visit { bookmark = o }) us → Shifts o
-      by_bookmark None is h = let none = kept.bookmarked is in inr (omega (arith, none), refl)
-      by_bookmark (Some p) is (inl h) = inl (h, index_of-later p us i h)
-      by_bookmark (Some p) is (inr h) = let some = unvisited_some kept is in inr (h, index_of-earlier p us i (omega (arith, some, h)))
+  shifts = grind (arith, index_of-later, unvisited_some, index_of-earlier)
 
   pub in_reach-out : bookmark_at visit.bookmark (remove us i) + visit.unvisited ≤ length (remove us i)
-  in_reach-out =
-      let long = length-remove us i within in
-      ⊎_elim (λ s. omega (arith, s.1, long, kept.in_reach)) (λ s. omega (arith, s.0, s.1, long, within)) shifts
+  in_reach-out = grind (arith, length-remove, shifts)
 
   -- the same keys are to be visited without it
   pub to_visit-out : to_visit_at visit (remove us i) ≡ to_visit_at visit us
-  to_visit-out =
-      let long = length-map us (λ u. u.pair) in
-      ap (λ ks. take visit.unvisited (drop (bookmark_at visit.bookmark (remove us i)) ks)) (map-remove (λ u. u.pair) us i)
-      ∙ stretch-removed (map (λ u. u.pair) us) i visit.unvisited (omega (arith, long, within)) shifts
+  to_visit-out = grind (arith, length-map, map-remove, stretch-removed, shifts)

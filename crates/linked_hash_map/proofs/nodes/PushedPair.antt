@@ -1,7 +1,6 @@
 -- A pair that is put at the back.
-use Rattle.std.proofs.Common.{◌≡◌, ℕ, ◌<◌, Bool, false, List, [], ◌∷◌, ◌++◌, map, length, take, drop, Option, Some, None, refl, sym, ap}
-use Rattle.std.proofs.Common.{ap₂, ◌∙◌, subst, arith, length-append}
-use Rattle.std.specs.List.{list_any, IsDistinct}
+use Rattle.std.proofs.Common.{◌≡◌, ℕ, ◌<◌, Bool, false, List, [], ◌∷◌, ◌++◌, map, length, Option, None, sym, ap, ◌∙◌, arith, length-append}
+use Rattle.std.specs.List.{list_any}
 use Rattle.std.specs.Cmp.{IsEquivalence}
 use Rattle.std.proofs.lemmas.List.{map-append, length-map}
 use Rattle.std.proofs.lemmas.Map.Keys.{IsDistinct-push}
@@ -12,7 +11,7 @@ use Rattle.linked_hash_map.specs.Pairs.{find}
 use Rattle.linked_hash_map.proofs.nodes.HeldPairs.{length-bare, keys-bare, pairs_of-append}
 use Rattle.linked_hash_map.proofs.pairs.Calls.{list_any-none}
 use Rattle.linked_hash_map.proofs.nodes.Kept.{IsKept-same}
-use Rattle.linked_hash_map.proofs.nodes.Outside.{index_of-among_first, bookmark_lies, to_visit_at, to_visit_of, to_visit-bare}
+use Rattle.linked_hash_map.proofs.nodes.Outside.{index_of-among_first, to_visit_at, to_visit_of, to_visit-bare}
 use Rattle.linked_hash_map.proofs.lists.Stretches.{stretch-front}
 use Rattle.lhm_ring.specs.Ring.{Held}
 
@@ -20,47 +19,25 @@ use Rattle.lhm_ring.specs.Ring.{Held}
 module _ {B : Type 0} where
   pub current_at-append : (current : Option Ptr) (us vs : List (Held B)) → Lies current us
       → current_at current (us ++ vs) ≡ current_at current us
-  current_at-append None us vs h = refl
-  current_at-append (Some p) us vs h = index_of-among_first p us vs h
+  current_at-append current us vs h = grind (arith, index_of-among_first)
 
   lies-append : (current : Option Ptr) (us vs : List (Held B)) → Lies current us → Lies current (us ++ vs)
-  lies-append None us vs h = tt
-  lies-append (Some p) us vs h = let same = index_of-among_first p us vs h in let long = length-append us vs in omega (arith, same, long, h)
+  lies-append current us vs h = grind (arith, index_of-among_first, length-append)
 
 -- one node more, the last
 module _ {K : Type 0} {eq : K → K → Bool} {hash : K → ℕ} {us : List (Held K)} {capacity : ℕ}
     {visit : VisitState} (k : IsKept eq hash us capacity visit) where
   pub bookmark_at-append : (vs : List (Held K)) → bookmark_at visit.bookmark (us ++ vs) ≡ bookmark_at visit.bookmark us
-  bookmark_at-append vs = by_bookmark visit.bookmark refl
-    where
-      by_bookmark : (o : Option Ptr) → visit.bookmark ≡ o → bookmark_at o (us ++ vs) ≡ bookmark_at o us
-      by_bookmark None is = refl
-      by_bookmark (Some p) is = index_of-among_first p us vs (bookmark_lies k is)
+  bookmark_at-append vs = grind (arith, index_of-among_first)
 
   -- what is still to be visited ends before it
   pub to_visit-append : (vs : List (Held K)) → to_visit_at visit (us ++ vs) ≡ to_visit_at visit us
-  to_visit-append vs =
-      let keys : List (Held K) → List K = map (λ u. u.pair) in
-      let long = length-map us (λ u. u.pair) in
-      ap₂ (λ b ks. take visit.unvisited (drop b ks)) (bookmark_at-append vs) (map-append (λ (u : Held K). u.pair) us vs)
-      ∙ stretch-front (keys us) (keys vs) (bookmark_at visit.bookmark us) visit.unvisited (omega (arith, long, k.in_reach))
+  to_visit-append vs = grind (arith, length-map, bookmark_at-append, map-append, stretch-front)
 
-  pub IsKept-append : IsEquivalence eq → (u : Held K) → u.hash ≡ hash u.pair
-      → list_any (eq u.pair) (map (λ t. t.pair) us) ≡ false → length us < capacity
-      → IsKept eq hash (us ++ u ∷ []) capacity visit
+  pub IsKept-append : IsEquivalence eq → (u : Held K) → u.hash ≡ hash u.pair → list_any (eq u.pair) (map (λ t. t.pair) us) ≡ false
+      → length us < capacity → IsKept eq hash (us ++ u ∷ []) capacity visit
   IsKept-append laws u hashed absent room =
-      let long = length-append us (u ∷ []) in let bookmark_stands = bookmark_at-append (u ∷ []) in
-      record {
-        distinct = subst (IsDistinct eq) (sym (map-append (λ (t : Held K). t.pair) us (u ∷ [])))
-            (IsDistinct-push laws (map (λ t. t.pair) us) u.pair k.distinct absent);
-        hashed = AllByRecursion-append (λ (t : Held K). t.hash ≡ hash t.pair) us (u ∷ []) k.hashed (hashed, tt);
-        within = omega (arith, long, room);
-        limit = k.limit;
-        bookmarked = k.bookmarked;
-        ended = k.ended;
-        in_reach = omega (arith, long, bookmark_stands, k.in_reach);
-        current_lies = lies-append visit.current us (u ∷ []) k.current_lies;
-      }
+      grind (arith, length-append, bookmark_at-append, map-append, IsDistinct-push, AllByRecursion-append, lies-append)
 
 -- a node was put at the back
 module _ {K V : Type 0} (hs : List (Held (K × V))) {ks : List (Held (K × V))} (u : Held (K × V))
@@ -81,8 +58,7 @@ module _ {K V : Type 0} (hs : List (Held (K × V))) {ks : List (Held (K × V))} 
         ∙ to_visit-append kept (bare_node u ∷ []) ∙ to_visit-bare visit hs
 
     pub current_at-push : current_at visit.current (bare ks) ≡ current_at visit.current (bare hs)
-    current_at-push = ap (current_at visit.current) bare-push
-        ∙ current_at-append visit.current (bare hs) (bare_node u ∷ []) kept.current_lies
+    current_at-push = grind (arith, bare-push, current_at-append)
 
     pub IsKept-push : IsEquivalence eq → u.hash ≡ hash u.pair.0 → find eq (pairs_of hs) u.pair.0 ≡ None
         → length hs < capacity → {n : ℕ} → n ≡ capacity → IsKept eq hash (bare ks) n visit

@@ -36,28 +36,20 @@ module _ {K V : Type 0} (hs ks : List (Held (K × V))) (p : Ptr) (lies : index_o
   pushed moved pair there = pairs-moved hs _ moved ∙ ap (λ o. remove (pairs_of hs) (index_of p hs) ++ option_to_list o) there
 
   at_end : index_of p ks + 1 ≡ length hs → index_of p ks ≡ length (remove (pairs_of hs) (index_of p hs))
-  at_end last =
-      let long = length-pairs_of hs in
-      let fewer = length-remove (pairs_of hs) (index_of p hs) (omega (arith, long, lies)) in
-      omega (arith, long, fewer, last)
+  at_end last = grind (arith, length-pairs_of, length-remove)
 
   at_by : (mode : Mode) → IsTouched mode p hs ks → IsAt ks p (index_of p ks)
-  at_by Touch moved = let long = length-moved hs _ moved.0 in IsAt-index_of p ks (omega (arith, long, moved.1))
-  at_by Keep same = subst (λ (ns : List (Held (K × V))). IsAt ns p (index_of p ns)) (sym same) (IsAt-index_of p hs lies)
+  at_by mode moved = grind (arith, length-moved, IsAt-index_of)
 
   length_by : (mode : Mode) → IsTouched mode p hs ks → length ks ≡ length hs
-  length_by Touch moved = length-moved hs _ moved.0
-  length_by Keep same = ap length same
+  length_by mode moved = grind (arith, length-moved)
 
-  slice_get_by : (mode : Mode) → IsTouched mode p hs ks → (pair : K × V)
-      → slice_get (pairs_of hs) (index_of p hs) ≡ Some pair
+  slice_get_by : (mode : Mode) → IsTouched mode p hs ks → (pair : K × V) → slice_get (pairs_of hs) (index_of p hs) ≡ Some pair
       → slice_get (pairs_of ks) (index_of p ks) ≡ Some pair
   slice_get_by Touch moved pair there =
       slice_get-pushed (remove (pairs_of hs) (index_of p hs)) (pairs_of ks) pair (index_of p ks)
       (pushed moved.0 pair there) (at_end moved.1)
-  slice_get_by Keep same pair there =
-      subst (λ (ns : List (Held (K × V))). slice_get (pairs_of ns) (index_of p ns) ≡ Some pair)
-      (sym same) there
+  slice_get_by Keep same pair there = grind arith
 
 -- ks are the nodes hs once the one at p, which is among them, is moved by a mode
 pub record IsTouchedAt {K V : Type 0} (p : Ptr) (mode : Mode) (hs ks : List (Held (K × V))) : Type 0 where
@@ -87,8 +79,7 @@ module _ {K V : Type 0} {p : Ptr} {mode : Mode} {hs ks : List (Held (K × V))}
       ap (option_map (λ pair. pair.1)) (here ∙ sym (slice_get-touched _ here)) ∙ part-at ks _ touched_at (λ pair. pair.1) at
 
   pub length-put : (w : V) → length (pairs_of (change_at p (revalued w) ks)) ≡ length (pairs_of hs)
-  length-put w = length-pairs_of _ ∙ length-same _ ks (bare-change p w ks)
-      ∙ length_by hs ks p moved.lies mode moved.touched ∙ sym (length-pairs_of hs)
+  length-put w = grind (arith, length-pairs_of, length-same, bare-change, length_by)
 
   module _ (alone : WritesOnly ks p) (w : V) where
     set-touched : pairs_of (change_at p (revalued w) ks) ≡ set_value_at (pairs_of ks) (index_of p ks) w
@@ -96,8 +87,7 @@ module _ {K V : Type 0} {p : Ptr} {mode : Mode} {hs ks : List (Held (K × V))}
 
     -- the pair has the value that is written
     pub pair-touched : (pair : K × V) → slice_get (pairs_of hs) (index_of p hs) ≡ Some pair
-        → slice_get (pairs_of (change_at p (revalued w) ks))
-        (index_of p (change_at p (revalued w) ks)) ≡ Some (pair.0, w)
+        → slice_get (pairs_of (change_at p (revalued w) ks)) (index_of p (change_at p (revalued w) ks)) ≡ Some (pair.0, w)
     pair-touched pair there =
         let ls = change_at p (revalued w) ks in
         ap (slice_get (pairs_of ls)) (sym (index_of-bare p ls) ∙ ap (index_of p) (bare-change p w ks) ∙ index_of-bare p ks)
@@ -157,11 +147,7 @@ module _ {K V : Type 0} {eq : K → K → Bool} (laws : IsEquivalence eq) {hash 
         ∙ ap (to_visit_at visit) (bare-change p w ks) ∙ to_visit-bare visit ks ∙ to_visit-touched moved
 
     pub elsewhere-put : (w : V) → IsElsewhere (index_of p (change_at p (revalued w) ks)) visit (bare (change_at p (revalued w) ks))
-    elsewhere-put w =
-        let ls = change_at p (revalued w) ks in
-        subst (λ k. IsElsewhere k visit (bare ls)) (index_of-bare p ls)
-        (subst (λ us. IsElsewhere (index_of p us) visit us) (sym (bare-change p w ks))
-        (subst (λ k. IsElsewhere k visit (bare ks)) (sym (index_of-bare p ks)) (elsewhere-touched moved)))
+    elsewhere-put w = grind (arith, index_of-bare, bare-change, elsewhere-touched)
 
 -- with nothing to visit, and no current pair
 pub IsKept-put : {K V : Type 0} {eq : K → K → Bool} → IsEquivalence eq → {hash : K → ℕ} {p : Ptr}

@@ -1,5 +1,5 @@
 -- A node whose key is replaced by one that is the same.
-use Rattle.std.proofs.Common.{◌≡◌, ℕ, ◌+◌, Bool, cond, IsTrue, List, [], ◌∷◌, ◌++◌, map, length, take, drop, slice_get}
+use Rattle.std.proofs.Common.{◌≡◌, ℕ, ◌+◌, Bool, cond, IsTrue, List, [], ◌∷◌, ◌++◌, map, length, slice_get}
 use Rattle.std.proofs.Common.{Option, Some, None, length-append, refl, sym, ap, ◌∙◌, subst, arith}
 use Rattle.std.specs.Prelude.{slice_set}
 use Rattle.std.specs.Cmp.{IsEquivalence}
@@ -8,9 +8,8 @@ use Rattle.std.specs.Map.{keys_of}
 use Rattle.std.proofs.Math.Seq.{set-append_seam}
 use Rattle.std.proofs.lemmas.List.{map-append, map-set}
 use denote.RawPtr.{Ptr}
-use Rattle.linked_hash_map.specs.Nodes.{VisitState, Lies, bookmark_at, current_at, cursor_at, IsKept}
+use Rattle.linked_hash_map.specs.Nodes.{VisitState, Lies, bookmark_at, current_at, cursor_at, IsKept, pairs_of, bare, bare_node}
 use Rattle.linked_hash_map.proofs.nodes.Kept.{no_visit}
-use Rattle.linked_hash_map.specs.Nodes.{pairs_of, bare, bare_node}
 use Rattle.lhm_ring.specs.Positions.{index_of}
 use Rattle.linked_hash_map.specs.Pairs.{set_key}
 use Rattle.linked_hash_map.proofs.lists.Distinct.{AllByRecursion-replaced, IsDistinct-replaced}
@@ -38,16 +37,13 @@ module _ {K : Type 0} (front : List (Held K)) (u : Held K) (back : List (Held K)
   length-renewed = length-append front (record u { pair = k } ∷ back) ∙ sym (length-append front (u ∷ back))
 
   bookmark_at-renewed : (o : Option Ptr) → bookmark_at o renewed ≡ bookmark_at o (front ++ u ∷ back)
-  bookmark_at-renewed None = refl
-  bookmark_at-renewed (Some p) = index_of-renewed p
+  bookmark_at-renewed o = grind (arith, index_of-renewed)
 
   current_at-renewed : (o : Option Ptr) → current_at o renewed ≡ current_at o (front ++ u ∷ back)
-  current_at-renewed None = refl
-  current_at-renewed (Some p) = index_of-renewed p
+  current_at-renewed o = grind (arith, index_of-renewed)
 
   Lies-renewed : (o : Option Ptr) → Lies o (front ++ u ∷ back) → Lies o renewed
-  Lies-renewed None lies = tt
-  Lies-renewed (Some p) lies = let at = index_of-renewed p in let long = length-renewed in omega (arith, at, long, lies)
+  Lies-renewed o lies = grind (arith, index_of-renewed, length-renewed)
 
   module _ {eq : K → K → Bool} (laws : IsEquivalence eq) {hash : K → ℕ} {capacity : ℕ} {visit : VisitState}
       (kept : IsKept eq hash (front ++ u ∷ back) capacity visit) (same : IsTrue (eq k u.pair))
@@ -97,12 +93,7 @@ module _ {K V : Type 0} {hs ks : List (Held (K × V))} {p : Ptr} (h : IsHeld hs 
       ∙ ap (λ cursor. cursor.current) (cursor_at-rekeyed (record no_visit { current = Some q })) ∙ index_of-bare q hs
 
   pub pairs_of-rekeyed : pairs_of ks ≡ slice_set (pairs_of hs) (length h.before) (k, h.node.pair.1)
-  pairs_of-rekeyed =
-      let new : K × V = (k, h.node.pair.1) in
-      subst (λ i. pairs_of ks ≡ slice_set (pairs_of hs) i new) (length-pairs_of h.before)
-      (ap pairs_of rekeyed_is ∙ pairs_of-append h.before (rekeyed k h.node ∷ h.after)
-      ∙ sym (ap (λ ps. slice_set ps (length (pairs_of h.before)) new) (pairs_of-held h)
-      ∙ set-append_seam (pairs_of h.before) h.node.pair (pairs_of h.after) new))
+  pairs_of-rekeyed = grind (arith, length-pairs_of, rekeyed_is, pairs_of-append, pairs_of-held, set-append_seam)
 
   pub slice_get-rekeyed : slice_get (pairs_of ks) (length h.before) ≡ Some (k, h.node.pair.1)
   slice_get-rekeyed = slice_get-held (record {
@@ -114,23 +105,16 @@ module _ {K V : Type 0} {hs ks : List (Held (K × V))} {p : Ptr} (h : IsHeld hs 
   })
 
   -- the keys to visit stay, if the node is none of theirs
-  pub to_visit-rekeyed : (visit : VisitState) → IsElsewhere (length h.before) visit (bare hs)
-      → to_visit_of visit ks ≡ to_visit_of visit hs
-  to_visit-rekeyed visit elsewhere =
-      let same = ap (λ c. c.bookmark) (cursor_at-rekeyed visit) in
-      let keys = ap keys_of pairs_of-rekeyed ∙ map-set (λ pair. pair.0) (pairs_of hs) (length h.before) (k, h.node.pair.1) in
-      ap (λ b. take visit.unvisited (drop b (keys_of (pairs_of ks)))) same
-      ∙ ap (λ js. take visit.unvisited (drop (bookmark_at visit.bookmark (bare hs)) js)) keys
-      ∙ stretch-set (keys_of (pairs_of hs)) (length h.before) (bookmark_at visit.bookmark (bare hs)) visit.unvisited k elsewhere
+  pub to_visit-rekeyed : (visit : VisitState) → IsElsewhere (length h.before) visit (bare hs) → to_visit_of visit ks ≡ to_visit_of visit hs
+  to_visit-rekeyed visit elsewhere = grind (arith, cursor_at-rekeyed, pairs_of-rekeyed, map-set, stretch-set)
 
   module _ {eq : K → K → Bool} (laws : IsEquivalence eq) (same : IsTrue (eq k h.node.pair.0)) where
     pub set_key-rekeyed : IsDistinct eq (keys_of (pairs_of hs)) → pairs_of ks ≡ set_key eq (pairs_of hs) k
     set_key-rekeyed distinct = pairs_of-rekeyed
         ∙ sym (set_key_by_index laws k (pairs_of hs) (length h.before) h.node.pair distinct (slice_get-held h) same)
 
-    pub IsKept-rekeyed : {hash : K → ℕ} {capacity n : ℕ} {visit : VisitState}
-        → IsKept eq hash (bare hs) capacity visit → hash k ≡ hash h.node.pair.0 → n ≡ capacity
-        → IsKept eq hash (bare ks) n visit
+    pub IsKept-rekeyed : {hash : K → ℕ} {capacity n : ℕ} {visit : VisitState} → IsKept eq hash (bare hs) capacity visit
+        → hash k ≡ hash h.node.pair.0 → n ≡ capacity → IsKept eq hash (bare ks) n visit
     IsKept-rekeyed {hash} {capacity} {n} {visit} kept same_hash capacity_is =
         subst (λ m. IsKept eq hash (bare ks) m visit) (sym capacity_is)
         (subst (λ us. IsKept eq hash us capacity visit) (sym bare_new)

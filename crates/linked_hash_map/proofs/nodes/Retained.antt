@@ -1,13 +1,13 @@
 -- The map once a closure has gone over its pairs and kept some.
-use Rattle.std.proofs.Common.{◌≡◌, ℕ, ◌≤◌, inl, inr, Bool, true, false, cond, List, [], ◌∷◌, map, length, refl, sym, ap, ◌∙◌, subst, arith}
+use Rattle.std.proofs.Common.{◌≡◌, ℕ, ◌≤◌, inl, inr, Bool, false, cond, List, [], ◌∷◌, map, length, refl, sym, ap, subst, arith}
 use Rattle.std.specs.List.{IsDistinct, AllByRecursion}
 use Rattle.std.specs.Map.{keys_of}
 use Rattle.std.specs.Map.Calls.{RetainsPairs}
-use Rattle.linked_hash_map.specs.Nodes.{VisitState, pairs_of, bare, bare_node, IsKept}
+use Rattle.linked_hash_map.specs.Nodes.{VisitState, pairs_of, bare, IsKept}
 use Rattle.linked_hash_map.proofs.nodes.Kept.{no_visit}
 use Rattle.linked_hash_map.specs.Retains.{IsSublist}
 use Rattle.linked_hash_map.proofs.nodes.HeldPairs.{keys-bare, length-bare, length-pairs_of}
-use Rattle.lhm_ring.specs.Ring.{Held, revalued}
+use Rattle.lhm_ring.specs.Ring.{Held}
 use Rattle.lhm_ring.specs.Table.{RetainsHeld}
 
 -- what holds of a list holds of some of its elements
@@ -48,63 +48,33 @@ module _ {F K V : Type 0} (T : F → K → V → Bool → V → F → Type 0) wh
 
   pub first-retained : (f : F) (pair : K × V) (pairs kept : List (K × V))
       → RetainsPairs T f (pair ∷ pairs) kept → RetainsFirst f pair pairs kept
-  first-retained f pair pairs kept (returned, value, closure, rest, called, retained, kept_is) =
-      record {
-        returned = returned;
-        value = value;
-        closure = closure;
-        rest = rest;
-        called = called;
-        retained = retained;
-        kept_is = kept_is;
-      }
+  first-retained f pair pairs kept h = grind arith
 
 -- the nodes that a closure keeps, except their values, and the pairs in them
 module _ {F K V : Type 0} (T : F → K → V → Bool → V → F → Type 0) where
   pub bare-retained : (f : F) (hs ks : List (Held (K × V))) → RetainsHeld T f hs ks → IsSublist (bare ks) (bare hs)
   bare-retained f [] ks r = ap bare r
-  bare-retained f (t ∷ hs) ks r =
-      let rest = bare-retained r.closure hs r.rest r.retained in
-      (elim r.returned as (λ b. ks ≡ cond b (revalued r.value t ∷ r.rest) r.rest → IsSublist (bare ks) (bare_node t ∷ bare hs)) [
-        | true ↦ λ is. inr (bare r.rest, ap bare is, rest)
-        | false ↦ λ is. inl (subst (λ (l : List (Held (K × V))). IsSublist (bare l) (bare hs)) (sym is) rest)
-      ]) r.kept_is
+  bare-retained f (t ∷ hs) ks r = grind (arith, bare-retained r.closure hs r.rest r.retained)
 
   pairs-cond : (b : Bool) (t : Held (K × V)) (ks : List (Held (K × V)))
       → pairs_of (cond b (t ∷ ks) ks) ≡ cond b (t.pair ∷ pairs_of ks) (pairs_of ks)
-  pairs-cond true t ks = refl
-  pairs-cond false t ks = refl
+  pairs-cond b t ks = grind arith
 
   pub pairs-retained : (f : F) (hs ks : List (Held (K × V))) → RetainsHeld T f hs ks → RetainsPairs T f (pairs_of hs) (pairs_of ks)
   pairs-retained f [] ks r = ap pairs_of r
-  pairs-retained f (t ∷ hs) ks r = (
-    r.returned,
-    r.value,
-    r.closure,
-    pairs_of r.rest,
-    r.called,
-    pairs-retained r.closure hs r.rest r.retained,
-    ap pairs_of r.kept_is ∙ pairs-cond r.returned (revalued r.value t) r.rest,
-  )
+  pairs-retained f (t ∷ hs) ks r = grind (arith, pairs-cond, pairs-retained r.closure hs r.rest r.retained)
 
 -- the keys and the number of the pairs in some of the nodes
 module _ {K V : Type 0} (hs ks : List (Held (K × V))) (some : IsSublist (bare ks) (bare hs)) where
   pub keys-some : IsSublist (keys_of (pairs_of ks)) (keys_of (pairs_of hs))
-  keys-some = subst (λ (l : List K). IsSublist l (keys_of (pairs_of hs))) (keys-bare ks)
-      (subst (IsSublist (map (λ (u : Held K). u.pair) (bare ks))) (keys-bare hs)
-      (map-sublist (λ (u : Held K). u.pair) (bare ks) (bare hs) some))
+  keys-some = grind (arith, keys-bare, map-sublist)
 
   pub length-some : length (pairs_of ks) ≤ length (pairs_of hs)
-  length-some =
-      let few = length-sublist (bare ks) (bare hs) some in let of_ks = length-bare ks in
-      let of_hs = length-bare hs in let as_many = length-pairs_of ks in
-      let as_many_hs = length-pairs_of hs in
-      omega (arith, few, of_ks, of_hs, as_many, as_many_hs)
+  length-some = grind (arith, length-sublist, length-bare, length-pairs_of)
 
 -- some of the nodes are kept as all were, if nothing is to be visited
-pub IsKept-some : {K : Type 0} {eq : K → K → Bool} {hash : K → ℕ} {us ws : List (Held K)} {capacity n : ℕ}
-    {visit : VisitState} → IsKept eq hash us capacity visit → IsSublist ws us → n ≡ capacity
-    → IsKept eq hash ws n no_visit
+pub IsKept-some : {K : Type 0} {eq : K → K → Bool} {hash : K → ℕ} {us ws : List (Held K)} {capacity n : ℕ} {visit : VisitState}
+    → IsKept eq hash us capacity visit → IsSublist ws us → n ≡ capacity → IsKept eq hash ws n no_visit
 IsKept-some {K} {eq} {hash} {us} {ws} kept some same =
     let few = length-sublist ws us some in
     record {

@@ -1,5 +1,5 @@
 -- The first nodes, moved behind the others.
-use Rattle.std.proofs.Common.{◌≡◌, ℕ, Bool, List, ◌++◌, length, None, take, drop, refl, sym, ap, ap₂, ◌∙◌, subst, arith, length-append}
+use Rattle.std.proofs.Common.{◌≡◌, ℕ, Bool, List, ◌++◌, length, None, take, drop, refl, sym, ap, subst, arith, length-append}
 use Rattle.std.specs.List.Sorted.{IsPermutation}
 use Rattle.std.specs.Cmp.{IsEquivalence}
 use Rattle.std.proofs.lemmas.List.{take-append-drop, take-map, drop-map}
@@ -14,9 +14,7 @@ use Rattle.lhm_ring.specs.Ring.{Held}
 -- hs are the nodes before, and ks those where the first are behind the others
 module _ {K V : Type 0} (count : ℕ) (hs ks : List (Held (K × V))) (is : ks ≡ drop count hs ++ take count hs) where
   pub pairs-rotated : pairs_of ks ≡ drop count (pairs_of hs) ++ take count (pairs_of hs)
-  pairs-rotated = ap pairs_of is ∙ pairs_of-append (drop count hs) (take count hs)
-      ∙ ap₂ (λ ps qs. ps ++ qs) (sym (drop-map (λ (t : Held (K × V)). t.pair) count hs))
-      (sym (take-map (λ (t : Held (K × V)). t.pair) count hs))
+  pairs-rotated = grind (arith, pairs_of-append, drop-map, take-map)
 
   pub length-rotated : length (pairs_of ks) ≡ length (pairs_of hs)
   length-rotated =

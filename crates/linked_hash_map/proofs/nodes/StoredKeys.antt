@@ -1,6 +1,6 @@
 -- A key that a lookup finds: what looks it up finds what the stored key finds.
 use Rattle.std.proofs.Common.{◌≡◌, ℕ, ◌+◌, ◌-◌, Bool, cond, not, filter, map, List, [], ◌∷◌, ◌++◌, length, Option, Some, None}
-use Rattle.std.proofs.Common.{option_map, IsTrue, slice_get, length-append, refl, sym, ap, ap₂, ◌∙◌, subst, arith}
+use Rattle.std.proofs.Common.{option_map, IsTrue, slice_get, length-append, refl, sym, ap, ◌∙◌, subst, arith}
 use Rattle.std.specs.Cmp.{IsEquivalence}
 use Rattle.std.specs.List.{IsDistinct}
 use Rattle.std.specs.Map.{keys_of, lookup_entry}
@@ -10,7 +10,7 @@ use Rattle.linked_hash_map.specs.Cursor.{without_cursor}
 use Rattle.linked_hash_map.specs.Indexes.{IsIndex, set_value_at}
 use Rattle.linked_hash_map.specs.LinkedMap.{LinkedMap}
 use Rattle.linked_hash_map.specs.Nodes.{pairs_of}
-use Rattle.linked_hash_map.specs.Pairs.{key_or, with_value, value_at, without, to_back, last}
+use Rattle.linked_hash_map.specs.Pairs.{with_value, without, to_back, last}
 use Rattle.linked_hash_map.specs.Updates.{UpdatesBy}
 use Rattle.linked_hash_map.specs.Validity.{IsValid}
 use Rattle.linked_hash_map.proofs.Callers.Keys.{length-to_back_present, length-without_present}
@@ -24,10 +24,8 @@ use Rattle.lhm_ring.proofs.tables.Positions.{IsAt-index_of, remove-at}
 use Rattle.lhm_ring.specs.Ring.{Held, AtHeld}
 use Rattle.lhm_ring.specs.Search.{HasKey}
 
-with_value-found : {K V : Type 0} (as_key : Option K) (pair : K × V) (v : V)
-    → with_value as_key (Some pair) v ≡ (pair.0, v) ∷ []
-with_value-found None pair v = refl
-with_value-found (Some k) pair v = refl
+with_value-found : {K V : Type 0} (as_key : Option K) (pair : K × V) (v : V) → with_value as_key (Some pair) v ≡ (pair.0, v) ∷ []
+with_value-found as_key pair v = grind arith
 
 last-pushed : {X : Type 0} (xs : List X) (x : X) → last (xs ++ x ∷ []) ≡ Some x
 last-pushed xs x =
@@ -42,9 +40,7 @@ module _ {K V : Type 0} {eq : K → K → Bool} (laws : IsEquivalence eq) {is_ke
 
   -- it is the test that the stored key makes
   pub eq-stored : eq stored ≡ is_key
-  eq-stored =
-      let at = h.held in
-      λ i y. sym (respects stored y (h.key_is at.before at.node at.after at.is at.at_is)) i
+  eq-stored = grind arith
 
   pub HasKey-stored : HasKey (eq stored) hash hs p
   HasKey-stored = subst (λ (test : K → Bool). HasKey test hash hs p) (sym eq-stored) h
@@ -69,8 +65,7 @@ module _ {K V : Type 0} {eq : K → K → Bool} (laws : IsEquivalence eq) {is_ke
           ∙ sym (without-index laws distinct (IsIndex-index_of HasKey-stored))
 
       pub without-stored : pairs_of ws ≡ filter (λ pair. not (is_key pair.0)) (pairs_of hs)
-      without-stored = is_without
-          ∙ ap (λ (test : K → Bool). filter (λ pair. not (test pair.0)) (pairs_of hs)) eq-stored
+      without-stored = grind (arith, is_without, eq-stored)
 
       pub UpdatesBy-without : UpdatesBy eq (pairs_of hs) (pairs_of ws) is_key None
       UpdatesBy-without =
@@ -102,15 +97,10 @@ module _ {K V : Type 0} {eq : K → K → Bool} (laws : IsEquivalence eq) {is_ke
           ++ with_value as_key (lookup_entry is_key (pairs_of hs)) v
 
       moved-pushed : moved ≡ without eq (pairs_of hs) stored ++ (stored, v) ∷ []
-      moved-pushed =
-          sym (ap₂ (λ (test : K → Bool) found. filter (λ pair. not (test pair.0)) (pairs_of hs)
-          ++ with_value as_key found v) eq-stored (sym find-stored))
-          ∙ ap (λ ps. without eq (pairs_of hs) stored ++ ps) (with_value-found as_key h.held.node.pair v)
+      moved-pushed = grind (arith, eq-stored, find-stored, with_value-found)
 
       pub to_back_by-stored : moved ≡ to_back eq (pairs_of hs) stored v
-      to_back_by-stored = moved-pushed
-          ∙ ap (λ found. without eq (pairs_of hs) stored ++ (key_or stored found, v) ∷ [])
-          (sym (find-index laws distinct IsIndex-stored (slice_get-held h.held)))
+      to_back_by-stored = grind (arith, moved-pushed, find-index, IsIndex-stored, slice_get-held)
 
       pub UpdatesBy-to_back_by : UpdatesBy eq (pairs_of hs) moved is_key (Some v)
       UpdatesBy-to_back_by =
@@ -118,8 +108,7 @@ module _ {K V : Type 0} {eq : K → K → Bool} (laws : IsEquivalence eq) {is_ke
           (Updates-put laws Touch (pairs_of hs) moved stored v to_back_by-stored)
 
       pub last-to_back_by : last moved ≡ option_map (λ pair. (pair.0, v)) (lookup_entry is_key (pairs_of hs))
-      last-to_back_by = ap last moved-pushed ∙ last-pushed (without eq (pairs_of hs) stored) (stored, v)
-          ∙ sym (ap (option_map (λ pair. (pair.0, v))) find-stored)
+      last-to_back_by = grind (arith, moved-pushed, last-pushed, find-stored)
 
       pub length-to_back_by : length moved ≡ length (pairs_of hs)
       length-to_back_by = ap length to_back_by-stored
@@ -127,22 +116,9 @@ module _ {K V : Type 0} {eq : K → K → Bool} (laws : IsEquivalence eq) {is_ke
 
       pub IsValid-refreshed : {S : Type 0} {m : LinkedMap K V S} → IsValid eq m
           → m.pairs ≡ pairs_of hs → IsValid eq (record (without_cursor m) { pairs = moved })
-      IsValid-refreshed valid same =
-          let long = length-to_back_by in let before = ap length same in let within = valid.within in
-          record {
-            distinct = subst (λ ps. IsDistinct eq (keys_of ps)) (sym to_back_by-stored)
-                (distinct-to_back laws (pairs_of hs) stored v distinct);
-            within = omega arith;
-            limit = valid.limit;
-            reach = omega arith;
-          }
+      IsValid-refreshed valid same = grind (arith, length-to_back_by, to_back_by-stored, distinct-to_back)
 
 -- a call that finds no key and changes no pair
-pub UpdatesBy-absent : {K V : Type 0} {eq : K → K → Bool} {before after : List (K × V)}
-    {is_key : K → Bool} → after ≡ before → lookup_entry is_key before ≡ None
-    → UpdatesBy eq before after is_key None
-UpdatesBy-absent {eq = eq} {is_key = is_key} same absent = record {
-  here = ap (λ pairs. option_map (λ pair. pair.1) (lookup_entry is_key pairs)) same
-      ∙ ap (option_map (λ pair. pair.1)) absent;
-  others = λ q apart. ap (λ pairs. value_at eq pairs q) same;
-}
+pub UpdatesBy-absent : {K V : Type 0} {eq : K → K → Bool} {before after : List (K × V)} {is_key : K → Bool} → after ≡ before
+    → lookup_entry is_key before ≡ None → UpdatesBy eq before after is_key None
+UpdatesBy-absent same absent = grind arith

@@ -1,7 +1,6 @@
 -- Calls on a list of pairs.
-use Rattle.std.proofs.Common.{◌≡◌, suc, ◌+◌, Bool, true, false, cond, not, ◌||◌, List, [], ◌∷◌}
-use Rattle.std.proofs.Common.{◌++◌, length, filter, Option, Some, None, is_some, option_map, refl}
-use Rattle.std.proofs.Common.{sym, ap, ap₂, ◌∙◌, true≢false, arith, length-append}
+use Rattle.std.proofs.Common.{◌≡◌, suc, ◌+◌, Bool, true, false, cond, not, ◌||◌, List, [], ◌∷◌, ◌++◌, length, filter, Some, None, is_some}
+use Rattle.std.proofs.Common.{refl, sym, ap, ap₂, ◌∙◌, true≢false, arith, length-append}
 use Rattle.std.proofs.lemmas.List.{length-map}
 use Rattle.std.specs.List.{list_any, IsDistinct}
 use Rattle.std.specs.Option.{IsSome}
@@ -9,7 +8,6 @@ use Rattle.std.specs.Map.{lookup_entry, keys_of}
 use Rattle.std.specs.Cmp.{IsEquivalence}
 use Rattle.std.proofs.lemmas.Map.Keys.{IsDistinct-head, IsDistinct-tail}
 use Rattle.linked_hash_map.specs.declared.map.Mode.{Mode}
-use Rattle.linked_hash_map.specs.declared.map.Mode.TheVariants.{Touch, Keep}
 use Rattle.linked_hash_map.specs.Pairs.{key_or, find, value_at, without, to_back, set_key, set_value, set_or_push, put}
 use Rattle.linked_hash_map.proofs.log.LiveKeys.{same_test, none_is}
 use Rattle.linked_hash_map.proofs.lists.Distinct.{none_from_all}
@@ -64,8 +62,7 @@ set_value-none eq (first ∷ pairs) k v h = by_test (set_value-none eq pairs k v
     by_test rest false h = ap (λ ps. first ∷ ps) (rest h)
 
 -- the pairs, with another key for one that is not there
-pub set_key-absent : {K V : Type 0} (eq : K → K → Bool) (pairs : List (K × V)) (k : K)
-    → find eq pairs k ≡ None → set_key eq pairs k ≡ pairs
+pub set_key-absent : {K V : Type 0} (eq : K → K → Bool) (pairs : List (K × V)) (k : K) → find eq pairs k ≡ None → set_key eq pairs k ≡ pairs
 set_key-absent eq [] k h = refl
 set_key-absent eq (first ∷ pairs) k h = by_test (set_key-absent eq pairs k) (eq k first.0) h
   where
@@ -78,11 +75,7 @@ set_key-absent eq (first ∷ pairs) k h = by_test (set_key-absent eq pairs k) (e
 -- a key has a pair exactly if it has a value
 pub is_some-value_at : {A K V : Type 0} (eq : A → K → Bool) (pairs : List (K × V)) (k : A)
     → is_some (value_at eq pairs k) ≡ is_some (find eq pairs k)
-is_some-value_at {K = K} {V = V} eq pairs k = by_pair (find eq pairs k)
-  where
-    by_pair : (o : Option (K × V)) → is_some (option_map (λ pair. pair.1) o) ≡ is_some o
-    by_pair None = refl
-    by_pair (Some pair) = refl
+is_some-value_at eq pairs k = grind arith
 
 -- a key that has no value has no pair
 pub find-none : {A K V : Type 0} (eq : A → K → Bool) (pairs : List (K × V)) (k : A) → value_at eq pairs k ≡ None → find eq pairs k ≡ None
@@ -94,18 +87,15 @@ pub without-absent : {A K V : Type 0} (eq : A → K → Bool) (pairs : List (K �
 without-absent eq pairs k none = filter-none (eq k) pairs none
 
 module _ {K V : Type 0} (eq : K → K → Bool) where
-  pub to_back-absent : (pairs : List (K × V)) (k : K) (v : V) → find eq pairs k ≡ None
-      → to_back eq pairs k v ≡ pairs ++ (k, v) ∷ []
+  pub to_back-absent : (pairs : List (K × V)) (k : K) (v : V) → find eq pairs k ≡ None → to_back eq pairs k v ≡ pairs ++ (k, v) ∷ []
   to_back-absent pairs k v none = ap₂ (λ ps o. ps ++ (key_or k o, v) ∷ []) (without-absent eq pairs k none) none
 
-  pub set_or_push-absent : (pairs : List (K × V)) (k : K) (v : V) → find eq pairs k ≡ None
-      → set_or_push eq pairs k v ≡ pairs ++ (k, v) ∷ []
+  pub set_or_push-absent : (pairs : List (K × V)) (k : K) (v : V) → find eq pairs k ≡ None → set_or_push eq pairs k v ≡ pairs ++ (k, v) ∷ []
   set_or_push-absent pairs k v none = ap (λ o. cond (is_some o) (set_value eq pairs k v) (pairs ++ (k, v) ∷ [])) none
 
   pub put-absent : (mode : Mode) (pairs : List (K × V)) (k : K) (v : V) → find eq pairs k ≡ None
       → put eq mode pairs k v ≡ pairs ++ (k, v) ∷ []
-  put-absent Touch pairs k v none = to_back-absent pairs k v none
-  put-absent Keep pairs k v none = set_or_push-absent pairs k v none
+  put-absent mode pairs k v none = grind (arith, to_back-absent, set_or_push-absent)
 
   -- and with one that is present
   pub set_or_push-present : (pairs : List (K × V)) (k : K) (v : V) → IsSome (find eq pairs k)
@@ -113,19 +103,13 @@ module _ {K V : Type 0} (eq : K → K → Bool) where
   set_or_push-present pairs k v there = ap (λ b. cond b (set_value eq pairs k v) (pairs ++ (k, v) ∷ [])) there
 
   -- a value that is set changes not how many there are
-  pub length-set_value : (pairs : List (K × V)) (k : K) (v : V)
-      → length (set_value eq pairs k v) ≡ length pairs
+  pub length-set_value : (pairs : List (K × V)) (k : K) (v : V) → length (set_value eq pairs k v) ≡ length pairs
   length-set_value pairs k v = length-map pairs (λ pair. cond (eq k pair.0) (pair.0, v) pair)
 
   -- one more pair, unless the key has one
   pub length-set_or_push : (pairs : List (K × V)) (k : K) (v : V)
-      → length (set_or_push eq pairs k v)
-      ≡ cond (is_some (find eq pairs k)) (length pairs) (length pairs + 1)
-  length-set_or_push pairs k v = by_test (is_some (find eq pairs k))
-    where
-      by_test : (b : Bool) → length (cond b (set_value eq pairs k v) (pairs ++ (k, v) ∷ [])) ≡ cond b (length pairs) (length pairs + 1)
-      by_test true = length-set_value pairs k v
-      by_test false = length-append pairs ((k, v) ∷ [])
+      → length (set_or_push eq pairs k v) ≡ cond (is_some (find eq pairs k)) (length pairs) (length pairs + 1)
+  length-set_or_push pairs k v = grind (arith, length-set_value, length-append)
 
 module _ {K V : Type 0} {eq : K → K → Bool} (laws : IsEquivalence eq) where
   -- the pairs except that of a key, one fewer if the key has a pair
@@ -152,23 +136,10 @@ module _ {K V : Type 0} {eq : K → K → Bool} (laws : IsEquivalence eq) where
 
   -- one more pair, unless the key has one
   pub length-to_back : (pairs : List (K × V)) (k : K) (v : V) → IsDistinct eq (keys_of pairs)
-      → length (to_back eq pairs k v)
-      ≡ cond (is_some (find eq pairs k)) (length pairs) (length pairs + 1)
-  length-to_back pairs k v distinct =
-      by_test (is_some (find eq pairs k)) (length-without pairs k distinct)
-    where
-      more : length (to_back eq pairs k v) ≡ length (without eq pairs k) + 1
-      more = let appended = length-append (without eq pairs k) ((key_or k (find eq pairs k), v) ∷ []) in omega arith
-
-      by_test : (b : Bool) → length (without eq pairs k) + cond b 1 0 ≡ length pairs
-          → length (to_back eq pairs k v) ≡ cond b (length pairs) (length pairs + 1)
-      by_test true h = let m = more in omega arith
-      by_test false h = let m = more in omega arith
+      → length (to_back eq pairs k v) ≡ cond (is_some (find eq pairs k)) (length pairs) (length pairs + 1)
+  length-to_back pairs k v distinct = grind (arith, length-without, length-append)
 
   -- and so in either mode
-  pub length-put : (mode : Mode) (pairs : List (K × V)) (k : K) (v : V)
-      → IsDistinct eq (keys_of pairs)
-      → length (put eq mode pairs k v)
-      ≡ cond (is_some (find eq pairs k)) (length pairs) (length pairs + 1)
-  length-put Touch pairs k v distinct = length-to_back pairs k v distinct
-  length-put Keep pairs k v distinct = length-set_or_push eq pairs k v
+  pub length-put : (mode : Mode) (pairs : List (K × V)) (k : K) (v : V) → IsDistinct eq (keys_of pairs)
+      → length (put eq mode pairs k v) ≡ cond (is_some (find eq pairs k)) (length pairs) (length pairs + 1)
+  length-put mode pairs k v distinct = grind (arith, length-to_back, length-set_or_push)

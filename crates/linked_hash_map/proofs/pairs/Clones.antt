@@ -22,8 +22,7 @@ use Rattle.lhm_ring.specs.Ring.{IsTripleClone}
 
 -- triples of a hash and a pair, and clones of them: their pairs
 module _ {K V : Type 0} (IsKeyClone : K → K → Type 0) (IsValueClone : V → V → Type 0) where
-  pub AreClones-of : (ts us : List (ℕ × (K × V)))
-      → AllZip (IsTripleClone IsKeyClone IsValueClone) ts us
+  pub AreClones-of : (ts us : List (ℕ × (K × V))) → AllZip (IsTripleClone IsKeyClone IsValueClone) ts us
       → AreClones IsKeyClone IsValueClone (map (λ t. t.1) ts) (map (λ u. u.1) us)
   AreClones-of [] [] all = tt
   AreClones-of [] (u ∷ us) all = absurd all
@@ -45,8 +44,7 @@ length-insert_each : {K V : Type 0} (eq : K → K → Bool) (pairs items : List 
 length-insert_each eq pairs [] = omega arith
 length-insert_each eq pairs (item ∷ items) =
     let one = length-put_most eq Touch pairs item.0 item.1 in
-    let rest = length-insert_each eq (to_back eq pairs item.0 item.1) items in
-    omega arith
+    grind (arith, length-insert_each eq (to_back eq pairs item.0 item.1) items)
 
 -- clones of the first pairs of a map m are inserted into a map n with room for all, and the others
 -- are to come
@@ -67,10 +65,8 @@ pub record HasCloned {K V S : Type 0} (eq : K → K → Bool) (IsKeyClone : K �
 module _ {K V S : Type 0} {eq : K → K → Bool} {IsKeyClone : K → K → Type 0}
     {IsValueClone : V → V → Type 0} {IsHasherClone : S → S → Type 0} where
   -- at first all pairs are to come
-  pub HasCloned-none : {m n : LinkedMap K V S} {others : List (K × V)} → others ≡ m.pairs
-      → n.pairs ≡ [] → n.capacity ≡ length m.pairs → n.rechained ≡ 0
-      → IsHasherClone m.hasher n.hasher → n.mode ≡ Touch
-      → HasCloned eq IsKeyClone IsValueClone IsHasherClone m others n
+  pub HasCloned-none : {m n : LinkedMap K V S} {others : List (K × V)} → others ≡ m.pairs → n.pairs ≡ [] → n.capacity ≡ length m.pairs
+      → n.rechained ≡ 0 → IsHasherClone m.hasher n.hasher → n.mode ≡ Touch → HasCloned eq IsKeyClone IsValueClone IsHasherClone m others n
   HasCloned-none {n = n} all empty room uncounted of_hasher touch =
       record {
         first = [];
@@ -87,14 +83,11 @@ module _ {K V S : Type 0} {eq : K → K → Bool} {IsKeyClone : K → K → Type
 
   -- one more clone is inserted; there are then no more pairs than are cloned
   pub HasCloned-put : {m before after : LinkedMap K V S} {these others : List (K × V)}
-      → HasCloned eq IsKeyClone IsValueClone IsHasherClone m these before → {pair : K × V}
-      → these ≡ pair ∷ others → {k : K} {v : V} → IsKeyClone pair.0 k → IsValueClone pair.1 v
-      → after.pairs ≡ put eq before.mode before.pairs k v
+      → HasCloned eq IsKeyClone IsValueClone IsHasherClone m these before → {pair : K × V} → these ≡ pair ∷ others → {k : K} {v : V}
+      → IsKeyClone pair.0 k → IsValueClone pair.1 v → after.pairs ≡ put eq before.mode before.pairs k v
       → after.capacity ≡ max before.capacity (length after.pairs)
-      → after.rechained
-      ≡ rechained_raised before.rechained (length before.pairs) before.capacity after.capacity
-      → KeepsSettings before after → (old : Option V) → OnSome old (to_visit after ≡ [])
-      → IfNone old (to_visit after ≡ to_visit before)
+      → after.rechained ≡ rechained_raised before.rechained (length before.pairs) before.capacity after.capacity
+      → KeepsSettings before after → (old : Option V) → OnSome old (to_visit after ≡ []) → IfNone old (to_visit after ≡ to_visit before)
       → HasCloned eq IsKeyClone IsValueClone IsHasherClone m others after
   HasCloned-put {m} {before} {after} {these} {others} so_far {pair} next {k} {v} of_key of_value
       went_in raised counted same old ends stands =
@@ -131,19 +124,12 @@ module _ {K V : Type 0} {eq : K → K → Bool} (laws : IsEquivalence eq) {IsKey
     (IsValueClone : V → V → Type 0)
     (same : (k clone : K) → IsKeyClone k clone → IsTrue (eq k clone)) where
   -- a clone of a key differs from the clones of those that differ from the key
-  apart : (k key : K) → eq k key ≡ true → (pairs clones : List (K × V))
-      → AreClones IsKeyClone IsValueClone pairs clones
-      → AllByRecursion (λ y. eq k y ≡ false) (keys_of pairs)
-      → AllByRecursion (λ y. eq key y ≡ false) (keys_of clones)
+  apart : (k key : K) → eq k key ≡ true → (pairs clones : List (K × V)) → AreClones IsKeyClone IsValueClone pairs clones
+      → AllByRecursion (λ y. eq k y ≡ false) (keys_of pairs) → AllByRecursion (λ y. eq key y ≡ false) (keys_of clones)
   apart k key is [] [] each differ = tt
   apart k key is [] (clone ∷ clones) each differ = absurd each
   apart k key is (pair ∷ pairs) [] each differ = absurd each
-  apart k key is (pair ∷ pairs) (clone ∷ clones) each differ = (
-    sym (laws.congr k key clone.0 is) ∙ laws.symm k clone.0
-        ∙ sym (laws.congr pair.0 clone.0 k (same pair.0 clone.0 each.0.0)) ∙ laws.symm pair.0 k
-        ∙ differ.0,
-    apart k key is pairs clones each.1 differ.1,
-  )
+  apart k key is (pair ∷ pairs) (clone ∷ clones) each differ = grind (arith, apart k key is pairs clones each.1 differ.1)
 
   clones_differ : (pairs clones : List (K × V)) → AreClones IsKeyClone IsValueClone pairs clones
       → IsDistinct eq (keys_of pairs) → IsDistinct eq (keys_of clones)
@@ -151,19 +137,15 @@ module _ {K V : Type 0} {eq : K → K → Bool} (laws : IsEquivalence eq) {IsKey
   clones_differ [] [] each distinct = tt
   clones_differ [] (clone ∷ clones) each distinct = absurd each
   clones_differ (pair ∷ pairs) [] each distinct = absurd each
-  clones_differ (pair ∷ pairs) (clone ∷ clones) each distinct = (
-    apart pair.0 clone.0 (same pair.0 clone.0 each.0.0) pairs clones each.1 distinct.0,
-    clones_differ pairs clones each.1 distinct.1,
-  )
+  clones_differ (pair ∷ pairs) (clone ∷ clones) each distinct = grind (arith, apart, clones_differ pairs clones each.1 distinct.1)
 
 module _ {K V S : Type 0} {eq : K → K → Bool} (laws : IsEquivalence eq)
     {IsKeyClone : K → K → Type 0} {IsValueClone : V → V → Type 0}
     {IsHasherClone : S → S → Type 0} where
   -- with clones of all pairs inserted, it is a clone
-  pub IsClone-all : {m n : LinkedMap K V S} {others : List (K × V)}
-      → IsDistinct eq (keys_of m.pairs) → {left : LinkedMap K V S} → IsValid eq left
-      → HasCloned eq IsKeyClone IsValueClone IsHasherClone m others n → others ≡ []
-      → left ≡ record n { mode = m.mode } → IsClone eq IsKeyClone IsValueClone IsHasherClone m left
+  pub IsClone-all : {m n : LinkedMap K V S} {others : List (K × V)} → IsDistinct eq (keys_of m.pairs) → {left : LinkedMap K V S}
+      → IsValid eq left → HasCloned eq IsKeyClone IsValueClone IsHasherClone m others n → others ≡ [] → left ≡ record n { mode = m.mode }
+      → IsClone eq IsKeyClone IsValueClone IsHasherClone m left
   IsClone-all {m} {n} distinct {left} valid all none set =
       let whole : all.first ≡ m.pairs = sym (append-nil all.first) ∙ ap (λ es. all.first ++ es) (sym none) ∙ all.split in
       let each = subst (λ es. AreClones IsKeyClone IsValueClone es all.clones) whole all.each in

@@ -1,5 +1,5 @@
 -- The value of the first pair, or of the last, is set.
-use Rattle.std.proofs.Common.{◌≡◌, ℕ, ◌-◌, Bool, List, [], ◌∷◌, ◌++◌, length, take, slice_get, Option, Some, None}
+use Rattle.std.proofs.Common.{◌≡◌, ℕ, ◌-◌, Bool, List, [], ◌∷◌, ◌++◌, length, take, slice_get, Some}
 use Rattle.std.proofs.Common.{IfSome, option_to_list, option_map, refl, sym, ap, ◌∙◌, subst, arith}
 use Rattle.std.specs.List.{IsDistinct}
 use Rattle.std.specs.Map.{keys_of}
@@ -15,8 +15,7 @@ use Rattle.linked_hash_map.proofs.pairs.Indexes.{keys_of-set_value_at, set_value
 
 module _ {K V : Type 0} where
   pub set_value_at-first : (pairs : List (K × V)) (v : V) → set_value_at pairs 0 v ≡ set_first pairs v
-  set_value_at-first [] v = refl
-  set_value_at-first (pair ∷ pairs) v = refl
+  set_value_at-first pairs v = grind arith
 
   set_value_at-length : (pair : K × V) (pairs : List (K × V)) (v : V) → set_value_at (pair ∷ pairs) (length pairs) v
       ≡ take (length pairs) (pair ∷ pairs) ++ option_to_list (option_map (λ p. (p.0, v)) (slice_get (pair ∷ pairs) (length pairs)))
@@ -39,15 +38,7 @@ module _ {K V : Type 0} where
 -- a map with other values is valid
 module _ {K V S : Type 0} {eq : K → K → Bool} {m : LinkedMap K V S} (valid : IsValid eq m) where
   IsValid-keys : (pairs : List (K × V)) → keys_of pairs ≡ keys_of m.pairs → IsValid eq (record m { pairs = pairs })
-  IsValid-keys pairs same =
-      let long = ap length same in let of_new = length-map pairs (λ pair. pair.0) in
-      let of_old = length-map m.pairs (λ pair. pair.0) in
-      record {
-        distinct = subst (IsDistinct eq) (sym same) valid.distinct;
-        within = omega (arith, long, of_new, of_old, valid.within);
-        limit = valid.limit;
-        reach = omega (arith, long, of_new, of_old, valid.reach);
-      }
+  IsValid-keys pairs same = grind (arith, length-map)
 
   pub IsValid-set_first : (v : V) → IsValid eq (record m { pairs = set_first m.pairs v })
   IsValid-set_first v = IsValid-keys (set_first m.pairs v) (keys_of-set_first m.pairs v)
@@ -66,15 +57,7 @@ module _ {K V : Type 0} {eq : K → K → Bool} (laws : IsEquivalence eq) (pairs
       (sym is ∙ sym (set_value-index laws distinct index v))
 
   pub Updates-set_first : IfSome (first pairs) (λ pair. Updates eq pairs (set_first pairs v) pair.0 (Some v))
-  Updates-set_first = by_pair (first pairs) refl
-    where
-      by_pair : (o : Option (K × V)) → first pairs ≡ o → IfSome o (λ pair. Updates eq pairs (set_first pairs v) pair.0 (Some v))
-      by_pair None is = tt
-      by_pair (Some pair) is = Updates-at 0 (set_first pairs v) pair is (set_value_at-first pairs v)
+  Updates-set_first = grind (arith, Updates-at, set_value_at-first)
 
   pub Updates-set_last : IfSome (last pairs) (λ pair. Updates eq pairs (set_last pairs v) pair.0 (Some v))
-  Updates-set_last = by_pair (last pairs) refl
-    where
-      by_pair : (o : Option (K × V)) → last pairs ≡ o → IfSome o (λ pair. Updates eq pairs (set_last pairs v) pair.0 (Some v))
-      by_pair None is = tt
-      by_pair (Some pair) is = Updates-at (length pairs - 1) (set_last pairs v) pair is (set_value_at-last pairs v)
+  Updates-set_last = grind (arith, Updates-at, set_value_at-last)

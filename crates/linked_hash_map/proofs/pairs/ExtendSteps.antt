@@ -1,6 +1,6 @@
 -- What `extend` and `extend_refs` have inserted, one step after another.
-use Rattle.std.proofs.Common.{◌≡◌, ◌+◌, ◌-◌, ◌<◌, ◌≤◌, ◌⊎◌, ℕ, Bool, List, [], ◌∷◌, ◌++◌, length, max, map, Option, Some, None}
-use Rattle.std.proofs.Common.{OnSome, IfNone, IsSome, inl, inr, take, drop, refl, sym, ap, ◌∙◌, subst, arith, length-append}
+use Rattle.std.proofs.Common.{◌≡◌, ◌+◌, ◌-◌, ◌≤◌, ℕ, Bool, List, [], ◌∷◌, ◌++◌, length, max, map, Option, Some, None}
+use Rattle.std.proofs.Common.{OnSome, IfNone, IsSome, sym, subst, arith, length-append}
 use Rattle.std.proofs.Math.Nat.{eq-or-lt_of_le}
 use Rattle.std.proofs.Math.Seq.{drop-nil, take-nil}
 use Rattle.std.specs.List.{IsDistinct}
@@ -40,32 +40,17 @@ pub record VisitAfterPut {K V S : Type 0} (before after : LinkedMap K V S) (foun
   pub more : found ≡ None → length after.pairs ≡ length before.pairs + 1
 
 -- one more insertion, of a present key or of a new one
-LeavesVisit-put : {K V S : Type 0} {n : ℕ} {old before after : LinkedMap K V S}
-    → LeavesVisit n old before → length before.pairs ≤ length old.pairs + n → (value found : Option V)
-    → value ≡ found → OnSome value (to_visit after ≡ []) → IfNone value (to_visit after ≡ to_visit before)
-    → (IsSome found → length after.pairs ≡ length before.pairs)
+LeavesVisit-put : {K V S : Type 0} {n : ℕ} {old before after : LinkedMap K V S} → LeavesVisit n old before
+    → length before.pairs ≤ length old.pairs + n → (value found : Option V) → value ≡ found → OnSome value (to_visit after ≡ [])
+    → IfNone value (to_visit after ≡ to_visit before) → (IsSome found → length after.pairs ≡ length before.pairs)
     → (found ≡ None → length after.pairs ≡ length before.pairs + 1) → LeavesVisit (n + 1) old after
-LeavesVisit-put visit most (Some v) found is ends stands as_many more =
-    let long = as_many (subst IsSome is refl) in
-    record { stands = λ longer. absurd (omega (arith, most, long, longer)); ended = λ shorter. ends }
-LeavesVisit-put visit most None found is ends stands as_many more =
-    let long = more (sym is) in
-    record {
-      stands = λ longer. stands ∙ visit.stands (omega (arith, long, longer));
-      ended = λ shorter. stands ∙ visit.ended (omega (arith, long, shorter));
-    }
+LeavesVisit-put visit most value found is ends stands as_many more = grind (arith, most)
 
 module _ {I X K V S : Type 0} {eq : K → K → Bool} (laws : IsEquivalence eq) {shows : X → K × V}
     {remaining : I → Count} {old : LinkedMap K V S} {start : I} where
   -- none came yet
   pub IsExtended-none : IsValid eq old → IsFinite (remaining start) → IsExtended eq shows remaining old start start [] old
-  IsExtended-none valid finite =
-      record {
-        inserted = HasInserted-none laws old valid;
-        valid = valid;
-        bound = record { finite = finite; fewer = omega arith };
-        visit = record { stands = λ longer. refl; ended = λ shorter. absurd (omega (arith, shorter)) };
-      }
+  IsExtended-none valid finite = grind (arith, HasInserted-none)
 
   -- one more comes
   module _ {came : List X} {item : X} {can : I → Type 0} {now later : I} {before : LinkedMap K V S}
@@ -74,10 +59,7 @@ module _ {I X K V S : Type 0} {eq : K → K → Bool} (laws : IsEquivalence eq) 
       (goes : MakesProgress can remaining now (Some item) later) where
     -- as many pairs as came, at most, are new
     most : length before.pairs ≤ length old.pairs + length came
-    most =
-        let shown = length-map came shows in
-        let longest = length-insert_each_most laws old.mode old.pairs (map shows came) distinct in
-        omega (arith, shown, longest, ap length so_far.inserted.pairs)
+    most = grind (arith, length-map, length-insert_each_most)
 
     pub IsExtended-put : {after : LinkedMap K V S} → HasPut eq (shows item).0 (shows item).1 before after → IsValid eq after
         → VisitAfterPut before after (value_at eq before.pairs (shows item).0)
@@ -95,16 +77,12 @@ module _ {I X K V S : Type 0} {eq : K → K → Bool} (laws : IsEquivalence eq) 
 
     -- the key of an item that is refused was absent at the start
     pub find-IsExtended_absent : find eq before.pairs (shows item).0 ≡ None → find eq old.pairs (shows item).0 ≡ None
-    find-IsExtended_absent absent =
-        find-insert_each_absent laws old.mode old.pairs (map shows came) (shows item).0
-        (ap (λ pairs. find eq pairs (shows item).0) (sym so_far.inserted.pairs) ∙ absent)
+    find-IsExtended_absent absent = grind (arith, find-insert_each_absent)
 
     -- a map with room for all items is not full as one comes
     pub room-IsExtended : (n : ℕ) → size (remaining start) ≤ n
         → length before.pairs ≡ before.capacity → length old.pairs + n ≤ old.capacity → ⊥
-    room-IsExtended n given full fits =
-        let step = goes.on so_far.bound.finite in
-        omega (arith, given, step.2, so_far.bound.fewer, most, so_far.inserted.capacity, full, fits)
+    room-IsExtended n given full fits = grind (arith, most)
 
     -- up to an item that is refused, with what is left to be visited
     pub InsertsUntil-IsExtended : {T : Type 0} {becomes : T → I → Type 0}
@@ -114,13 +92,7 @@ module _ {I X K V S : Type 0} {eq : K → K → Bool} (laws : IsEquivalence eq) 
         → (inserts : InsertsUntil becomes steps source eq shows old.mode old.pairs after.pairs key value)
         × LeavesVisit (length inserts.given) old after
     InsertsUntil-IsExtended made gives unchanged key value = (
-      record {
-        given = came;
-        item = item;
-        gives = record { iterator = start; left = later; made = made; gives = gives };
-        shown = λ i. (sym key i, sym value i);
-        pairs = ap (λ m. m.pairs) unchanged ∙ so_far.inserted.pairs;
-      },
+      grind arith,
       subst (LeavesVisit (length came) old) (sym unchanged) so_far.visit,
     )
 
@@ -132,46 +104,19 @@ pub ExtendsWith-shown : {X K V S : Type 0} {eq : K → K → Bool} {old new : Li
     → new.rechained ≡ rechained_each old.rechained old.capacity (new.capacity - old.capacity)
     → KeepsSettings old new
     → LeavesVisit (length items) old new → IsValid eq new → ExtendsWith eq old shown new
-ExtendsWith-shown {eq = eq} {old} {new} shows items are pairs capacity rechained settings visit valid =
-    subst (λ shown. ExtendsWith eq old shown new) are (record {
-      pairs = pairs;
-      capacity = capacity;
-      rechained = rechained;
-      settings = settings;
-      visit = subst (λ n. LeavesVisit n old new) (sym (length-map items shows)) visit;
-      valid = valid;
-    })
+ExtendsWith-shown shows items are pairs capacity rechained settings visit valid = grind (arith, length-map)
 
 -- a map without pairs has none to visit
 pub to_visit-none : {K V S : Type 0} (m : LinkedMap K V S) → m.pairs ≡ [] → to_visit m ≡ []
-to_visit-none m none =
-    ap (λ pairs. take m.cursor.unvisited (drop m.cursor.bookmark (keys_of pairs))) none
-    ∙ ap (take m.cursor.unvisited) (drop-nil m.cursor.bookmark) ∙ take-nil m.cursor.unvisited
+to_visit-none m none = grind (arith, drop-nil, take-nil)
 
 -- and neither has it once items went in
 pub to_visit-LeavesVisit : {K V S : Type 0} {old new : LinkedMap K V S} {n : ℕ} → old.pairs ≡ []
     → length new.pairs ≤ length old.pairs + n → LeavesVisit n old new → to_visit new ≡ []
-to_visit-LeavesVisit {old = old} {new} {n} none most visit = by_length (eq-or-lt_of_le most)
-  where
-    by_length : (length new.pairs ≡ length old.pairs + n) ⊎ (length new.pairs < length old.pairs + n) → to_visit new ≡ []
-    by_length (inl longer) = visit.stands longer ∙ to_visit-none old none
-    by_length (inr shorter) = visit.ended shorter
+to_visit-LeavesVisit none most visit = grind (arith, most, eq-or-lt_of_le, to_visit-none)
 
 -- the items went into a new map
 pub CollectsInto-ExtendsWith : {K V S : Type 0} {eq : K → K → Bool} {IsDefault : S → Type 0} → IsEquivalence eq
     → {old new : LinkedMap K V S} {items : List (K × V)} → IsNewDefault eq IsDefault old
     → ExtendsWith eq old items new → CollectsInto eq IsDefault items new
-CollectsInto-ExtendsWith {eq = eq} {IsDefault} laws {old} {new} {items} empty into =
-    let none = empty.is_new.capacity in
-    let raised : new.capacity - 0 ≡ new.capacity = omega arith in
-    let longest = length-insert_each_most laws old.mode old.pairs items empty.is_new.valid.distinct in
-    record {
-      pairs = into.pairs ∙ (λ i. insert_each eq (empty.is_new.mode i) (empty.is_new.pairs i) items);
-      capacity = omega (arith, into.capacity, none);
-      rechained = into.rechained
-          ∙ (λ i. rechained_each (empty.is_new.rechained i) (none i) (new.capacity - none i)) ∙ ap (rechained_each 0 0) raised;
-      hasher = subst IsDefault (sym into.settings.hasher) empty.hasher;
-      mode = into.settings.mode ∙ empty.is_new.mode;
-      visit = to_visit-LeavesVisit empty.is_new.pairs (omega (arith, longest, ap length into.pairs)) into.visit;
-      valid = into.valid;
-    }
+CollectsInto-ExtendsWith laws empty into = grind (arith, length-insert_each_most, to_visit-LeavesVisit)

@@ -1,7 +1,6 @@
 -- Calls by key on a list of pairs with different keys, at the index of the key.
-use Rattle.std.proofs.Common.{◌≡◌, ℕ, zero, suc, ◌<◌, Bool, true, false, cond, not, List}
-use Rattle.std.proofs.Common.{[], ◌∷◌, ◌++◌, length, remove, slice_get, Some, None, is_some}
-use Rattle.std.proofs.Common.{option_to_list, option_map, refl, sym, ap, ap₂, ◌∙◌, subst, true≢false, arith}
+use Rattle.std.proofs.Common.{◌≡◌, ℕ, zero, suc, ◌<◌, Bool, true, false, cond, not, List, [], ◌∷◌, ◌++◌, length, remove, slice_get, Some}
+use Rattle.std.proofs.Common.{None, is_some, option_to_list, option_map, refl, sym, ap, ap₂, ◌∙◌, subst, true≢false, arith}
 use Rattle.std.specs.Prelude.{slice_set}
 use Rattle.std.specs.List.{list_any, IsDistinct, AllByRecursion}
 use Rattle.std.specs.Map.{keys_of, lookup_entry}
@@ -30,8 +29,7 @@ module _ {K V : Type 0} where
   slice_get-pair_at (pair ∷ pairs) zero within = refl
   slice_get-pair_at (pair ∷ pairs) (suc index) within = slice_get-pair_at pairs index (le_of_suc-le-suc within)
 
-  pub slice_get-set_value_at : (pairs : List (K × V)) (index : ℕ) (v : V) (pair : K × V)
-      → slice_get pairs index ≡ Some pair
+  pub slice_get-set_value_at : (pairs : List (K × V)) (index : ℕ) (v : V) (pair : K × V) → slice_get pairs index ≡ Some pair
       → slice_get (set_value_at pairs index v) index ≡ Some (pair.0, v)
   slice_get-set_value_at [] index v pair there = absurd (true≢false (sym (ap is_some there)))
   slice_get-set_value_at (first ∷ pairs) zero v pair there = ap (λ p. Some (p.0, v)) (Some-injective _ _ there)
@@ -41,9 +39,7 @@ module _ {K V : Type 0} where
   pub is_some-at : (eq : K → K → Bool) (pairs : List (K × V)) (index : ℕ) (k : K) (pair : K × V)
       → slice_get pairs index ≡ Some pair → eq k pair.0 ≡ true → is_some (find eq pairs k) ≡ true
   is_some-at eq [] index k pair there same = absurd (true≢false (sym (ap is_some there)))
-  is_some-at eq (first ∷ pairs) zero k pair there same =
-      ap (λ b. is_some (cond b (Some first) (find eq pairs k)))
-      (ap (λ p. eq k p.0) (Some-injective _ _ there) ∙ same)
+  is_some-at eq (first ∷ pairs) zero k pair there same = grind (arith, Some-injective)
   is_some-at eq (first ∷ pairs) (suc index) k pair there same = by_test (is_some-at eq pairs index k pair there same) (eq k first.0)
     where
       by_test : is_some (find eq pairs k) ≡ true → (b : Bool) → is_some (cond b (Some first) (find eq pairs k)) ≡ true
@@ -71,9 +67,8 @@ module _ {K V : Type 0} {eq : K → K → Bool} (laws : IsEquivalence eq) (k : K
       (IsDistinct-head eq first.0 (keys_of pairs) distinct))
 
   -- if a later pair is that of the key, the first is not
-  pub first_differs : (first : K × V) (pairs : List (K × V)) (i : ℕ) (pair : K × V)
-      → IsDistinct eq (keys_of (first ∷ pairs)) → slice_get pairs i ≡ Some pair → eq k pair.0 ≡ true
-      → eq k first.0 ≡ false
+  pub first_differs : (first : K × V) (pairs : List (K × V)) (i : ℕ) (pair : K × V) → IsDistinct eq (keys_of (first ∷ pairs))
+      → slice_get pairs i ≡ Some pair → eq k pair.0 ≡ true → eq k first.0 ≡ false
   first_differs first pairs i pair distinct there same =
       laws.congr k pair.0 first.0 same ∙ laws.symm pair.0 first.0
       ∙ all_at (λ y. eq first.0 y ≡ false) pairs i pair there (IsDistinct-head eq first.0 (keys_of pairs) distinct)
@@ -81,13 +76,9 @@ module _ {K V : Type 0} {eq : K → K → Bool} (laws : IsEquivalence eq) (k : K
   find_at : (pairs : List (K × V)) (i : ℕ) (pair : K × V) → IsDistinct eq (keys_of pairs)
       → slice_get pairs i ≡ Some pair → eq k pair.0 ≡ true → find eq pairs k ≡ Some pair
   find_at [] i pair distinct there same = absurd (true≢false (sym (ap is_some there)))
-  find_at (first ∷ pairs) zero pair distinct there same =
-      let first_is : first ≡ pair = cc in
-      let passes : eq k first.0 ≡ true = ap (λ p. eq k p.0) first_is ∙ same in
-      ap (λ b. cond b (Some first) (find eq pairs k)) passes ∙ ap Some first_is
+  find_at (first ∷ pairs) zero pair distinct there same = grind arith
   find_at (first ∷ pairs) (suc i) pair distinct there same =
-      ap (λ b. cond b (Some first) (find eq pairs k)) (first_differs first pairs i pair distinct there same)
-      ∙ find_at pairs i pair (IsDistinct-tail eq first.0 (keys_of pairs) distinct) there same
+      grind (arith, first_differs, IsDistinct-tail, find_at pairs i pair (IsDistinct-tail eq first.0 (keys_of pairs) distinct) there same)
 
   pub without_at : (pairs : List (K × V)) (i : ℕ) (pair : K × V) → IsDistinct eq (keys_of pairs)
       → slice_get pairs i ≡ Some pair → eq k pair.0 ≡ true → without eq pairs k ≡ remove pairs i
@@ -101,27 +92,18 @@ module _ {K V : Type 0} {eq : K → K → Bool} (laws : IsEquivalence eq) (k : K
       ap (λ b. cond (not b) (first ∷ without eq pairs k) (without eq pairs k)) (first_differs first pairs i pair distinct there same)
       ∙ ap (λ ps. first ∷ ps) (without_at pairs i pair (IsDistinct-tail eq first.0 (keys_of pairs) distinct) there same)
 
-  set_value_by_index : (pairs : List (K × V)) (i : ℕ) (pair : K × V) (v : V)
-      → IsDistinct eq (keys_of pairs) → slice_get pairs i ≡ Some pair → eq k pair.0 ≡ true
-      → set_value eq pairs k v ≡ set_value_at pairs i v
+  set_value_by_index : (pairs : List (K × V)) (i : ℕ) (pair : K × V) (v : V) → IsDistinct eq (keys_of pairs) → slice_get pairs i ≡ Some pair
+      → eq k pair.0 ≡ true → set_value eq pairs k v ≡ set_value_at pairs i v
   set_value_by_index [] i pair v distinct there same = absurd (true≢false (sym (ap is_some there)))
-  set_value_by_index (first ∷ pairs) zero pair v distinct there same =
-      let first_is : first ≡ pair = cc in
-      let passes : eq k first.0 ≡ true = ap (λ p. eq k p.0) first_is ∙ same in
-      ap₂ (λ b ps. cond b (first.0, v) first ∷ ps) passes (set_value-none eq pairs k v (others_differ first pairs distinct passes))
+  set_value_by_index (first ∷ pairs) zero pair v distinct there same = grind (arith, set_value-none, others_differ)
   set_value_by_index (first ∷ pairs) (suc i) pair v distinct there same =
       ap₂ (λ b ps. cond b (first.0, v) first ∷ ps) (first_differs first pairs i pair distinct there same)
       (set_value_by_index pairs i pair v (IsDistinct-tail eq first.0 (keys_of pairs) distinct) there same)
 
-  pub set_key_by_index : (pairs : List (K × V)) (i : ℕ) (pair : K × V)
-      → IsDistinct eq (keys_of pairs) → slice_get pairs i ≡ Some pair → eq k pair.0 ≡ true
-      → set_key eq pairs k ≡ slice_set pairs i (k, pair.1)
+  pub set_key_by_index : (pairs : List (K × V)) (i : ℕ) (pair : K × V) → IsDistinct eq (keys_of pairs) → slice_get pairs i ≡ Some pair
+      → eq k pair.0 ≡ true → set_key eq pairs k ≡ slice_set pairs i (k, pair.1)
   set_key_by_index [] i pair distinct there same = absurd (true≢false (sym (ap is_some there)))
-  set_key_by_index (first ∷ pairs) zero pair distinct there same =
-      let first_is : first ≡ pair = cc in
-      let passes : eq k first.0 ≡ true = ap (λ p. eq k p.0) first_is ∙ same in
-      ap₂ (λ b ps. (cond b k first.0, first.1) ∷ ps) passes (set_key-absent eq pairs k (others_differ first pairs distinct passes))
-      ∙ ap (λ (p : K × V). (k, p.1) ∷ pairs) first_is
+  set_key_by_index (first ∷ pairs) zero pair distinct there same = grind (arith, set_key-absent, others_differ)
   set_key_by_index (first ∷ pairs) (suc i) pair distinct there same =
       ap₂ (λ b ps. (cond b k first.0, first.1) ∷ ps) (first_differs first pairs i pair distinct there same)
       (set_key_by_index pairs i pair (IsDistinct-tail eq first.0 (keys_of pairs) distinct) there same)

@@ -1,6 +1,6 @@
 -- Insertions one after another.
-use Rattle.std.proofs.Common.{◌≡◌, ℕ, ◌+◌, ◌-◌, ◌≤◌, max, Bool, true, false, cond, not, filter, List, [], ◌∷◌, ◌++◌, length, Some}
-use Rattle.std.proofs.Common.{is_some, refl, sym, ap, ◌∙◌, subst, arith, length-append}
+use Rattle.std.proofs.Common.{◌≡◌, ℕ, ◌+◌, ◌-◌, ◌≤◌, max, Bool, true, false, cond, filter, List, [], ◌∷◌, ◌++◌, length, Some}
+use Rattle.std.proofs.Common.{refl, ap, ◌∙◌, subst, arith, length-append}
 use Rattle.std.specs.List.{IsDistinct}
 use Rattle.std.specs.Map.{keys_of}
 use Rattle.std.specs.Iterator.{Count, IsFinite, size, MakesProgress}
@@ -11,8 +11,8 @@ use Rattle.linked_hash_map.specs.LinkedMap.{LinkedMap}
 use Rattle.linked_hash_map.specs.Counts.{rechained_raised, rechained_each}
 use Rattle.linked_hash_map.specs.Log.{Put}
 use Rattle.linked_hash_map.specs.declared.map.Mode.{Mode}
-use Rattle.linked_hash_map.specs.declared.map.Mode.TheVariants.{Touch, Keep}
-use Rattle.linked_hash_map.specs.Pairs.{key_or, find, without, to_back, set_value, put}
+use Rattle.linked_hash_map.specs.declared.map.Mode.TheVariants.{Touch}
+use Rattle.linked_hash_map.specs.Pairs.{to_back, put}
 use Rattle.linked_hash_map.specs.Run.{first_log}
 use Rattle.linked_hash_map.specs.Inserts.{insert_each}
 use Rattle.linked_hash_map.specs.Validity.{IsValid}
@@ -34,21 +34,11 @@ length-filter test (x ∷ xs) = by_test (test x) (length-filter test xs)
 -- an insertion adds one pair at most
 pub length-put_most : {K V : Type 0} (eq : K → K → Bool) (mode : Mode) (pairs : List (K × V))
     (k : K) (v : V) → length (put eq mode pairs k v) ≤ length pairs + 1
-length-put_most eq Touch pairs k v =
-    let rest = length-filter (λ pair. not (eq k pair.0)) pairs in
-    let appended = length-append (without eq pairs k) ((key_or k (find eq pairs k), v) ∷ []) in
-    omega arith
-length-put_most eq Keep pairs k v = by_found (is_some (find eq pairs k))
-  where
-    by_found : (b : Bool) → length (cond b (set_value eq pairs k v) (pairs ++ (k, v) ∷ [])) ≤ length pairs + 1
-    by_found true = let same = length-map pairs (λ pair. cond (eq k pair.0) (pair.0, v) pair) in omega arith
-    by_found false = let longer = length-append pairs ((k, v) ∷ []) in omega arith
+length-put_most eq mode pairs k v = grind (arith, length-filter, length-append, length-map)
 
 -- one more item goes in last
-pub insert_each-last : {K V : Type 0} (eq : K → K → Bool) (mode : Mode) (pairs items : List (K × V))
-    (item : K × V)
-    → insert_each eq mode pairs (items ++ item ∷ [])
-    ≡ put eq mode (insert_each eq mode pairs items) item.0 item.1
+pub insert_each-last : {K V : Type 0} (eq : K → K → Bool) (mode : Mode) (pairs items : List (K × V)) (item : K × V)
+    → insert_each eq mode pairs (items ++ item ∷ []) ≡ put eq mode (insert_each eq mode pairs items) item.0 item.1
 insert_each-last eq mode pairs [] item = refl
 insert_each-last eq mode pairs (first ∷ items) item = insert_each-last eq mode (put eq mode pairs first.0 first.1) items item
 
@@ -73,15 +63,10 @@ pub record AreWithinBound {I : Type 0} (remaining : I → Count) (start now : I)
   pub finite : IsFinite (remaining now)
   pub fewer : came + size (remaining now) ≤ size (remaining start)
 
-pub AreWithinBound-next : {I X : Type 0} (can : I → Type 0) (remaining : I → Count)
-    {start now later : I} (came : List X) (item : X)
-    → AreWithinBound remaining start now (length came)
-    → MakesProgress can remaining now (Some item) later
+pub AreWithinBound-next : {I X : Type 0} (can : I → Type 0) (remaining : I → Count) {start now later : I} (came : List X) (item : X)
+    → AreWithinBound remaining start now (length came) → MakesProgress can remaining now (Some item) later
     → AreWithinBound remaining start later (length (came ++ item ∷ []))
-AreWithinBound-next can remaining came item bound goes =
-    let step = goes.on bound.finite in let longer = length-append came (item ∷ []) in
-    let fewer = bound.fewer in
-    record { finite = step.1; fewer = omega arith }
+AreWithinBound-next can remaining came item bound goes = grind (arith, length-append)
 
 module _ {K V : Type 0} {eq : K → K → Bool} (laws : IsEquivalence eq) where
   -- keys that differ still do after an insertion
@@ -104,56 +89,25 @@ module _ {K V : Type 0} {eq : K → K → Bool} (laws : IsEquivalence eq) where
   -- an insertion takes no pair away, nor do many
   pub length-grows : (m : Mode) (pairs : List (K × V)) (k : K) (v : V)
       → IsDistinct eq (keys_of pairs) → length pairs ≤ length (put eq m pairs k v)
-  length-grows m pairs k v distinct = by_test (is_some (find eq pairs k)) (length-put laws m pairs k v distinct)
-    where
-      by_test : (b : Bool) → length (put eq m pairs k v) ≡ cond b (length pairs) (length pairs + 1)
-          → length pairs ≤ length (put eq m pairs k v)
-      by_test true h = omega arith
-      by_test false h = omega arith
+  length-grows m pairs k v distinct = grind (arith, length-put)
 
   pub length-insert_each_least : (m : Mode) (pairs items : List (K × V))
       → IsDistinct eq (keys_of pairs) → length pairs ≤ length (insert_each eq m pairs items)
   length-insert_each_least m pairs [] distinct = omega arith
   length-insert_each_least m pairs (item ∷ items) distinct =
       let rest = length-insert_each_least m (put eq m pairs item.0 item.1) items (distinct-put m pairs item.0 item.1 distinct) in
-      let grows = length-grows m pairs item.0 item.1 distinct in
-      omega arith
+      grind (arith, length-grows)
 
   -- none went in yet
   pub HasInserted-none : {S : Type 0} (start : LinkedMap K V S) → IsValid eq start → HasInserted eq start [] start
-  HasInserted-none start valid =
-      let none : start.capacity - start.capacity ≡ 0 = omega arith in
-      record {
-        pairs = refl;
-        capacity = omega (arith, valid.within);
-        rechained = sym (ap (rechained_each start.rechained start.capacity) none);
-        settings = record { hasher = refl; mode = refl };
-      }
+  HasInserted-none start valid = grind arith
 
   -- one more insertion, after those of some items
   pub HasInserted-put : {S : Type 0} {start : LinkedMap K V S} {items : List (K × V)} (k : K)
       (v : V) {before after : LinkedMap K V S} → IsDistinct eq (keys_of start.pairs)
       → HasInserted eq start items before → HasPut eq k v before after → HasInserted eq start (items ++ (k, v) ∷ []) after
-  HasInserted-put {start = start} {items = items} k v {before} {after} distinct so_far put_one =
-      let pairs_are = put_one.pairs in let raised = put_one.capacity in let counted = put_one.rechained in
-      let distinct_before = subst (λ es. IsDistinct eq (keys_of es)) (sym so_far.pairs)
-      (distinct-insert_each start.mode start.pairs items distinct) in
-      let grows = length-grows before.mode before.pairs k v distinct_before in
-      let one : length after.pairs ≤ length before.pairs + 1 =
-      subst (λ es. length es ≤ length before.pairs + 1) (sym pairs_are)
-      (length-put_most eq before.mode before.pairs k v) in
-      let longer : length before.pairs ≤ length after.pairs = subst (λ es. length before.pairs ≤ length es) (sym pairs_are) grows in
-      let capacity_before = so_far.capacity in
-      record {
-        pairs = pairs_are ∙ (λ i. put eq (so_far.settings.mode i) (so_far.pairs i) k v)
-            ∙ sym (insert_each-last eq start.mode start.pairs items (k, v));
-        capacity = omega arith;
-        rechained = rechained_each-put start.rechained start.capacity (omega arith) so_far.rechained (omega arith) one raised counted;
-        settings = record {
-          hasher = put_one.settings.hasher ∙ so_far.settings.hasher;
-          mode = put_one.settings.mode ∙ so_far.settings.mode;
-        };
-      }
+  HasInserted-put k v distinct so_far put_one =
+      grind (arith, distinct-insert_each, length-grows, length-put_most, insert_each-last, rechained_each-put)
 
   -- pairs with keys that differ stay as they are inserted
   pub insert_each-distinct : (m : Mode) (pairs : List (K × V)) → IsDistinct eq (keys_of pairs) → insert_each eq m [] pairs ≡ pairs

@@ -1,5 +1,5 @@
 -- The pair that an occupied entry stands for.
-use Rattle.std.proofs.Common.{◌≡◌, ◌<◌, Bool, true, List, length, slice_get, Some, is_some, option_map, refl, sym, ap, ◌∙◌, subst}
+use Rattle.std.proofs.Common.{◌≡◌, ◌<◌, Bool, true, List, length, slice_get, Some, is_some, option_map, refl, sym, ap, ◌∙◌, subst, arith}
 use Rattle.std.proofs.Math.Bridge.{le_prop}
 use Rattle.std.proofs.lemmas.Option.{slice_get-map}
 use Rattle.std.specs.Cmp.{IsEquivalence}
@@ -26,8 +26,7 @@ module _ {K V S H : Type 0} {g : eq.Ghosts K} {h : hash.Ghosts K} {b : builder.G
   slice_get-occupied = slice_get-pair_at o.map.now.pairs o.map.now.cursor.current o.within
 
   pub slice_get-occupied_key : slice_get (keys_of o.map.now.pairs) o.map.now.cursor.current ≡ Some (occupied_key o)
-  slice_get-occupied_key = slice_get-map (λ pair. pair.0) o.map.now.pairs o.map.now.cursor.current
-      ∙ ap (option_map (λ pair. pair.0)) slice_get-occupied
+  slice_get-occupied_key = grind (arith, slice_get-map, slice_get-occupied)
 
   -- the pair at the index
   pub occupied_pair-is : (pair : K × V) → slice_get o.map.now.pairs o.map.now.cursor.current ≡ Some pair → pair ≡ occupied_pair o
@@ -37,8 +36,7 @@ module _ {K V S H : Type 0} {g : eq.Ghosts K} {h : hash.Ghosts K} {b : builder.G
       → (index : IsIndex eq ps k o.map.now.cursor.current) → index.pair ≡ occupied_pair o
   occupied_pair-index same index = occupied_pair-is index.pair (ap (λ ps. slice_get ps o.map.now.cursor.current) same ∙ index.there)
 
-  pub occupied_value-is : (v : V)
-      → option_map (λ pair. pair.1) (slice_get o.map.now.pairs o.map.now.cursor.current) ≡ Some v
+  pub occupied_value-is : (v : V) → option_map (λ pair. pair.1) (slice_get o.map.now.pairs o.map.now.cursor.current) ≡ Some v
       → v ≡ (occupied_pair o).1
   occupied_value-is v there = Some-injective _ _ (sym there ∙ ap (option_map (λ pair. pair.1)) slice_get-occupied)
 
@@ -46,16 +44,12 @@ module _ {K V S H : Type 0} {g : eq.Ghosts K} {h : hash.Ghosts K} {b : builder.G
   IsIndex-occupied laws = record { pair = occupied_pair o; there = slice_get-occupied; same = laws.refl (occupied_key o) }
 
   pub is_some-occupied : {eq : K → K → Bool} → IsEquivalence eq → is_some (find eq o.map.now.pairs (occupied_key o)) ≡ true
-  is_some-occupied {eq} laws = is_some-at eq o.map.now.pairs o.map.now.cursor.current
-      (occupied_key o) (occupied_pair o) slice_get-occupied (laws.refl (occupied_key o))
+  is_some-occupied laws = grind (arith, is_some-at, slice_get-occupied)
 
   -- once a value is written
   pub occupied_pair-written : (v : V) → occupied_pair (with_occupied_value o v) ≡ (occupied_key o, v)
   unfolding occupied_pair
-  occupied_pair-written v = Some-injective _ _
-      (sym (slice_get-pair_at (set_value_at o.map.now.pairs o.map.now.cursor.current v)
-      o.map.now.cursor.current (with_occupied_value o v).within) ∙ slice_get-set_value_at
-      o.map.now.pairs o.map.now.cursor.current v (occupied_pair o) slice_get-occupied)
+  occupied_pair-written v = grind (arith, Some-injective, slice_get-pair_at, slice_get-set_value_at, slice_get-occupied)
 
   pub with_occupied_value-is : (v : V) (within : o.map.now.cursor.current
       < length (set_value_at o.map.now.pairs o.map.now.cursor.current v))

@@ -1,7 +1,6 @@
 -- The pair of a key, put between the first pairs and the others, at the index of the key.
-use Rattle.std.proofs.Common.{◌≡◌, ℕ, zero, suc, ◌+◌, ◌-◌, ◌<◌, ◌≤◌, ⊎_elim, Bool, true, cond, not, List, [], ◌∷◌, ◌++◌}
-use Rattle.std.proofs.Common.{take, drop, remove, slice_get, Option, Some, None, is_some, option_to_list, refl, sym, ap}
-use Rattle.std.proofs.Common.{◌∙◌, subst, true≢false, arith}
+use Rattle.std.proofs.Common.{◌≡◌, ℕ, zero, suc, ◌+◌, ◌-◌, ◌<◌, ◌≤◌, ⊎_elim, Bool, true, cond, not, List, [], ◌∷◌, ◌++◌, take, drop, remove}
+use Rattle.std.proofs.Common.{slice_get, Option, Some, None, is_some, option_to_list, sym, ap, ◌∙◌, subst, true≢false, arith}
 use Rattle.std.specs.Prelude.{nat_lt}
 use Rattle.std.specs.List.{IsDistinct}
 use Rattle.std.specs.Map.{keys_of}
@@ -20,12 +19,10 @@ use Rattle.linked_hash_map.proofs.pairs.Indexes.{first_differs, others_differ, w
 
 -- what neither of two lists has
 first_none : {X : Type 0} (o p : Option X) → option_or o p ≡ None → o ≡ None
-first_none None p e = refl
-first_none (Some x) p e = absurd (true≢false (ap is_some e))
+first_none o p e = grind arith
 
 second_none : {X : Type 0} (o p : Option X) → option_or o p ≡ None → p ≡ None
-second_none None p e = e
-second_none (Some x) p e = absurd (true≢false (ap is_some e))
+second_none o p e = grind arith
 
 module _ {K V : Type 0} (eq : K → K → Bool) (k : K) (n : ℕ) (pairs : List (K × V)) (none : find eq pairs k ≡ None) where
   neither : option_or (find eq (take n pairs) k) (find eq (drop n pairs) k) ≡ None
@@ -81,9 +78,7 @@ module _ {K V : Type 0} {eq : K → K → Bool} (laws : IsEquivalence eq) (k : K
   count_before_at : (pairs : List (K × V)) (i : ℕ) (pair : K × V) → IsDistinct eq (keys_of pairs) → slice_get pairs i ≡ Some pair
       → eq k pair.0 ≡ true → count_before eq pairs k ≡ i
   count_before_at [] i pair distinct there same = absurd (true≢false (sym (ap is_some there)))
-  count_before_at (first ∷ pairs) zero pair distinct there same =
-      let first_is : first ≡ pair = cc in
-      ap (λ b. cond (not b) (1 + count_before eq pairs k) 0) (ap (λ p. eq k p.0) first_is ∙ same)
+  count_before_at (first ∷ pairs) zero pair distinct there same = grind arith
   count_before_at (first ∷ pairs) (suc i) pair distinct there same =
       let rest = count_before_at pairs i pair (IsDistinct-tail eq first.0 (keys_of pairs) distinct) there same in
       let one : 1 + count_before eq pairs k ≡ suc i = omega (arith, rest) in

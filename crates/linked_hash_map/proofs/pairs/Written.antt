@@ -1,7 +1,6 @@
 -- The pairs with a value written in that of a key.
-use Rattle.std.proofs.Common.{◌≡◌, Bool, true, false, cond, map, List, [], ◌∷◌, refl, sym, ap₂, subst, arith}
+use Rattle.std.proofs.Common.{◌≡◌, Bool, true, false, cond, map, List, [], ◌∷◌, refl, ap₂, arith}
 use Rattle.std.proofs.lemmas.List.{length-map}
-use Rattle.std.specs.List.{IsDistinct}
 use Rattle.std.specs.Map.{keys_of}
 use Rattle.linked_hash_map.specs.LinkedMap.{LinkedMap}
 use Rattle.linked_hash_map.specs.Validity.{IsValid}
@@ -10,23 +9,13 @@ use Rattle.linked_hash_map.specs.Validity.{IsValid}
 keys_of-written : {K V : Type 0} (is_key : K → Bool) (v : V) (pairs : List (K × V))
     → keys_of (map (λ pair. cond (is_key pair.0) (pair.0, v) pair) pairs) ≡ keys_of pairs
 keys_of-written is_key v [] = refl
-keys_of-written is_key v (pair ∷ pairs) =
-    ap₂ (λ j ks. j ∷ ks) (by_test (is_key pair.0)) (keys_of-written is_key v pairs)
+keys_of-written is_key v (pair ∷ pairs) = ap₂ (λ j ks. j ∷ ks) (by_test (is_key pair.0)) (keys_of-written is_key v pairs)
   where
     by_test : (b : Bool) → (cond b (pair.0, v) pair).0 ≡ pair.0
     by_test true = refl
     by_test false = refl
 
 -- so the map stays valid
-pub IsValid-set_value : {K V S : Type 0} {eq : K → K → Bool} {m : LinkedMap K V S} → IsValid eq m
-    → (is_key : K → Bool) (v : V)
+pub IsValid-set_value : {K V S : Type 0} {eq : K → K → Bool} {m : LinkedMap K V S} → IsValid eq m → (is_key : K → Bool) (v : V)
     → IsValid eq (record m { pairs = map (λ pair. cond (is_key pair.0) (pair.0, v) pair) m.pairs })
-IsValid-set_value {eq = eq} {m = m} valid is_key v =
-    let same = length-map m.pairs (λ pair. cond (is_key pair.0) (pair.0, v) pair) in
-    let within = valid.within in let reach = valid.reach in
-    record {
-      distinct = subst (IsDistinct eq) (sym (keys_of-written is_key v m.pairs)) valid.distinct;
-      within = omega arith;
-      limit = valid.limit;
-      reach = omega arith;
-    }
+IsValid-set_value valid is_key v = grind (arith, length-map, keys_of-written)

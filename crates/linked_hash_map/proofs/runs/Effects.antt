@@ -1,14 +1,13 @@
 -- What the map's calls return and leave, on a log that defines the map.
-use Rattle.std.proofs.Common.{◌≡◌, ℕ, zero, suc, ◌+◌, ◌-◌, ◌<◌, ◌≤◌, max, Bool, take, drop, remove}
-use Rattle.std.proofs.Common.{slice_get, subst, arith, drop_of_length-le, List, [], ◌∷◌, ◌++◌}
-use Rattle.std.proofs.Common.{length, Option, Some, None, is_some, option_map, refl, sym, ap, ap₂}
-use Rattle.std.proofs.Common.{◌∙◌, true≢false, append-nil}
+use Rattle.std.proofs.Common.{◌≡◌, ℕ, zero, suc, ◌+◌, ◌-◌, ◌<◌, max, Bool, take, drop, remove, slice_get, subst, arith, drop_of_length-le}
+use Rattle.std.proofs.Common.{List, [], ◌∷◌, ◌++◌, length, Option, Some, None, is_some, option_map, refl, sym, ap, ◌∙◌, true≢false}
+use Rattle.std.proofs.Common.{append-nil}
 use Rattle.std.specs.Option.{option_zip}
 use Rattle.std.specs.List.{IsDistinct}
 use Rattle.std.specs.Map.{keys_of}
 use Rattle.std.specs.Cmp.{IsEquivalence}
 use Rattle.linked_hash_map.specs.declared.map.Mode.{Mode}
-use Rattle.linked_hash_map.specs.Log.{Log, Put, Write, Refresh, Remove, RemoveAll, Need, Fit, SetMode, mode, live, stored, value}
+use Rattle.linked_hash_map.specs.Log.{Log, Put, Write, Refresh, Remove, RemoveAll, Need, Fit, SetMode, mode, live}
 use Rattle.linked_hash_map.specs.Log.{pair_of, pairs, size, high, IsFull, Defines}
 use Rattle.linked_hash_map.specs.Pairs.{find, value_at, without, to_back, set_value, put}
 use Rattle.linked_hash_map.specs.AllowedAnswers.{IsAbsent, HasValue}
@@ -23,19 +22,13 @@ use Rattle.linked_hash_map.proofs.log.Distinct.{distinct-pairs}
 use Rattle.linked_hash_map.proofs.pairs.Indexes.{without-own}
 
 value_of_zip : {K V : Type 0} (s : Option K) (w : Option V) (v : V) → option_map (λ pair. pair.1) (option_zip s w) ≡ Some v → w ≡ Some v
-value_of_zip None w v h = absurd (true≢false (sym (ap is_some h)))
-value_of_zip (Some s) None v h = absurd (true≢false (sym (ap is_some h)))
-value_of_zip (Some s) (Some w) v h = h
+value_of_zip s w v h = grind arith
 
 pub remove-first : {X : Type 0} (xs : List X) → remove xs 0 ≡ drop 1 xs
-remove-first [] = refl
-remove-first (x ∷ xs) = refl
+remove-first xs = grind arith
 
 pub remove-last : {X : Type 0} (xs : List X) → remove xs (length xs - 1) ≡ take (length xs - 1) xs
-remove-last {X} xs =
-    let past : length xs ≤ suc (length xs - 1) = omega arith in
-    let none : drop (suc (length xs - 1)) xs ≡ [] = drop_of_length-le xs past in
-    ap (λ (ys : List X). take (length xs - 1) xs ++ ys) none ∙ append-nil (take (length xs - 1) xs)
+remove-last xs = grind (arith, drop_of_length-le, append-nil)
 
 pub no_last_is_nil : {X : Type 0} (xs : List X) → None ≡ slice_get xs (length xs - 1) → xs ≡ []
 no_last_is_nil [] h = refl
@@ -50,8 +43,7 @@ no_last_is_nil (x ∷ xs) h = absurd (some_last x xs (length (x ∷ xs) - 1) (om
 Defines-by : {K V : Type 0} {eq : K → K → Bool} {start : ℕ} {log : Log K V} {contents later : List (K × V)} {capacity capacity' : ℕ}
     {m m' : Mode} → pairs eq log ≡ contents → high eq start log ≡ capacity → mode log ≡ m → later ≡ contents → capacity' ≡ capacity
     → m' ≡ m → Defines eq start log later capacity' m'
-Defines-by pairs-is high-is mode-is h c o =
-    record { same_pairs = pairs-is ∙ sym h; same_capacity = high-is ∙ sym c; same_mode = mode-is ∙ sym o }
+Defines-by pairs-is high-is mode-is h c o = grind arith
 
 module _ {K V : Type 0} {eq : K → K → Bool} (laws : IsEquivalence eq) {start : ℕ} {log : Log K V}
     {contents : List (K × V)} {capacity : ℕ} {m : Mode}
@@ -66,8 +58,7 @@ module _ {K V : Type 0} {eq : K → K → Bool} (laws : IsEquivalence eq) {start
   -- the map as it was
   pub Defines-nothing : {later : List (K × V)} {capacity' : ℕ} {m' : Mode} → later ≡ contents
       → capacity' ≡ capacity → m' ≡ m → Defines eq start (log ++ []) later capacity' m'
-  Defines-nothing = Defines-by (ap (pairs eq) (append-nil log) ∙ defines.same_pairs)
-      (ap (high eq start) (append-nil log) ∙ defines.same_capacity) (ap mode (append-nil log) ∙ defines.same_mode)
+  Defines-nothing = grind (arith, Defines-by, append-nil)
 
   module _ (k : K) where
     pub the_pair : find eq contents k ≡ pair_of (eq k) log
@@ -87,98 +78,64 @@ module _ {K V : Type 0} {eq : K → K → Bool} (laws : IsEquivalence eq) {start
     -- a key with a value is live with that value
     pub HasValue-value : {v : V} → value_at eq contents k ≡ Some v → HasValue eq log k v
     unfolding pair_of
-    HasValue-value {v} h = (
-      live-found ∙ sym (is_some-value_at eq contents k) ∙ ap is_some h,
-      value_of_zip (stored (eq k) log) (value (eq k) log) v (ap (option_map (λ pair. pair.1)) (sym the_pair) ∙ h),
-    )
+    HasValue-value h = grind (arith, live-found, is_some-value_at, value_of_zip, the_pair)
 
     -- the map after an insertion
-    pub Defines-put : (v : V) {later : List (K × V)} {capacity' : ℕ} {m' : Mode}
-        → later ≡ put eq m contents k v → capacity' ≡ max capacity (length later) → m' ≡ m
-        → Defines eq start (log ++ Put k v ∷ []) later capacity' m'
-    Defines-put v {later} h m o =
-        let same : pairs eq (log ++ Put k v ∷ []) ≡ later = pairs-put laws log k v
-        ∙ (λ i. put eq (defines.same_mode i) (defines.same_pairs i) k v) ∙ sym h in
-        Defines-by same (high-put laws log start k v
-        ∙ ap₂ max defines.same_capacity (size-pairs eq (log ++ Put k v ∷ []) ∙ ap length same))
-        (mode-snoc log (Put k v) ∙ defines.same_mode) refl m o
+    pub Defines-put : (v : V) {later : List (K × V)} {capacity' : ℕ} {m' : Mode} → later ≡ put eq m contents k v
+        → capacity' ≡ max capacity (length later) → m' ≡ m → Defines eq start (log ++ Put k v ∷ []) later capacity' m'
+    Defines-put v h m o = grind (arith, pairs-put, Defines-by, high-put, size-pairs, mode-snoc)
 
     -- the map after a removal
-    pub Defines-remove : {later : List (K × V)} {capacity' : ℕ} {m' : Mode}
-        → later ≡ without eq contents k → capacity' ≡ capacity → m' ≡ m
+    pub Defines-remove : {later : List (K × V)} {capacity' : ℕ} {m' : Mode} → later ≡ without eq contents k → capacity' ≡ capacity → m' ≡ m
         → Defines eq start (log ++ Remove k ∷ []) later capacity' m'
-    Defines-remove = Defines-by (pairs-remove laws log k ∙ ap (λ es. without eq es k) defines.same_pairs)
-        (high-remove laws log start k ∙ defines.same_capacity) (mode-snoc log (Remove k) ∙ defines.same_mode)
+    Defines-remove = grind (arith, Defines-by, pairs-remove, high-remove, mode-snoc)
 
     -- after a write
-    pub Defines-write : (v : V) {later : List (K × V)} {capacity' : ℕ} {m' : Mode}
-        → later ≡ set_value eq contents k v → capacity' ≡ capacity → m' ≡ m
-        → Defines eq start (log ++ Write k v ∷ []) later capacity' m'
-    Defines-write v = Defines-by (pairs-write laws log k v ∙ ap (λ es. set_value eq es k v) defines.same_pairs)
-        (high-write laws log start k v ∙ defines.same_capacity) (mode-snoc log (Write k v) ∙ defines.same_mode)
+    pub Defines-write : (v : V) {later : List (K × V)} {capacity' : ℕ} {m' : Mode} → later ≡ set_value eq contents k v
+        → capacity' ≡ capacity → m' ≡ m → Defines eq start (log ++ Write k v ∷ []) later capacity' m'
+    Defines-write v = grind (arith, Defines-by, pairs-write, high-write, mode-snoc)
 
     -- after a refresh of a key with a value
-    pub Defines-refresh : (v : V) {later : List (K × V)} {capacity' : ℕ} {m' : Mode}
-        → Some v ≡ value_at eq contents k → later ≡ to_back eq contents k v → capacity' ≡ capacity
-        → m' ≡ m → Defines eq start (log ++ Refresh k ∷ []) later capacity' m'
-    Defines-refresh v {later} {capacity'} {m'} found h m o =
-        by_pair (pair_of (eq k) log) refl (found ∙ ap (option_map (λ pair. pair.1)) the_pair)
-      where
-        by_pair : (o : Option (K × V)) → pair_of (eq k) log ≡ o
-            → Some v ≡ option_map (λ pair. pair.1) o
-            → Defines eq start (log ++ Refresh k ∷ []) later capacity' m'
-        by_pair None is same = absurd (true≢false (ap is_some same))
-        by_pair (Some pair) is same =
-            let v-is : v ≡ pair.1 = cc in
-            Defines-by (pairs-refresh laws log k pair is ∙ ap₂ (λ es w. to_back eq es k w) defines.same_pairs (sym v-is))
-            (high-refresh laws log start k ∙ defines.same_capacity) (mode-snoc log (Refresh k) ∙ defines.same_mode) h m o
+    pub Defines-refresh : (v : V) {later : List (K × V)} {capacity' : ℕ} {m' : Mode} → Some v ≡ value_at eq contents k
+        → later ≡ to_back eq contents k v → capacity' ≡ capacity → m' ≡ m → Defines eq start (log ++ Refresh k ∷ []) later capacity' m'
+    Defines-refresh v found h m o = grind (arith, the_pair, Defines-by, pairs-refresh, high-refresh, mode-snoc)
 
   -- after all pairs are dropped
   pub Defines-remove_all : {later : List (K × V)} {capacity' : ℕ} {m' : Mode} → later ≡ []
       → capacity' ≡ capacity → m' ≡ m → Defines eq start (log ++ RemoveAll ∷ []) later capacity' m'
-  Defines-remove_all = Defines-by (pairs-remove_all laws log)
-      (high-remove_all laws log start ∙ defines.same_capacity) (mode-snoc log RemoveAll ∙ defines.same_mode)
+  Defines-remove_all = grind (arith, Defines-by, pairs-remove_all, high-remove_all, mode-snoc)
 
   -- after room is reserved
   pub Defines-reserve : (additional : ℕ) {later : List (K × V)} {capacity' : ℕ} {m' : Mode}
       → later ≡ contents → capacity' ≡ max capacity (length contents + additional) → m' ≡ m
       → Defines eq start (log ++ Need (size eq log + additional) ∷ []) later capacity' m'
-  Defines-reserve additional = Defines-by (pairs-need laws log (size eq log + additional) ∙ defines.same_pairs)
-      (high-need laws start log (size eq log + additional)
-      ∙ ap₂ (λ room n. max room (n + additional)) defines.same_capacity size-contents)
-      (mode-snoc log (Need (size eq log + additional)) ∙ defines.same_mode)
+  Defines-reserve additional = grind (arith, Defines-by, pairs-need, high-need, size-contents, mode-snoc)
 
   -- after the capacity is lowered to the number of pairs
   pub Defines-shrink : {later : List (K × V)} {capacity' : ℕ} {m' : Mode} → later ≡ contents
       → capacity' ≡ length contents → m' ≡ m → Defines eq start (log ++ Fit ∷ []) later capacity' m'
-  Defines-shrink = Defines-by (pairs-fit laws log ∙ defines.same_pairs)
-      (high-fit laws start log ∙ size-contents) (mode-snoc log Fit ∙ defines.same_mode)
+  Defines-shrink = grind (arith, Defines-by, pairs-fit, high-fit, size-contents, mode-snoc)
 
   -- after a mode is set
-  pub Defines-set_mode : (set : Mode) {later : List (K × V)} {capacity' : ℕ} {m' : Mode}
-      → later ≡ contents → capacity' ≡ capacity → m' ≡ set
-      → Defines eq start (log ++ SetMode set ∷ []) later capacity' m'
-  Defines-set_mode set = Defines-by (pairs-set_mode laws log set ∙ defines.same_pairs)
-      (high-set_mode laws log start set ∙ defines.same_capacity) (mode-snoc log (SetMode set))
+  pub Defines-set_mode : (set : Mode) {later : List (K × V)} {capacity' : ℕ} {m' : Mode} → later ≡ contents → capacity' ≡ capacity
+      → m' ≡ set → Defines eq start (log ++ SetMode set ∷ []) later capacity' m'
+  Defines-set_mode set = grind (arith, Defines-by, pairs-set_mode, high-set_mode, mode-snoc)
 
   -- the keys that a log defines are different
   pub distinct-contents : IsDistinct eq (keys_of contents)
   distinct-contents = subst (λ es. IsDistinct eq (keys_of es)) defines.same_pairs (distinct-pairs laws log)
 
   -- after the pair at an index is taken out
-  Defines-remove_at : (i : ℕ) (pair : K × V) {later : List (K × V)} {capacity' : ℕ} {m' : Mode}
-      → slice_get contents i ≡ Some pair → later ≡ remove contents i → capacity' ≡ capacity → m' ≡ m
-      → Defines eq start (log ++ Remove pair.0 ∷ []) later capacity' m'
+  Defines-remove_at : (i : ℕ) (pair : K × V) {later : List (K × V)} {capacity' : ℕ} {m' : Mode} → slice_get contents i ≡ Some pair
+      → later ≡ remove contents i → capacity' ≡ capacity → m' ≡ m → Defines eq start (log ++ Remove pair.0 ∷ []) later capacity' m'
   Defines-remove_at i pair there h m o = Defines-remove pair.0 (h ∙ sym (without-own laws contents distinct-contents i pair there)) m o
 
-  pub Defines-pop_front : (k : K) (v : V) {later : List (K × V)} {capacity' : ℕ} {m' : Mode}
-      → Some (k, v) ≡ slice_get contents 0 → later ≡ drop 1 contents → capacity' ≡ capacity → m' ≡ m
-      → Defines eq start (log ++ Remove k ∷ []) later capacity' m'
+  pub Defines-pop_front : (k : K) (v : V) {later : List (K × V)} {capacity' : ℕ} {m' : Mode} → Some (k, v) ≡ slice_get contents 0
+      → later ≡ drop 1 contents → capacity' ≡ capacity → m' ≡ m → Defines eq start (log ++ Remove k ∷ []) later capacity' m'
   Defines-pop_front k v there h m o = Defines-remove_at 0 (k, v) (sym there) h m o
 
   pub Defines-pop_back : (k : K) (v : V) {later : List (K × V)} {capacity' : ℕ} {m' : Mode}
-      → Some (k, v) ≡ slice_get contents (length contents - 1)
-      → later ≡ take (length contents - 1) contents → capacity' ≡ capacity → m' ≡ m
+      → Some (k, v) ≡ slice_get contents (length contents - 1) → later ≡ take (length contents - 1) contents → capacity' ≡ capacity → m' ≡ m
       → Defines eq start (log ++ Remove k ∷ []) later capacity' m'
   Defines-pop_back k v there h m o = Defines-remove_at (length contents - 1) (k, v) (sym there) (h ∙ sym (remove-last contents)) m o
 

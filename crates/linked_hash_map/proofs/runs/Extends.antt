@@ -1,7 +1,6 @@
 -- Pairs inserted one after another: a key that is absent then, and a log that defines the map.
-use Rattle.std.proofs.Common.{◌≡◌, ℕ, ◌+◌, ◌-◌, ◌≤◌, max, Bool, true, false, ◌||◌, List, [], ◌∷◌, ◌++◌}
-use Rattle.std.proofs.Common.{length, slice_get, take, Some, None, is_some, true≢false, refl, sym}
-use Rattle.std.proofs.Common.{ap, ap₂, subst, ◌∙◌, append_assoc, length-append, arith}
+use Rattle.std.proofs.Common.{◌≡◌, ℕ, ◌+◌, ◌-◌, ◌≤◌, max, Bool, true, false, ◌||◌, List, [], ◌∷◌, ◌++◌, length, slice_get, take, Some, None}
+use Rattle.std.proofs.Common.{is_some, true≢false, refl, sym, ap, ap₂, subst, ◌∙◌, append_assoc, length-append, arith}
 use Rattle.std.specs.Cmp.{IsEquivalence}
 use Rattle.std.proofs.lemmas.List.{map-append}
 use Rattle.std.proofs.Math.Seq.{take-append_seam}
@@ -21,8 +20,7 @@ use Rattle.linked_hash_map.proofs.pairs.Inserts.{length-put_most}
 use Rattle.linked_hash_map.proofs.pairs.RehashCounts.{rechained_each-put}
 
 -- a key that is absent after insertions was absent before them
-pub find-insert_each_absent : {K V : Type 0} {eq : K → K → Bool} → IsEquivalence eq
-    → (mode : Mode) (pairs items : List (K × V)) (q : K)
+pub find-insert_each_absent : {K V : Type 0} {eq : K → K → Bool} → IsEquivalence eq → (mode : Mode) (pairs items : List (K × V)) (q : K)
     → find eq (insert_each eq mode pairs items) q ≡ None → find eq pairs q ≡ None
 find-insert_each_absent {eq = eq} laws mode pairs items q absent =
     none_is (find eq pairs q) (none_of (is_some (find eq pairs q))
@@ -48,15 +46,13 @@ module _ {K V S : Type 0} {eq : K → K → Bool} (laws : IsEquivalence eq)
     {old before : LinkedMap K V S} {all first these : List (K × V)} {n : ℕ}
     (so_far : HasExtended eq old all first these n before) {k : K} {v : V} {rest : List (K × V)}
     (next : these ≡ (k, v) ∷ rest) where
-  longer : (log : Log K V)
-      → (log ++ put_each first) ++ Put k v ∷ [] ≡ log ++ put_each (first ++ (k, v) ∷ [])
+  longer : (log : Log K V) → (log ++ put_each first) ++ Put k v ∷ [] ≡ log ++ put_each (first ++ (k, v) ∷ [])
   longer log =
       append_assoc log (put_each first) (Put k v ∷ []) ∙ ap (λ events. log ++ events)
       (sym (map-append (λ (pair : K × V). Put pair.0 pair.1) first ((k, v) ∷ [])))
 
   -- the next pair went in
-  pub HasExtended-put : {after : LinkedMap K V S}
-      → after.pairs ≡ put eq before.mode before.pairs k v
+  pub HasExtended-put : {after : LinkedMap K V S} → after.pairs ≡ put eq before.mode before.pairs k v
       → after.capacity ≡ max before.capacity (length after.pairs)
       → after.rechained ≡ rechained_raised before.rechained (length before.pairs) before.capacity after.capacity
       → length before.pairs ≤ before.capacity → KeepsSettings before after
@@ -86,18 +82,10 @@ module _ {K V S : Type 0} {eq : K → K → Bool} (laws : IsEquivalence eq)
 
   -- if it has no room, it is refused on the log with a Put for each of those, which goes on to
   -- define the map
-  pub HasNoRoom-next : {start : ℕ} {log : Log K V}
-      → Defines eq start log old.pairs old.capacity old.mode → find eq before.pairs k ≡ None
+  pub HasNoRoom-next : {start : ℕ} {log : Log K V} → Defines eq start log old.pairs old.capacity old.mode → find eq before.pairs k ≡ None
       → length before.pairs ≡ before.capacity → HasNoRoom eq start (log ++ put_each (take n all)) k
-  HasNoRoom-next {start} {log} defines absent full =
-      let now = so_far.defines start log defines in
-      subst (λ es. HasNoRoom eq start (log ++ put_each es) k) (sym taken-first)
-      (IsAbsent-found laws now k absent, IsFull-contents laws now full)
+  HasNoRoom-next defines absent full = grind (arith, taken-first, IsAbsent-found, IsFull-contents)
 
-  pub Defines-taken : {start : ℕ} {log : Log K V}
-      → Defines eq start log old.pairs old.capacity old.mode → {after : LinkedMap K V S}
-      → after ≡ before
-      → Defines eq start (log ++ put_each (take n all)) after.pairs after.capacity after.mode
-  Defines-taken {start} {log} defines {after} unchanged =
-      subst (λ es. Defines eq start (log ++ put_each es) after.pairs after.capacity after.mode) (sym taken-first)
-      (subst (λ m. Defines eq start (log ++ put_each first) m.pairs m.capacity m.mode) (sym unchanged) (so_far.defines start log defines))
+  pub Defines-taken : {start : ℕ} {log : Log K V} → Defines eq start log old.pairs old.capacity old.mode → {after : LinkedMap K V S}
+      → after ≡ before → Defines eq start (log ++ put_each (take n all)) after.pairs after.capacity after.mode
+  Defines-taken defines unchanged = grind (arith, taken-first)

@@ -1,9 +1,8 @@
 -- What an answer on a log that defines a map says of the map, and what the log after it defines, in
 -- the words of single calls.
-use Rattle.std.proofs.Common.{◌≡◌, ℕ, ◌+◌, ◌-◌, ◌<◌, ◌≤◌, max, Bool, true, false, cond, nat_lt}
-use Rattle.std.proofs.Common.{List, [], ◌∷◌, ◌++◌, length, take, drop, slice_get, append_assoc}
-use Rattle.std.proofs.Common.{Option, Some, None, is_some, option_map, refl, sym, ap, ap₂, ◌∙◌}
-use Rattle.std.proofs.Common.{subst, true≢false, arith}
+use Rattle.std.proofs.Common.{◌≡◌, ℕ, ◌+◌, ◌-◌, ◌<◌, ◌≤◌, max, Bool, true, false, cond, nat_lt, List, [], ◌∷◌, ◌++◌, length, take, drop}
+use Rattle.std.proofs.Common.{slice_get, append_assoc, Option, Some, None, is_some, option_map, refl, sym, ap, ap₂, ◌∙◌, subst, true≢false}
+use Rattle.std.proofs.Common.{arith}
 use Rattle.std.proofs.lemmas.Bool.{ltb-true, lt-ltb}
 use Rattle.std.specs.Option.{IsSome, option_zip}
 use Rattle.std.specs.Cmp.{IsEquivalence}
@@ -31,19 +30,14 @@ use Rattle.linked_hash_map.proofs.pairs.Inserts.{length-insert_each_least}
 
 value_of_zip : {K V : Type 0} (s : Option K) (w : Option V) (v : V) → is_some s ≡ true → w ≡ Some v
     → option_map (λ pair. pair.1) (option_zip s w) ≡ Some v
-value_of_zip None w v there h = absurd (true≢false (sym there))
-value_of_zip (Some s) None v there h = absurd (true≢false (sym (ap is_some h)))
-value_of_zip (Some s) (Some w) v there h = h
+value_of_zip s w v there h = grind arith
 
 module _ {K V : Type 0} {eq : K → K → Bool} (laws : IsEquivalence eq) {start : ℕ} {log : Log K V}
     {contents : List (K × V)} {capacity : ℕ} {mode : Mode}
     (defines : Defines eq start log contents capacity mode) where
   -- what a log defines fits its capacity, and its keys differ
   pub length-defined : length contents ≤ capacity
-  length-defined =
-      let size_is = size-contents laws defines in let within = size-high eq start log in
-      let room_is = defines.same_capacity in
-      omega arith
+  length-defined = grind (arith, size-contents, size-high)
 
   -- what the log says of a key, the pairs say
   pub find-absent_in_log : (k : K) → IsAbsent eq log k → find eq contents k ≡ None
@@ -92,11 +86,7 @@ Outcome eq start log contents capacity mode command answer =
     (capacity_after eq mode capacity contents command) (mode_after mode command)
 
 pub not_above : (limit n : ℕ) → n ≤ limit → nat_lt limit n ≡ false
-not_above limit n most = by_test (nat_lt limit n) refl
-  where
-    by_test : (b : Bool) → nat_lt limit n ≡ b → nat_lt limit n ≡ false
-    by_test true above = absurd (let more = ltb-true limit n above in omega arith)
-    by_test false above = above
+not_above limit n most = grind (arith, ltb-true)
 
 module _ {K V : Type 0} {eq : K → K → Bool} (laws : IsEquivalence eq) {start : ℕ} {log : Log K V}
     {contents : List (K × V)} {capacity : ℕ} {mode : Mode}
@@ -105,8 +95,7 @@ module _ {K V : Type 0} {eq : K → K → Bool} (laws : IsEquivalence eq) {start
   no_value k told = ap (option_map (λ pair. pair.1)) (find-absent_in_log laws defines k told)
 
   -- an answer that is no refusal, to each command
-  pub insert_outcome : (k : K) (v : V) (answer : Answer K V)
-      → Answers eq start log (Insert k v) answer → is_refusal answer ≡ false
+  pub insert_outcome : (k : K) (v : V) (answer : Answer K V) → Answers eq start log (Insert k v) answer → is_refusal answer ≡ false
       → Outcome eq start log contents capacity mode (Insert k v) answer
   insert_outcome k v New told given = (ap (old_or New) (sym (no_value k told)), Defines-put laws defines k v refl refl refl)
   insert_outcome k v (Old w) told given = (
@@ -117,8 +106,7 @@ module _ {K V : Type 0} {eq : K → K → Bool} (laws : IsEquivalence eq) {start
   insert_outcome k v (Refused j w) told given = absurd (true≢false given)
   insert_outcome k v _ told given = absurd told
 
-  pub or_insert_outcome : (k : K) (v : V) (answer : Answer K V)
-      → Answers eq start log (OrInsert k v) answer → is_refusal answer ≡ false
+  pub or_insert_outcome : (k : K) (v : V) (answer : Answer K V) → Answers eq start log (OrInsert k v) answer → is_refusal answer ≡ false
       → Outcome eq start log contents capacity mode (OrInsert k v) answer
   or_insert_outcome k v New told given =
       let absent = find-absent_in_log laws defines k told in
@@ -138,8 +126,7 @@ module _ {K V : Type 0} {eq : K → K → Bool} (laws : IsEquivalence eq) {start
   or_insert_outcome k v (Refused j w) told given = absurd (true≢false given)
   or_insert_outcome k v _ told given = absurd told
 
-  pub write_outcome : (k : K) (v : V) (answer : Answer K V)
-      → Answers eq start log (Write k v) answer
+  pub write_outcome : (k : K) (v : V) (answer : Answer K V) → Answers eq start log (Write k v) answer
       → Outcome eq start log contents capacity mode (Write k v) answer
   write_outcome k v (Old w) told = (
     ap (old_or (Absent k v)) (sym (value_at-HasValue laws defines k w told)),
@@ -225,16 +212,14 @@ module _ {K V : Type 0} {eq : K → K → Bool} (laws : IsEquivalence eq) {start
   drain_outcome NoRoom told given = absurd (true≢false given)
   drain_outcome _ told given = absurd told
 
-  pub extend_outcome : (items : List (K × V)) (answer : Answer K V)
-      → Answers eq start log (Extend items) answer → is_refusal answer ≡ false
+  pub extend_outcome : (items : List (K × V)) (answer : Answer K V) → Answers eq start log (Extend items) answer → is_refusal answer ≡ false
       → Outcome eq start log contents capacity mode (Extend items) answer
   extend_outcome items Done told given = (refl, Defines-put_each laws items defines)
   extend_outcome items (Stopped n k v) told given = absurd (true≢false given)
   extend_outcome items _ told given = absurd told
 
-  pub reserve_outcome : (additional : ℕ) (answer : Answer K V)
-      → Answers eq start log (Reserve additional) answer → is_refusal answer ≡ false
-      → Outcome eq start log contents capacity mode (Reserve additional) answer
+  pub reserve_outcome : (additional : ℕ) (answer : Answer K V) → Answers eq start log (Reserve additional) answer
+      → is_refusal answer ≡ false → Outcome eq start log contents capacity mode (Reserve additional) answer
   reserve_outcome additional Done told given =
       let size_is = size-contents laws defines in
       let within : nat_lt LIMIT (length contents + additional) ≡ false =

@@ -14,7 +14,6 @@ use Rattle.linked_hash_map.specs.Rehashes.{rechained_after}
 use Rattle.linked_hash_map.specs.Run.{first_log, last_log, MayEndVisit, Serves, IsReply, IsRun}
 use Rattle.linked_hash_map.specs.LinkedMap.{LinkedMap}
 use Rattle.linked_hash_map.specs.declared.replay.Command.{Command}
-use Rattle.linked_hash_map.specs.declared.replay.Command.TheVariants.{Reserve, Shrink}
 use Rattle.linked_hash_map.specs.declared.replay.Answer.{Answer}
 use Rattle.linked_hash_map.specs.declared.replay.Reply.{Reply}
 use Rattle.linked_hash_map.proofs.lists.Elements.{by_last}
@@ -28,8 +27,7 @@ use Rattle.linked_hash_map.proofs.runs.Effects.{Defines-nothing}
 
 module _ {K V : Type 0} (eq : K → K → Bool) (start : ℕ) (command : Command K V) (reply : Reply K V) where
   -- a run and one more reply are a run
-  pub IsRun-snoc : (log : Log K V) (commands : List (Command K V)) (replies : List (Reply K V))
-      → IsRun eq start log commands replies
+  pub IsRun-snoc : (log : Log K V) (commands : List (Command K V)) (replies : List (Reply K V)) → IsRun eq start log commands replies
       → IsReply eq start (last_log eq log commands replies) command reply
       → IsRun eq start log (commands ++ command ∷ []) (replies ++ reply ∷ [])
   IsRun-snoc log [] [] run next = (next, tt)
@@ -51,14 +49,11 @@ module _ {K V : Type 0} (eq : K → K → Bool) (start : ℕ) (command : Command
 pub Serves-same : {K V S : Type 0} {eq : K → K → Bool} {old new : LinkedMap K V S}
     {command : Command K V} {answer : Answer K V} (left : LinkedMap K V S) → new ≡ left
     → Serves eq old left command answer → Serves eq old new command answer
-Serves-same {eq = eq} {old = old} {command = command} {answer = answer} left same serves =
-    subst (λ m. Serves eq old m command answer) (sym same) serves
+Serves-same left same serves = grind arith
 
 -- a command that leaves the capacity rehashes nothing
 rechained_after-same : {K V : Type 0} (command : Command K V) (rechained len c : ℕ) → rechained_after command rechained len c c ≡ rechained
-rechained_after-same (Reserve additional) rechained len c = rechained_raised-same rechained len c
-rechained_after-same Shrink rechained len c = rechained_fitted-same rechained c c refl
-rechained_after-same command rechained len c = sym (rechained_each-same rechained {capacity = c} refl refl)
+rechained_after-same command rechained len c = grind (arith, rechained_raised-same, rechained_fitted-same, rechained_each-same)
 
 -- a command that keeps all but the pairs and the cursor, by its answer and the pairs that it leaves
 pub Serves-keeps : {K V S : Type 0} {eq : K → K → Bool} {old new : LinkedMap K V S} {command : Command K V} {answer : Answer K V}
@@ -66,15 +61,7 @@ pub Serves-keeps : {K V S : Type 0} {eq : K → K → Bool} {old new : LinkedMap
     → Answers eq start log command answer
     × Defines eq start (log_after eq log command answer) new.pairs new.capacity new.mode)
     → MayEndVisit old new → Serves eq old new command answer
-Serves-keeps {old = old} {command = command} keeps serves visit = record {
-  answers = λ start log defines. (serves start log defines).0;
-  defines = λ start log defines. (serves start log defines).1;
-  hasher = keeps.hasher;
-  rechained = keeps.rechained
-      ∙ sym (ap (rechained_after command old.rechained (length old.pairs) old.capacity) keeps.capacity
-      ∙ rechained_after-same command old.rechained (length old.pairs) old.capacity);
-  visit = visit;
-}
+Serves-keeps keeps serves visit = grind (arith, rechained_after-same)
 
 -- and one that leaves the map as it was, if its answer adds nothing to a log
 pub Serves-unchanged : {K V S : Type 0} {eq : K → K → Bool} → IsEquivalence eq → {old new : LinkedMap K V S} → new ≡ old
@@ -148,8 +135,4 @@ module _ {K V : Type 0} {eq : K → K → Bool} (laws : IsEquivalence eq) where
   -- the first log of a map defines the map
   pub Defines-first_log : (m : Mode) (es : List (K × V)) (capacity : ℕ) → IsDistinct eq (keys_of es)
       → length es ≤ capacity → Defines eq capacity (first_log m es) es capacity m
-  Defines-first_log m es capacity distinct within = record {
-    same_pairs = pairs-first_log m es distinct;
-    same_capacity = let h = high-first_log capacity m es distinct in omega arith;
-    same_mode = mode-first_log m es;
-  }
+  Defines-first_log m es capacity distinct within = grind (arith, pairs-first_log, high-first_log, mode-first_log)

@@ -1,7 +1,6 @@
 -- The sessions that a closure is handed.
-use Rattle.std.proofs.Common.{◌≡◌, ℕ, zero, suc, ◌+◌, ◌-◌, ◌<◌, ◌≤◌, Bool, true, false, List, [], ◌∷◌, ◌++◌, length}
-use Rattle.std.proofs.Common.{take, drop, Vec, Global, vec_capacity}
-use Rattle.std.proofs.Common.{refl, sym, ap, ◌∙◌, arith, add-one, length-append}
+use Rattle.std.proofs.Common.{◌≡◌, ℕ, zero, suc, ◌+◌, ◌<◌, ◌≤◌, Bool, true, false, List, [], ◌∷◌, ◌++◌, length, take, drop, Vec}
+use Rattle.std.proofs.Common.{Global, vec_capacity, refl, sym, ap, ◌∙◌, arith, add-one, length-append}
 use Rattle.std.specs.Borrow.{MutBor}
 use Rattle.std.specs.Fn.{Takes}
 use Rattle.std.specs.List.{FoldsTo}
@@ -28,9 +27,7 @@ module _ {X : Type 0} where
   take-at xs n zero x rest below is = absurd (omega (arith, below))
   take-at xs zero (suc count) x rest below is = (take count rest, ap (take (suc count)) is)
   take-at [] (suc n) (suc count) x rest below is = absurd (omega (arith, ap length is))
-  take-at (y ∷ ys) (suc n) (suc count) x rest below is =
-      let others = take-at ys n count x rest (omega (arith, below)) is in
-      (others.0, ap (λ l. y ∷ l) others.1)
+  take-at (y ∷ ys) (suc n) (suc count) x rest below is = grind (arith, take-at ys n count x rest (omega (arith, below)) is)
 
 module _ {T : Type 0} where
   -- those that go and those that fit are all
@@ -67,16 +64,4 @@ module _ {F T : Type 0} (g : Mut F (ℕ × (ℕ × (T × Unit {0}))) (Unit {0}))
         → Takes g f (session.0, (session.1, (session.2, tt))))
         → (f : F) (sessions : List (Session T)) → length (vec f).now.items + length sessions ≤ vec_capacity (vec f).now
         → CallableWithEachSession g f sessions
-    callable-pushes takes f sessions room =
-        record {
-          at = λ before after session f' is calls. let so_far = HasPushed-calls f before f' calls in
-              takes f' session (omega (
-                arith,
-                room,
-                ap length so_far.items,
-                so_far.capacity,
-                ap length is,
-                length-append (vec f).now.items before,
-                length-append before (session ∷ after),
-              ));
-        }
+    callable-pushes takes f sessions room = grind (arith, HasPushed-calls, length-append)

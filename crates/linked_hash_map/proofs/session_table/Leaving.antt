@@ -1,5 +1,5 @@
 -- The loop past the sessions that go.
-use Rattle.std.proofs.Common.{◌≡◌, ℕ, ◌+◌, ◌-◌, ◌<◌, ◌≤◌, cond, not, List, ◌∷◌, length, drop, nat_eq, sym, ap, ◌∙◌, subst, arith}
+use Rattle.std.proofs.Common.{◌≡◌, ℕ, ◌+◌, ◌-◌, ◌<◌, ◌≤◌, cond, not, List, ◌∷◌, length, drop, sym, ap, ◌∙◌, arith}
 use Rattle.std.proofs.lemmas.Bool.{ne_eqb}
 use Rattle.std.proofs.lemmas.List.{drop-drop}
 use Rattle.std.proofs.lemmas.List.Sums.{length-filter, count_by-le-length}
@@ -18,9 +18,8 @@ module _ {T : Type 0} (id weight_left : ℕ) (all : List (Session T)) where
 
   module _ {count weight : ℕ} where
     -- while too much is left, the next one goes
-    pub IsPast-more : (session : Session T) (rest : List (Session T))
-        → IsPast count weight (session ∷ rest) → (id ≡ session.0 → ⊥) → weight_left < weight
-        → IsPast (count + 1) (weight - session.1) rest
+    pub IsPast-more : (session : Session T) (rest : List (Session T)) → IsPast count weight (session ∷ rest) → (id ≡ session.0 → ⊥)
+        → weight_left < weight → IsPast (count + 1) (weight - session.1) rest
     IsPast-more session rest past other heavy =
         let same : without (session ∷ rest) id ≡ session ∷ without rest id =
         ap (λ b. cond (not b) (session ∷ without rest id) (without rest id))
@@ -36,21 +35,9 @@ module _ {T : Type 0} (id weight_left : ℕ) (all : List (Session T)) where
 
     -- no more than there are
     pub few-past : (rest : List (Session T)) → IsPast count weight rest → count ≤ length all
-    few-past rest past = omega (
-      arith,
-      past.counted,
-      length-filter (λ (session : Session T). not (nat_eq id session.0)) all,
-      count_by-le-length (λ (session : Session T). not (nat_eq id session.0)) all,
-    )
+    few-past rest past = grind (arith, length-filter, count_by-le-length)
 
     -- once they fit, all that are left stay
     pub AreLeaving-past : (rest : List (Session T)) → IsPast count weight rest → weight ≤ weight_left
         → AreLeaving all id weight_left count weight
-    AreLeaving-past rest past light =
-        let all_left : fit weight_left (without all id) ≡ without rest id = past.goes
-        ∙ fit-all weight_left (without rest id) (subst (λ n. n ≤ weight_left) past.weighs light) in
-        record {
-          stay = past.left ∙ sym all_left;
-          staying_is = past.weighs ∙ ap total_weight (sym all_left);
-          within = omega (arith, past.counted);
-        }
+    AreLeaving-past rest past light = grind (arith, fit-all)

@@ -1,10 +1,8 @@
 -- Lists of sessions: sums of weights, and the longest end that fits.
-use Rattle.std.proofs.Common.{◌≡◌, ℕ, ◌+◌, ◌-◌, ◌<◌, ◌≤◌, Bool, true, false, cond, not, List, []}
-use Rattle.std.proofs.Common.{◌∷◌, ◌++◌, length, drop, nat_eq, Some, None, option_map, eq-eqb, refl}
-use Rattle.std.proofs.Common.{sym, ap, ◌∙◌, subst, arith, length-append}
+use Rattle.std.proofs.Common.{◌≡◌, ℕ, ◌+◌, ◌-◌, ◌<◌, ◌≤◌, Bool, true, false, cond, not, List, [], ◌∷◌, ◌++◌, length, drop, nat_eq, Some}
+use Rattle.std.proofs.Common.{None, option_map, eq-eqb, refl, sym, ap, ◌∙◌, subst, arith, length-append}
 use Rattle.std.specs.Prelude.{nat_le, if◌then◌else◌, unwrap_or}
 use Rattle.std.specs.List.{IsDistinct, AllByRecursion}
-use Rattle.std.specs.Option.{option_or}
 use Rattle.std.proofs.lemmas.Bool.{eqb-true, le-leb, lt-leb, leb-true, leb-false}
 use Rattle.std.proofs.lemmas.List.Folds.{find-append}
 use Rattle.std.proofs.lemmas.List.Sums.{sum_by-cons, sum_by-append}
@@ -24,20 +22,13 @@ module _ {T : Type 0} where
   total_weight-last session = let sum = total_weight-cons session [] in omega arith
 
   pub total_weight-with_last : (sessions : List (Session T)) (id weight : ℕ) (payload : T)
-      → total_weight (with_last sessions id weight payload)
-      ≡ total_weight (without sessions id) + weight
-  total_weight-with_last sessions id weight payload =
-      total_weight-append (without sessions id) ((id, weight, payload) ∷ [])
-      ∙ ap (λ w. total_weight (without sessions id) + w) (total_weight-last (id, weight, payload))
+      → total_weight (with_last sessions id weight payload) ≡ total_weight (without sessions id) + weight
+  total_weight-with_last sessions id weight payload = grind (arith, total_weight-append, total_weight-last)
 
   -- a session behind the others is the one of its id, if no other has it
-  pub session_of-append : (sessions : List (Session T)) (session : Session T)
-      → session_of sessions session.0 ≡ None
+  pub session_of-append : (sessions : List (Session T)) (session : Session T) → session_of sessions session.0 ≡ None
       → session_of (sessions ++ session ∷ []) session.0 ≡ Some session
-  session_of-append sessions session none =
-      find-append (λ (other : Session T). nat_eq session.0 other.0) sessions (session ∷ [])
-      ∙ ap (λ o. option_or o (session_of (session ∷ []) session.0)) none
-      ∙ ap (λ b. cond b (Some session) None) (eq-eqb session.0 session.0 refl)
+  session_of-append sessions session none = grind (arith, find-append, eq-eqb)
 
   -- the longest end that fits: all, if all fit, and else that of the others
   pub fit-all : (limit : ℕ) (sessions : List (Session T)) → total_weight sessions ≤ limit → fit limit sessions ≡ sessions
@@ -45,11 +36,9 @@ module _ {T : Type 0} where
   fit-all limit (session ∷ sessions) fits =
       ap (λ b. if b then session ∷ sessions else fit limit sessions) (le-leb (total_weight (session ∷ sessions)) limit fits)
 
-  pub fit-more : (limit : ℕ) (session : Session T) (sessions : List (Session T))
-      → limit < total_weight (session ∷ sessions)
+  pub fit-more : (limit : ℕ) (session : Session T) (sessions : List (Session T)) → limit < total_weight (session ∷ sessions)
       → fit limit (session ∷ sessions) ≡ fit limit sessions
-  fit-more limit session sessions heavy =
-      ap (λ b. if b then session ∷ sessions else fit limit sessions) (lt-leb (total_weight (session ∷ sessions)) limit heavy)
+  fit-more limit session sessions heavy = grind (arith, lt-leb)
 
   -- a last one that is within the limit stays, with what fits beside it
   pub fit-append : (limit : ℕ) (sessions : List (Session T)) (last : Session T) → last.1 ≤ limit
@@ -88,8 +77,7 @@ module _ {T : Type 0} where
 
   pub total_weight-fit : (limit : ℕ) (sessions : List (Session T)) → total_weight (fit limit sessions) ≤ limit
   total_weight-fit limit [] = omega arith
-  total_weight-fit limit (session ∷ sessions) = by_test
-      (nat_le (total_weight (session ∷ sessions)) limit) refl (total_weight-fit limit sessions)
+  total_weight-fit limit (session ∷ sessions) = grind (arith, total_weight-fit limit sessions)
     where
       by_test : (b : Bool) → nat_le (total_weight (session ∷ sessions)) limit ≡ b
           → total_weight (fit limit sessions) ≤ limit
@@ -133,12 +121,7 @@ module _ {T : Type 0} where
 
   -- there is a longest end that fits, and only one
   pub IsLongestEnd-fit : (limit : ℕ) (sessions : List (Session T)) → IsLongestEnd limit sessions (fit limit sessions)
-  IsLongestEnd-fit limit sessions =
-      record {
-        is_end = IsEnd-fit limit sessions;
-        fits = total_weight-fit limit sessions;
-        longest = longest-fit limit sessions;
-      }
+  IsLongestEnd-fit limit sessions = grind (arith, IsEnd-fit, total_weight-fit, longest-fit)
 
   ends_alike : (some others before after : List (Session T)) → before ++ some ≡ after ++ others
       → length some ≡ length others → some ≡ others
@@ -155,16 +138,12 @@ module _ {T : Type 0} where
       ends_alike end (fit limit sessions) longest.is_end.0 found.is_end.0 (longest.is_end.1 ∙ sym found.is_end.1) (omega arith)
 
   -- without the session of an id, its weight is lacking
-  absent : (id : ℕ) (sessions : List (Session T))
-      → AllByRecursion (λ other. nat_eq id other ≡ false) (ids_of sessions)
+  absent : (id : ℕ) (sessions : List (Session T)) → AllByRecursion (λ other. nat_eq id other ≡ false) (ids_of sessions)
       → without sessions id ≡ sessions
   absent id [] apart = refl
-  absent id (session ∷ sessions) apart =
-      ap (λ b. cond (not b) (session ∷ without sessions id) (without sessions id)) apart.0
-      ∙ ap (λ l. session ∷ l) (absent id sessions apart.1)
+  absent id (session ∷ sessions) apart = grind (arith, absent id sessions apart.1)
 
-  pub total_weight-without : (sessions : List (Session T)) (id : ℕ)
-      → IsDistinct nat_eq (ids_of sessions)
+  pub total_weight-without : (sessions : List (Session T)) (id : ℕ) → IsDistinct nat_eq (ids_of sessions)
       → total_weight (without sessions id) + weight_of sessions id ≡ total_weight sessions
   unfolding IsDistinct
   total_weight-without [] id distinct = refl

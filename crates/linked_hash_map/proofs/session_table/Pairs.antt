@@ -1,5 +1,5 @@
 -- The sessions that a map's pairs stand for, after each call of the map.
-use Rattle.std.proofs.Common.{◌≡◌, ℕ, suc, ◌+◌, ◌-◌, Bool, true, false, cond, not, List, [], ◌∷◌, ◌++◌, length, nat_eq, Option, Some, None}
+use Rattle.std.proofs.Common.{◌≡◌, ℕ, suc, ◌+◌, ◌-◌, Bool, true, false, cond, not, List, [], ◌∷◌, ◌++◌, length, nat_eq, Option, Some}
 use Rattle.std.proofs.Common.{option_map, is_some, refl, sym, ap, ap₂, ◌∙◌, subst, arith}
 use Rattle.std.specs.Prelude.{unwrap_or}
 use Rattle.std.specs.Cmp.{nat_eq_equiv}
@@ -60,36 +60,26 @@ module _ {T : Type 0} where
       by_test false rest = rest
 
   option_map-payload : (o : Option (ℕ × Weighted T))
-      → option_map (λ s. s.2) (option_map session o)
-      ≡ option_map (λ weighted. weighted.payload) (option_map (λ pair. pair.1) o)
-  option_map-payload None = refl
-  option_map-payload (Some pair) = refl
+      → option_map (λ s. s.2) (option_map session o) ≡ option_map (λ weighted. weighted.payload) (option_map (λ pair. pair.1) o)
+  option_map-payload o = grind arith
 
   option_map-weight : (o : Option (ℕ × Weighted T))
-      → option_map (λ s. s.1) (option_map session o)
-      ≡ option_map (λ weighted. weighted.weight) (option_map (λ pair. pair.1) o)
-  option_map-weight None = refl
-  option_map-weight (Some pair) = refl
+      → option_map (λ s. s.1) (option_map session o) ≡ option_map (λ weighted. weighted.weight) (option_map (λ pair. pair.1) o)
+  option_map-weight o = grind arith
 
   is_some-session : (o : Option (ℕ × Weighted T)) → is_some (option_map session o) ≡ is_some o
-  is_some-session None = refl
-  is_some-session (Some pair) = refl
+  is_some-session o = grind arith
 
   pub payload_of-sessions_of : (ps : List (ℕ × Weighted T)) (id : ℕ)
-      → payload_of (sessions_of ps) id
-      ≡ option_map (λ weighted. weighted.payload) (pairs.value_at nat_eq ps id)
-  payload_of-sessions_of ps id = ap (option_map (λ (s : Session T). s.2))
-      (session_of-sessions_of ps id) ∙ option_map-payload (pairs.find nat_eq ps id)
+      → payload_of (sessions_of ps) id ≡ option_map (λ weighted. weighted.payload) (pairs.value_at nat_eq ps id)
+  payload_of-sessions_of ps id = grind (arith, session_of-sessions_of, option_map-payload)
 
   pub weight-sessions_of : (ps : List (ℕ × Weighted T)) (id : ℕ)
-      → option_map (λ s. s.1) (session_of (sessions_of ps) id)
-      ≡ option_map (λ weighted. weighted.weight) (pairs.value_at nat_eq ps id)
-  weight-sessions_of ps id = ap (option_map (λ (s : Session T). s.1)) (session_of-sessions_of ps id)
-      ∙ option_map-weight (pairs.find nat_eq ps id)
+      → option_map (λ s. s.1) (session_of (sessions_of ps) id) ≡ option_map (λ weighted. weighted.weight) (pairs.value_at nat_eq ps id)
+  weight-sessions_of ps id = grind (arith, session_of-sessions_of, option_map-weight)
 
   pub weight_of-sessions_of : (ps : List (ℕ × Weighted T)) (id : ℕ)
-      → weight_of (sessions_of ps) id
-      ≡ unwrap_or (option_map (λ weighted. weighted.weight) (pairs.value_at nat_eq ps id)) 0
+      → weight_of (sessions_of ps) id ≡ unwrap_or (option_map (λ weighted. weighted.weight) (pairs.value_at nat_eq ps id)) 0
   weight_of-sessions_of ps id = ap (λ o. unwrap_or o 0) (weight-sessions_of ps id)
 
   pub is_some-session_of : (ps : List (ℕ × Weighted T)) (id : ℕ)
@@ -98,8 +88,7 @@ module _ {T : Type 0} where
 
   -- the pair of an id at the back
   pub sessions_of-to_back : (ps : List (ℕ × Weighted T)) (id : ℕ) (weighted : Weighted T)
-      → sessions_of (pairs.to_back nat_eq ps id weighted)
-      ≡ with_last (sessions_of ps) id weighted.weight weighted.payload
+      → sessions_of (pairs.to_back nat_eq ps id weighted) ≡ with_last (sessions_of ps) id weighted.weight weighted.payload
   sessions_of-to_back ps id weighted =
       let stored = pairs.key_or id (pairs.find nat_eq ps id) in
       let own : id ≡ stored = eqb-true id stored (eq-stored nat_eq_equiv ps id) in
@@ -115,10 +104,8 @@ module _ {T : Type 0} where
       ∙ payload_of-sessions_of (pairs.to_back nat_eq ps id weighted) id
       ∙ ap (option_map (λ (w : Weighted T). w.payload)) (value_at-to_back_here nat_eq_equiv ps id weighted)
 
-  pub payload_of-with_last_apart : (ps : List (ℕ × Weighted T)) (id other weight : ℕ) (payload : T)
-      → nat_eq id other ≡ false
-      → payload_of (with_last (sessions_of ps) id weight payload) other
-      ≡ payload_of (sessions_of ps) other
+  pub payload_of-with_last_apart : (ps : List (ℕ × Weighted T)) (id other weight : ℕ) (payload : T) → nat_eq id other ≡ false
+      → payload_of (with_last (sessions_of ps) id weight payload) other ≡ payload_of (sessions_of ps) other
   payload_of-with_last_apart ps id other weight payload apart =
       let weighted : Weighted T = record { weight = weight; payload = payload } in
       ap (λ l. payload_of l other) (sym (sessions_of-to_back ps id weighted))
@@ -132,26 +119,15 @@ module _ {T : Type 0} where
     distinct-sessions_of = subst (IsDistinct nat_eq) (sym (ids_of-sessions_of m.pairs)) kept.valid.distinct
 
     pub IsValidTable-kept : IsValidTable (session_table (sessions_of m.pairs) limit m.capacity)
-    IsValidTable-kept =
-        record {
-          distinct = distinct-sessions_of;
-          within = let sum = kept.sum in let within = kept.within in omega arith;
-          room = let room = kept.valid.within in omega (arith, length-sessions_of m.pairs);
-          few = kept.valid.limit;
-        }
+    IsValidTable-kept = grind (arith, distinct-sessions_of, length-sessions_of)
 
     pub total_weight-others : (id : ℕ) → total_weight (without (sessions_of m.pairs) id) + weight_of (sessions_of m.pairs) id ≡ total
     total_weight-others id = total_weight-without (sessions_of m.pairs) id distinct-sessions_of ∙ sym kept.sum
 
     -- and once a session is out
-    pub IsKeptWithin-without : {n : LinkedMap ℕ (Weighted T) S} (id : ℕ)
-        → n.pairs ≡ pairs.without nat_eq m.pairs id → n.mode ≡ m.mode → IsValid nat_eq n
-        → IsKeptWithin n (total - weight_of (sessions_of m.pairs) id) limit
-    IsKeptWithin-without id changed same valid =
-        let others = total_weight-others id in
-        let left = ap sessions_of changed ∙ sessions_of-without m.pairs id in
-        let within = kept.within in
-        record { valid = valid; mode = same ∙ kept.mode; sum = omega (arith, ap total_weight left); within = omega arith }
+    pub IsKeptWithin-without : {n : LinkedMap ℕ (Weighted T) S} (id : ℕ) → n.pairs ≡ pairs.without nat_eq m.pairs id → n.mode ≡ m.mode
+        → IsValid nat_eq n → IsKeptWithin n (total - weight_of (sessions_of m.pairs) id) limit
+    IsKeptWithin-without id changed same valid = grind (arith, total_weight-others, sessions_of-without)
 
   -- the session of an id at the end
   module _ {S : Type 0} (m : LinkedMap ℕ (Weighted T) S) (id : ℕ) {weighted : Weighted T}
@@ -163,13 +139,10 @@ module _ {T : Type 0} where
         → sessions_of
         (pairs.to_back nat_eq m.pairs id (record { weight = weighted.weight; payload = payload }))
         ≡ to_end (sessions_of m.pairs) id payload
-    sessions_of-refreshed payload =
-        sessions_of-to_back m.pairs id (record { weight = weighted.weight; payload = payload })
-        ∙ ap (λ weight. with_last (sessions_of m.pairs) id weight payload) (sym weight_of-found)
+    sessions_of-refreshed payload = grind (arith, sessions_of-to_back, weight_of-found)
 
     pub IsKeptWithin-refreshed : {total limit : ℕ} → IsKeptWithin m total limit → (payload : T)
-        → IsKeptWithin
-        (refreshed nat_eq m id (record { weight = weighted.weight; payload = payload })) total limit
+        → IsKeptWithin (refreshed nat_eq m id (record { weight = weighted.weight; payload = payload })) total limit
     IsKeptWithin-refreshed {total} {limit} kept payload =
         let now : Weighted T = record { weight = weighted.weight; payload = payload } in
         let there = IsSome-find nat_eq m.pairs id weighted found in

@@ -1,6 +1,6 @@
 -- What a planned put leaves of a table.
 use Rattle.std.proofs.Common.{◌≡◌, ℕ, ◌+◌, ◌-◌, ◌≤◌, true, false, List, ◌++◌, length, take, drop, nat_eq}
-use Rattle.std.proofs.Common.{sym, ap, ◌∙◌, subst, arith, length-drop, length-take-le}
+use Rattle.std.proofs.Common.{sym, ap, ◌∙◌, subst, arith, length-take-le}
 use Rattle.std.specs.Prelude.{max}
 use Rattle.std.specs.List.{IsDistinct}
 use Rattle.std.specs.Map.{keys_of}
@@ -15,22 +15,15 @@ use Rattle.linked_hash_map.specs.declared.sessions.storage.PutPlan.{PutPlan}
 use Rattle.linked_hash_map.specs.declared.sessions.storage.Weighted.{Weighted}
 use Rattle.linked_hash_map.proofs.Callers.Lookups.{last-append}
 use Rattle.linked_hash_map.proofs.session_table.HandOuts.{leaving-fit}
-use Rattle.linked_hash_map.proofs.session_table.Lists.{fit-all, total_weight-fit, IsLongestEnd-fit}
+use Rattle.linked_hash_map.proofs.session_table.Lists.{total_weight-fit, IsLongestEnd-fit}
 use Rattle.linked_hash_map.proofs.session_table.Puts.{drop-with_last, fit-with_last, length-with_last, total_weight-put}
 use Rattle.linked_hash_map.proofs.session_table.Puts.{payload_of-put, payload_of-stays, capacity-put}
 
 module _ {T : Type 0} {sessions : List (Session T)} {limit id weight : ℕ} {plan : PutPlan} (light : weight ≤ limit)
     (planned : IsPutPlan sessions id (limit - weight) plan) where
-  -- none goes exactly if all fit
-  pub none-leaves : total_weight (without sessions id) + weight ≤ limit → plan.count ≡ 0
-  none-leaves fits =
-      let all = ap length (planned.leaving.stay ∙ fit-all (limit - weight) (without sessions id) (omega arith)) in
-      omega (arith, all, length-drop plan.count (without sessions id), planned.leaving.within)
-
+  -- if none goes, all fit
   pub all-fit : plan.count ≡ 0 → total_weight (without sessions id) + weight ≤ limit
-  all-fit none =
-      let all = sym (ap (λ n. drop n (without sessions id)) none) ∙ planned.leaving.stay in
-      omega (arith, ap total_weight all, total_weight-fit (limit - weight) (without sessions id))
+  all-fit none = grind (arith, total_weight-fit)
 
   -- what is left is within the limit
   pub staying-within : plan.staying + weight ≤ limit
@@ -38,8 +31,7 @@ module _ {T : Type 0} {sessions : List (Session T)} {limit id weight : ℕ} {pla
 
   module _ (payload : T) where
     pub drop-put : drop plan.count (with_last sessions id weight payload) ≡ fit limit (with_last sessions id weight payload)
-    drop-put = drop-with_last sessions plan.count id weight payload planned.leaving.within
-        ∙ fit-with_last limit weight id payload sessions (drop plan.count (without sessions id)) light planned.leaving.stay
+    drop-put = grind (arith, drop-with_last, fit-with_last)
 
     pub take-put : take plan.count (with_last sessions id weight payload) ≡ leaving limit (with_last sessions id weight payload)
     take-put =
@@ -48,23 +40,15 @@ module _ {T : Type 0} {sessions : List (Session T)} {limit id weight : ℕ} {pla
         (ap (λ l. take plan.count all ++ l) (sym drop-put) ∙ take-append-drop plan.count all ∙ sym (leaving-fit limit all))
 
     pub length-leaving_put : length (leaving limit (with_last sessions id weight payload)) ≡ plan.count
-    length-leaving_put =
-        sym (ap length take-put) ∙ length-take-le plan.count (with_last sessions id weight payload)
-        (omega (arith, length-with_last sessions id weight payload, planned.leaving.within))
+    length-leaving_put = grind (arith, take-put, length-take-le, length-with_last)
 
     pub total_weight-left : plan.staying + weight ≡ total_weight (drop plan.count (with_last sessions id weight payload))
-    total_weight-left =
-        ap (λ w. w + weight) (planned.leaving.staying_is ∙ sym (ap total_weight planned.leaving.stay))
-        ∙ sym (total_weight-put weight id payload (drop plan.count (without sessions id)))
-        ∙ sym (ap total_weight (drop-with_last sessions plan.count id weight payload planned.leaving.within))
+    total_weight-left = grind (arith, total_weight-put, drop-with_last)
 
 module _ {T : Type 0} {limit id weight : ℕ} {plan : PutPlan} (payload : T) (ps : List (ℕ × Weighted T)) where
-  pub HasPut-planned : {left : List (Session T)} {old now : ℕ} → weight ≤ limit
-      → IsPutPlan (sessions_of ps) id (limit - weight) plan
-      → length ps ≤ old → IsDistinct nat_eq (keys_of ps)
-      → left ≡ drop plan.count (with_last (sessions_of ps) id weight payload)
-      → (plan.count ≡ 0 → plan.is_new ≡ true → now ≡ max old (length ps + 1))
-      → ((plan.count ≡ 0 → plan.is_new ≡ false) → now ≡ old)
+  pub HasPut-planned : {left : List (Session T)} {old now : ℕ} → weight ≤ limit → IsPutPlan (sessions_of ps) id (limit - weight) plan
+      → length ps ≤ old → IsDistinct nat_eq (keys_of ps) → left ≡ drop plan.count (with_last (sessions_of ps) id weight payload)
+      → (plan.count ≡ 0 → plan.is_new ≡ true → now ≡ max old (length ps + 1)) → ((plan.count ≡ 0 → plan.is_new ≡ false) → now ≡ old)
       → HasPut (session_table (sessions_of ps) limit old) (id, weight, payload) (session_table left limit now)
   HasPut-planned {left} {old} {now} light planned within distinct is raised same =
       let all = with_last (sessions_of ps) id weight payload in

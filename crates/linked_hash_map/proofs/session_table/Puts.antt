@@ -22,8 +22,7 @@ use Rattle.linked_hash_map.proofs.session_table.Pairs.{sessions_of-without, sess
 use Rattle.linked_hash_map.proofs.session_table.Pairs.{payload_of-sessions_of}
 
 -- a key that is found among the last pairs has there the pair that it has among all
-find-drop_present : {K V : Type 0} {eq : K → K → Bool} → IsEquivalence eq
-    → (ps : List (K × V)) (q : K) (n : ℕ) → IsDistinct eq (keys_of ps)
+find-drop_present : {K V : Type 0} {eq : K → K → Bool} → IsEquivalence eq → (ps : List (K × V)) (q : K) (n : ℕ) → IsDistinct eq (keys_of ps)
     → IsSome (pairs.find eq (drop n ps) q) → pairs.find eq (drop n ps) q ≡ pairs.find eq ps q
 find-drop_present laws ps q zero distinct found = refl
 find-drop_present laws [] q (suc n) distinct found = refl
@@ -37,13 +36,11 @@ find-drop_present {K} {V} {eq} laws (pair ∷ ps) q (suc n) distinct found = by_
 
 -- there is room for one more once some are out, or at once
 pub room-left : (count len capacity : ℕ) → count ≤ len → len ≤ capacity → (count ≡ 0 → len < capacity) → len - count < capacity
-room-left zero len capacity enough within free = let below = free refl in omega arith
-room-left (suc count) len capacity enough within free = omega arith
+room-left count len capacity enough within free = grind arith
 
 module _ {T : Type 0} where
   -- a session whose id is new is put behind the others
-  pub with_last-new : (ps : List (ℕ × Weighted T)) (id weight : ℕ) (payload : T)
-      → pairs.find nat_eq ps id ≡ None
+  pub with_last-new : (ps : List (ℕ × Weighted T)) (id weight : ℕ) (payload : T) → pairs.find nat_eq ps id ≡ None
       → with_last (sessions_of ps) id weight payload ≡ sessions_of ps ++ (id, weight, payload) ∷ []
   with_last-new ps id weight payload none =
       ap (λ l. l ++ (id, weight, payload) ∷ []) (sym (sessions_of-without ps id) ∙ ap sessions_of (without-absent nat_eq ps id none))
@@ -72,15 +69,11 @@ module _ {T : Type 0} where
     pub few-new : count ≤ length ps
     few-new = omega (arith, enough, length-without_new ps id new)
 
-    pub length-drop_new : {capacity : ℕ} → length ps ≤ capacity → (count ≡ 0 → length ps < capacity)
-        → length (drop count ps) < capacity
-    length-drop_new {capacity} within free =
-        let room = room-left count (length ps) capacity few-new within free in omega (arith, length-drop count ps)
+    pub length-drop_new : {capacity : ℕ} → length ps ≤ capacity → (count ≡ 0 → length ps < capacity) → length (drop count ps) < capacity
+    length-drop_new within free = grind (arith, room-left, few-new, length-drop)
 
     pub take-new : (weight : ℕ) (payload : T) → take count (with_last (sessions_of ps) id weight payload) ≡ take count (sessions_of ps)
-    take-new weight payload =
-        ap (take count) (with_last-new ps id weight payload (find-new ps id new))
-        ∙ take-append-le count (sessions_of ps) ((id, weight, payload) ∷ []) (omega (arith, length-sessions_of ps, few-new))
+    take-new weight payload = grind (arith, with_last-new, find-new, take-append-le, length-sessions_of, few-new)
 
     pub with_last-drop : (weight : ℕ) (payload : T)
         → with_last (sessions_of (drop count ps)) id weight payload ≡ drop count (with_last (sessions_of ps) id weight payload)
@@ -104,11 +97,9 @@ module _ {T : Type 0} where
   length-with_last sessions id weight payload = length-append (without sessions id) ((id, weight, payload) ∷ [])
 
   -- there is room for as many as are left, and for no more if it was enough
-  pub capacity-put : (is_new : Bool) {count : ℕ} (ps : List (ℕ × Weighted T)) (session : Session T) {old now : ℕ}
-      → length ps ≤ old → IsDistinct nat_eq (keys_of ps)
-      → is_some (session_of (sessions_of ps) session.0) ≡ not is_new
-      → count ≤ length (without (sessions_of ps) session.0)
-      → (count ≡ 0 → is_new ≡ true → now ≡ max old (length ps + 1))
+  pub capacity-put : (is_new : Bool) {count : ℕ} (ps : List (ℕ × Weighted T)) (session : Session T) {old now : ℕ} → length ps ≤ old
+      → IsDistinct nat_eq (keys_of ps) → is_some (session_of (sessions_of ps) session.0) ≡ not is_new
+      → count ≤ length (without (sessions_of ps) session.0) → (count ≡ 0 → is_new ≡ true → now ≡ max old (length ps + 1))
       → ((count ≡ 0 → is_new ≡ false) → now ≡ old)
       → now ≡ max old (length (drop count (with_last (sessions_of ps) session.0 session.1 session.2)))
   capacity-put true {count = zero} ps session within distinct new enough raised same =
@@ -140,13 +131,11 @@ module _ {T : Type 0} where
   pub fit-with_last : (limit weight id : ℕ) (payload : T) (sessions left : List (Session T))
       → weight ≤ limit → left ≡ fit (limit - weight) (without sessions id)
       → left ++ (id, weight, payload) ∷ [] ≡ fit limit (with_last sessions id weight payload)
-  fit-with_last limit weight id payload sessions left light fits =
-      ap (λ l. l ++ (id, weight, payload) ∷ []) fits ∙ sym (fit-append limit (without sessions id) (id, weight, payload) light)
+  fit-with_last limit weight id payload sessions left light fits = grind (arith, fit-append)
 
   -- and is the one of its id
   pub payload_of-put : (ps : List (ℕ × Weighted T)) (count id weight : ℕ) (payload : T)
-      → payload_of (drop count (without (sessions_of ps) id) ++ (id, weight, payload) ∷ []) id
-      ≡ Some payload
+      → payload_of (drop count (without (sessions_of ps) id) ++ (id, weight, payload) ∷ []) id ≡ Some payload
   payload_of-put ps count id weight payload =
       let left = drop count (pairs.without nat_eq ps id) in
       let none = find-drop nat_eq (pairs.without nat_eq ps id) id count (find-without_here nat_eq_equiv ps id) in
@@ -156,15 +145,12 @@ module _ {T : Type 0} where
       ∙ ap (option_map (λ (session : Session T). session.2)) (session_of-append (sessions_of left) (id, weight, payload) absent)
 
   some_payload : (o : Option (Session T)) → is_some (option_map (λ (session : Session T). session.2) o) ≡ is_some o
-  some_payload None = refl
-  some_payload (Some session) = refl
+  some_payload o = grind arith
 
   -- another session that stays has the payload that it had
-  pub payload_of-stays : (ps : List (ℕ × Weighted T)) (count id other weight : ℕ) (payload : T)
-      → IsDistinct nat_eq (keys_of ps) → nat_eq id other ≡ false
-      → IsSome (payload_of (drop count (with_last (sessions_of ps) id weight payload)) other)
-      → payload_of (drop count (with_last (sessions_of ps) id weight payload)) other
-      ≡ payload_of (sessions_of ps) other
+  pub payload_of-stays : (ps : List (ℕ × Weighted T)) (count id other weight : ℕ) (payload : T) → IsDistinct nat_eq (keys_of ps)
+      → nat_eq id other ≡ false → IsSome (payload_of (drop count (with_last (sessions_of ps) id weight payload)) other)
+      → payload_of (drop count (with_last (sessions_of ps) id weight payload)) other ≡ payload_of (sessions_of ps) other
   payload_of-stays ps count id other weight payload distinct apart stays =
       let weighted : Weighted T = record { weight = weight; payload = payload } in
       let qs = pairs.to_back nat_eq ps id weighted in
@@ -185,10 +171,8 @@ module _ {T : Type 0} where
 
   pub total_weight-put : (weight id : ℕ) (payload : T) (left : List (Session T))
       → total_weight (left ++ (id, weight, payload) ∷ []) ≡ total_weight left + weight
-  total_weight-put weight id payload left =
-      total_weight-append left ((id, weight, payload) ∷ []) ∙ ap (λ w. total_weight left + w) (total_weight-last (id, weight, payload))
+  total_weight-put weight id payload left = grind (arith, total_weight-append, total_weight-last)
 
-  pub not-absent : (ps : List (ℕ × Weighted T)) (id : ℕ)
-      → is_some (session_of (sessions_of ps) id) ≡ true → pairs.find nat_eq ps id ≡ None
+  pub not-absent : (ps : List (ℕ × Weighted T)) (id : ℕ) → is_some (session_of (sessions_of ps) id) ≡ true → pairs.find nat_eq ps id ≡ None
       → false ≡ true
   not-absent ps id some none = ap is_some (sym none) ∙ sym (is_some-session_of ps id) ∙ some

@@ -1,5 +1,5 @@
 -- The sessions that a closure keeps.
-use Rattle.std.proofs.Common.{◌≡◌, ℕ, ◌+◌, ◌≤◌, Bool, true, false, cond, List, [], ◌∷◌, inl, inr, refl, sym, ap, ◌∙◌, subst, arith}
+use Rattle.std.proofs.Common.{◌≡◌, ℕ, ◌+◌, ◌≤◌, Bool, cond, List, [], ◌∷◌, ap, ◌∙◌, arith}
 use Rattle.std.specs.Borrow.{MutBor}
 use Rattle.std.specs.List.{FoldsTo}
 use Rattle.std.specs.Map.Calls.{CallableOnEachPair, SomeCallAtPair, RetainsPairs}
@@ -19,33 +19,18 @@ module _ {F T : Type 0} (g : Mut F (ℕ × (ℕ × (MutBor T × Unit {0}))) (Boo
   pub weights-retained : (f : F) (sessions kept : List (Session T))
       → RetainsSessions g f sessions kept → IsSublist (weights_of kept) (weights_of sessions)
   weights-retained f [] kept r = ap weights_of r
-  weights-retained f (session ∷ sessions) kept r =
-      let rest = weights-retained r.closure sessions r.rest r.retained in
-      (elim r.returned as (λ b. kept ≡ cond b ((session.0, session.1, r.payload) ∷ r.rest) r.rest
-      → IsSublist (weights_of kept) ((session.0, session.1) ∷ weights_of sessions)) [
-        | true ↦ λ is. inr (weights_of r.rest, ap weights_of is, rest)
-        | false ↦ λ is. inl (subst (λ (l : List (Session T)). IsSublist (weights_of l) (weights_of sessions)) (sym is) rest)
-      ]) r.kept_is
+  weights-retained f (session ∷ sessions) kept r = grind (arith, weights-retained r.closure sessions r.rest r.retained)
 
   -- and they weigh no more
   pub total_weight-retained : (f : F) (sessions kept : List (Session T))
       → RetainsSessions g f sessions kept → total_weight kept ≤ total_weight sessions
   total_weight-retained f [] kept r = let none = ap total_weight r in omega (arith, none)
   total_weight-retained f (session ∷ sessions) kept r =
-      let rest = total_weight-retained r.closure sessions r.rest r.retained in
-      let all = total_weight-cons session sessions in
-      (elim r.returned as (λ b. kept ≡ cond b ((session.0, session.1, r.payload) ∷ r.rest) r.rest
-      → total_weight kept ≤ total_weight (session ∷ sessions)) [
-        | true ↦ λ is. let some = ap total_weight is in
-            let stays = total_weight-cons (session.0, session.1, r.payload) r.rest in
-            omega (arith, rest, all, some, stays)
-        | false ↦ λ is. let some = ap total_weight is in omega (arith, rest, all, some)
-      ]) r.kept_is
+      grind (arith, total_weight-cons, total_weight-retained r.closure sessions r.rest r.retained)
 
 -- the weight of the first of the sessions that pairs stand for, and of the others
-pub total_weight-next : {T : Type 0} (pairs : List (ℕ × Weighted T)) (pair : ℕ × Weighted T)
-    (rest : List (ℕ × Weighted T)) → pairs ≡ pair ∷ rest
-    → total_weight (sessions_of pairs) ≡ pair.1.weight + total_weight (sessions_of rest)
+pub total_weight-next : {T : Type 0} (pairs : List (ℕ × Weighted T)) (pair : ℕ × Weighted T) (rest : List (ℕ × Weighted T))
+    → pairs ≡ pair ∷ rest → total_weight (sessions_of pairs) ≡ pair.1.weight + total_weight (sessions_of rest)
 total_weight-next pairs pair rest is = ap (λ ps. total_weight (sessions_of ps)) is
     ∙ total_weight-cons (pair.0, pair.1.weight, pair.1.payload) (sessions_of rest)
 
@@ -58,45 +43,25 @@ module _ {C F T : Type 0} (calls : C → ℕ → Weighted T → Bool → Weighte
     → CalledAtSession g (inner c) (id, weighted.weight, weighted.payload) b left.payload (inner c')
     × (left.weight ≡ weighted.weight)) where
   sessions_of-cond : (b : Bool) (id : ℕ) (left : Weighted T) (pairs : List (ℕ × Weighted T))
-      → sessions_of (cond b ((id, left) ∷ pairs) pairs)
-      ≡ cond b ((id, left.weight, left.payload) ∷ sessions_of pairs) (sessions_of pairs)
-  sessions_of-cond true id left pairs = refl
-  sessions_of-cond false id left pairs = refl
+      → sessions_of (cond b ((id, left) ∷ pairs) pairs) ≡ cond b ((id, left.weight, left.payload) ∷ sessions_of pairs) (sessions_of pairs)
+  sessions_of-cond b id left pairs = grind arith
 
-  pub sessions-retained : (c : C) (pairs kept : List (ℕ × Weighted T))
-      → RetainsPairs calls c pairs kept
+  pub sessions-retained : (c : C) (pairs kept : List (ℕ × Weighted T)) → RetainsPairs calls c pairs kept
       → RetainsSessions g (inner c) (sessions_of pairs) (sessions_of kept)
   sessions-retained c [] kept r = ap sessions_of r
   sessions-retained c (pair ∷ pairs) kept r =
       let of = first-retained calls c pair pairs kept r in
-      let said = says c pair.0 pair.1 of.returned of.value of.closure of.called in record {
-        returned = of.returned;
-        payload = of.value.payload;
-        closure = inner of.closure;
-        rest = sessions_of of.rest;
-        called = said.0;
-        retained = sessions-retained of.closure pairs of.rest of.retained;
-        kept_is = ap sessions_of of.kept_is ∙ sessions_of-cond of.returned pair.0 of.value of.rest
-            ∙ (λ i. cond of.returned ((pair.0, said.1 i, of.value.payload) ∷ sessions_of of.rest)
-            (sessions_of of.rest));
-      }
+      grind (arith, sessions_of-cond, sessions-retained of.closure pairs of.rest of.retained)
 
-  calls-sessions : (c : C) (pairs : List (ℕ × Weighted T)) (c' : C)
-      → FoldsTo (SomeCallAtPair calls) c pairs c'
+  calls-sessions : (c : C) (pairs : List (ℕ × Weighted T)) (c' : C) → FoldsTo (SomeCallAtPair calls) c pairs c'
       → FoldsTo (SomeCallAtSession g) (inner c) (sessions_of pairs) (inner c')
   calls-sessions c [] c' end = ap inner end
-  calls-sessions c (pair ∷ pairs) c' steps = (
-    inner steps.0,
-    (steps.1.0, steps.1.1.payload, (says c pair.0 pair.1 steps.1.0 steps.1.1 steps.0 steps.1.2).0),
-    calls-sessions steps.0 pairs c' steps.2,
-  )
+  calls-sessions c (pair ∷ pairs) c' steps = grind (arith, calls-sessions steps.0 pairs c' steps.2)
 
   -- it may be called at each pair if the other may be called at each session
   pub callable-sessions : (Takes : C → ℕ → Weighted T → Type 0)
-      → ((c : C) (id : ℕ) (weighted : Weighted T)
-      → TakesSession g (inner c) (id, weighted.weight, weighted.payload) → Takes c id weighted)
-      → (c : C) (pairs : List (ℕ × Weighted T))
-      → CallableOnEachSession g (inner c) (sessions_of pairs)
+      → ((c : C) (id : ℕ) (weighted : Weighted T) → TakesSession g (inner c) (id, weighted.weight, weighted.payload) → Takes c id weighted)
+      → (c : C) (pairs : List (ℕ × Weighted T)) → CallableOnEachSession g (inner c) (sessions_of pairs)
       → CallableOnEachPair calls Takes c pairs
   callable-sessions Takes takes c pairs callable =
       record {
@@ -108,8 +73,6 @@ module _ {C F T : Type 0} (calls : C → ℕ → Weighted T → Bool → Weighte
             (calls-sessions c before c' steps));
       }
 
-  pub lighter-retained : (c : C) (pairs kept : List (ℕ × Weighted T))
-      → RetainsPairs calls c pairs kept
+  pub lighter-retained : (c : C) (pairs kept : List (ℕ × Weighted T)) → RetainsPairs calls c pairs kept
       → total_weight (sessions_of kept) ≤ total_weight (sessions_of pairs)
-  lighter-retained c pairs kept r = total_weight-retained g (inner c) (sessions_of pairs)
-      (sessions_of kept) (sessions-retained c pairs kept r)
+  lighter-retained c pairs kept r = grind (arith, total_weight-retained, sessions-retained)

@@ -169,7 +169,7 @@ impl<'a, K: Eq + Hash, V, S: BuildHasher> Entry<'a, K, V, S> {
     }
 
     /// Does what `or_insert` does, with the result of `f`, which is called only if vacant, before
-    /// an allocation.
+    /// an allocation. Except for `f` it is O(1), or up to O(n) if vacant at full capacity.
     ///
     /// # Examples
     ///
@@ -206,7 +206,8 @@ impl<'a, K: Eq + Hash, V, S: BuildHasher> Entry<'a, K, V, S> {
         vacant.insert(value)
     }
 
-    /// Does what `or_insert_with` does, with an `f` that is given the key.
+    /// Does what `or_insert_with` does, with an `f` that is given the key. Except for `f` it is
+    /// O(1), or up to O(n) if vacant at full capacity.
     ///
     /// # Examples
     ///
@@ -250,9 +251,9 @@ impl<'a, K: Eq + Hash, V, S: BuildHasher> Entry<'a, K, V, S> {
     }
 
     /// Does what `or_insert` does, with a value that is made only if vacant, before a growth: the
-    /// default of a type that has one, such as a number, and otherwise what
-    /// [`made_with`](MadeWith::made_with) makes on the map's allocator, such as an empty vector,
-    /// text or map.
+    /// default of a type that has one, such as a number, and otherwise what `MadeWith::made_with`
+    /// makes on the map's allocator, such as an empty vector, text or map. Except for making the
+    /// value it is O(1), or up to O(n) if vacant at full capacity.
     ///
     /// # Examples
     ///

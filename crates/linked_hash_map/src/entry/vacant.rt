@@ -56,7 +56,8 @@ impl<'a, K: Eq + Hash, V, S: BuildHasher> VacantEntry<'a, K, V, S> {
     }
 
     /// Inserts the key and a value at the back, and returns a mutable reference to the value. It
-    /// allocates, costs and is refused as [`insert`](crate::LinkedHashMap::insert) of a new key.
+    /// allocates and is refused as [`insert`](crate::LinkedHashMap::insert) of a new key. It is
+    /// O(1), or up to O(n) at full capacity.
     ///
     /// # Examples
     ///

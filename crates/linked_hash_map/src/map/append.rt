@@ -74,7 +74,7 @@ impl<K: Eq + Hash, V, S: BuildHasher> LinkedHashMap<K, V, S> {
             Ok(()) => {}
             Err(_) => unreachable!(),
         }
-        self.visit.active = false;
+        self.state.active = false;
         Ok(())
     }
 

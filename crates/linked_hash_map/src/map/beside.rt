@@ -65,7 +65,7 @@ impl<K: Eq + Hash, V, S: BuildHasher> LinkedHashMap<K, V, S> {
             return false;
         };
         let next = place_beside(&self.table, beside, after);
-        self.visit.active = false;
+        self.state.active = false;
         self.table.move_before(at, next);
         true
     }

@@ -92,7 +92,7 @@ impl<K: Eq + Hash, V, S: BuildHasher> LinkedHashMap<K, V, S> {
     {
         match self.table.shrink_to_fit() {
             Ok(()) => {
-                self.visit.active = false;
+                self.state.active = false;
                 Ok(())
             }
             Err(_) => Err(NoRoom),

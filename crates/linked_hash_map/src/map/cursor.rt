@@ -10,86 +10,119 @@ ghost use Rattle.linked_hash_map.specs.Hashers.{hash_by};
 ghost use Rattle.linked_hash_map.specs.Indexes.{IsIndex};
 ghost use Rattle.linked_hash_map.specs.Nodes.{bookmark_of, unvisited_of, current_of};
 ghost use Rattle.lhm_ring.specs.Nodes.{IsApart};
-ghost use Rattle.lhm_ring.specs.Pointer.{pointer_of, pointer_of_some};
+ghost use Rattle.lhm_ring.specs.Pointer.{pointer_of, pointer_of_some, target};
 ghost use Rattle.lhm_ring.specs.Ring.{IsHeld, AtHeld, first_at};
 
-use super::LinkedHashMap;
 use super::get::locate;
 use super::insert::touch;
+use super::{LinkedHashMap, Mode};
+use lhm_ring::ring::Link;
 use lhm_ring::table::{Position, Table};
-use std::alloc::AllocError;
 use std::hash::{BuildHasher, Hash};
 use std::mem;
 
-/// Where a cursor or an entry stands.
-pub(super) struct Visit<K, V> {
-    /// Whether the other fields mean anything. A call that ends a visit clears this alone.
+/// Returns a link that leads nowhere.
+#[inline]
+fn nowhere() -> Link
+    ensures { target result ≡ None }
+{
+    Link::of(None::<Position<(), ()>>)
+}
+
+/// What a map has beside its pairs and its hasher: the mode, and where a cursor or an entry stands.
+#[derive(Clone, Copy)]
+pub(super) struct State {
+    /// Whether `bookmark`, `unvisited` and `current` mean anything. A call that ends a visit clears
+    /// this alone.
     pub(super) active: bool,
+    /// Whether inserting a present key moves its pair. It shares a word with `active`.
+    pub(super) mode: Mode,
     /// The next pair to visit.
-    pub(super) bookmark: Option<Position<K, V>>,
+    bookmark: Link,
     /// The number of pairs left to visit.
-    pub(super) unvisited: usize,
+    unvisited: usize,
     /// The pair of an occupied entry.
-    pub(super) current: Option<Position<K, V>>,
+    current: Link,
 }
 
-impl<K, V> Clone for Visit<K, V> {
-    fn clone(&self) -> Result<Self, AllocError> {
-        Ok(*self)
-    }
-}
-
-impl<K, V> Copy for Visit<K, V> {}
-
-impl<K, V> Visit<K, V> {
-    /// Returns no visit.
-    pub(super) fn none() -> Self
+impl State {
+    /// Returns the state of a map without a visit and an entry.
+    pub(super) fn new(mode: Mode) -> Self
         ensures bookmark { bookmark_of result ≡ None }
         ensures unvisited { unvisited_of result ≡ 0 }
         ensures current { current_of result ≡ None }
+        ensures mode { result.mode ≡ mode }
     {
-        Visit {
+        State {
             active: false,
-            bookmark: None,
+            mode,
+            bookmark: nowhere(),
             unvisited: 0,
-            current: None,
+            current: nowhere(),
         }
     }
 
-    /// Returns no visit, with a pair as the current one.
+    /// Returns the state of a map with an entry of a pair, and no visit.
     #[inline]
-    pub(super) fn at(current: Position<K, V>) -> Self
+    pub(super) fn at<K, V>(current: Position<K, V>, mode: Mode) -> Self
         ensures bookmark { bookmark_of result ≡ None }
         ensures unvisited { unvisited_of result ≡ 0 }
         ensures current { current_of result ≡ Some (pointer_of current) }
+        ensures mode { result.mode ≡ mode }
     {
-        Visit {
+        State::on(None, 0, Some(current), mode)
+    }
+
+    /// Returns the state of a map with a visit: its next pair, how many are left, and the current
+    /// pair.
+    #[inline]
+    fn on<K, V>(
+        bookmark: Option<Position<K, V>>,
+        unvisited: usize,
+        current: Option<Position<K, V>>,
+        mode: Mode,
+    ) -> Self
+        ensures bookmark { bookmark_of result ≡ pointer_of_some bookmark }
+        ensures unvisited { unvisited_of result ≡ unvisited }
+        ensures current { current_of result ≡ pointer_of_some current }
+        ensures mode { result.mode ≡ mode }
+    {
+        State {
             active: true,
-            bookmark: None,
-            unvisited: 0,
-            current: Some(current),
+            mode,
+            bookmark: Link::of(bookmark),
+            unvisited,
+            current: Link::of(current),
         }
     }
 
     /// Returns the next pair to visit.
-    pub(super) fn bookmark(&self) -> Option<Position<K, V>>
+    fn bookmark<K, V>(&self) -> Option<Position<K, V>>
         ensures { pointer_of_some result ≡ bookmark_of self.now }
     {
-        if self.active { self.bookmark } else { None }
+        if self.active {
+            self.bookmark.get()
+        } else {
+            None
+        }
     }
 
     /// Returns the number of pairs left to visit.
-    pub(super) fn unvisited(&self) -> usize
+    fn unvisited(&self) -> usize
         ensures { result ≡ unvisited_of self.now }
     {
         if self.active { self.unvisited } else { 0 }
     }
 
     /// Returns the pair of an occupied entry.
-    pub(super) fn current(&self) -> Option<Position<K, V>>
+    fn current<K, V>(&self) -> Option<Position<K, V>>
         ensures { pointer_of_some result ≡ current_of self.now }
     {
-        if self.active { self.current } else { None }
+        if self.active {
+            self.current.get()
+        } else {
+            None
+        }
     }
 }
 
@@ -121,12 +154,8 @@ impl<K: Eq + Hash, V, S: BuildHasher> LinkedHashMap<K, V, S> {
         ensures keeps { Keeps self.old self.new }
         ensures valid { IsValid K.eq self.old }
     {
-        self.visit = Visit {
-            active: true,
-            bookmark: self.table.first(),
-            unvisited: self.table.len(),
-            current: None,
-        };
+        let first = self.table.first();
+        self.state = State::on(first, self.table.len(), None, self.state.mode);
     }
 
     /// Makes the next pair to visit the current one, and returns whether there was one.
@@ -143,16 +172,12 @@ impl<K: Eq + Hash, V, S: BuildHasher> LinkedHashMap<K, V, S> {
         ensures none { IsFalse result → to_visit self.old ≡ [] }
         ensures unchanged { IsFalse result → self.new ≡ self.old }
     {
-        let Some(at) = self.visit.bookmark() else {
+        let Some(at) = self.state.bookmark() else {
             return false;
         };
-        let unvisited = self.visit.unvisited() - 1;
-        self.visit = Visit {
-            active: true,
-            bookmark: bookmark_behind(&self.table, at, unvisited),
-            unvisited,
-            current: Some(at),
-        };
+        let unvisited = self.state.unvisited() - 1;
+        let next = bookmark_behind(&self.table, at, unvisited);
+        self.state = State::on(next, unvisited, Some(at), self.state.mode);
         true
     }
 
@@ -172,7 +197,7 @@ impl<K: Eq + Hash, V, S: BuildHasher> LinkedHashMap<K, V, S> {
     pub fn unvisited(&self) -> usize
         ensures { result ≡ length (to_visit self.now) }
     {
-        self.visit.unvisited()
+        self.state.unvisited()
     }
 
     /// Makes the pair of a key the current one, ending a visit, and returns the hash of the key,
@@ -197,7 +222,7 @@ impl<K: Eq + Hash, V, S: BuildHasher> LinkedHashMap<K, V, S> {
         let Some(at) = found else {
             return (hash, false);
         };
-        self.visit = Visit::at(at);
+        self.state = State::at(at, self.state.mode);
         (hash, true)
     }
 
@@ -208,7 +233,7 @@ impl<K: Eq + Hash, V, S: BuildHasher> LinkedHashMap<K, V, S> {
             ≡ Some (result.0.now, result.1.now) }
         ensures valid { IsValid K.eq self.now }
     {
-        let at = self.visit.current().unwrap();
+        let at = self.state.current().unwrap();
         (self.table.key(at), self.table.value(at))
     }
 
@@ -223,7 +248,7 @@ impl<K: Eq + Hash, V, S: BuildHasher> LinkedHashMap<K, V, S> {
             ≡ Some result.now }
         ensures valid { IsValid K.eq self.old }
     {
-        let at = self.visit.current().unwrap();
+        let at = self.state.current().unwrap();
         self.table.value_mut(at)
     }
 
@@ -238,8 +263,8 @@ impl<K: Eq + Hash, V, S: BuildHasher> LinkedHashMap<K, V, S> {
             ≡ Some result.now }
         ensures valid { IsValid K.eq self.old }
     {
-        let at = self.visit.current().unwrap();
-        self.visit.current = None;
+        let at = self.state.current().unwrap();
+        self.state.current = nowhere();
         self.table.value_mut(at)
     }
 
@@ -255,8 +280,8 @@ impl<K: Eq + Hash, V, S: BuildHasher> LinkedHashMap<K, V, S> {
             ≡ Some result }
         ensures moves { MovesCurrent K.eq (λ pair. (pair.0, value)) self.old self.new }
     {
-        let at = self.visit.current().unwrap();
-        touch(&mut self.table, at, self.mode);
+        let at = self.state.current().unwrap();
+        touch(&mut self.table, at, self.state.mode);
         mem::replace(self.table.value_mut(at), value)
     }
 
@@ -268,7 +293,7 @@ impl<K: Eq + Hash, V, S: BuildHasher> LinkedHashMap<K, V, S> {
             self.new.pairs ≡ to_back_as_is K.eq self.old.pairs key }
         ensures moves { MovesCurrent K.eq (λ pair. pair) self.old self.new }
     {
-        let at = self.visit.current().unwrap();
+        let at = self.state.current().unwrap();
         self.table.move_to_back(at);
     }
 
@@ -280,7 +305,7 @@ impl<K: Eq + Hash, V, S: BuildHasher> LinkedHashMap<K, V, S> {
             self.new.pairs ≡ to_front K.eq self.old.pairs key }
         ensures moves { MovesCurrent K.eq (λ pair. pair) self.old self.new }
     {
-        let at = self.visit.current().unwrap();
+        let at = self.state.current().unwrap();
         self.table.move_to_front(at);
     }
 
@@ -295,7 +320,7 @@ impl<K: Eq + Hash, V, S: BuildHasher> LinkedHashMap<K, V, S> {
         ensures pairs { self.new.pairs ≡ set_key K.eq self.old.pairs key }
         ensures moves { MovesCurrent K.eq (λ pair. (key, pair.1)) self.old self.new }
     {
-        let at = self.visit.current().unwrap();
+        let at = self.state.current().unwrap();
         self.table.replace_key(at, key)
     }
 
@@ -311,8 +336,8 @@ impl<K: Eq + Hash, V, S: BuildHasher> LinkedHashMap<K, V, S> {
         ensures valid { IsValid K.eq self.old }
         ensures stays_valid { IsValid K.eq self.new }
     {
-        let at = self.visit.current().unwrap();
-        self.visit.current = None;
+        let at = self.state.current().unwrap();
+        self.state.current = nowhere();
         self.table.remove_at(at)
     }
 }

@@ -7,7 +7,7 @@ ghost use Rattle.linked_hash_map.specs.Validity.{IsValid};
 ghost use Rattle.linked_hash_map.specs.Counts.{rechained_raised};
 ghost use Rattle.linked_hash_map.specs.Updates.{Updates};
 
-use super::cursor::Visit;
+use super::cursor::State;
 use super::{LinkedHashMap, Mode};
 use crate::error::Refused;
 use std::hash::{BuildHasher, Hash};
@@ -17,8 +17,8 @@ impl<K: Eq + Hash, V, S: BuildHasher> LinkedHashMap<K, V, S> {
     /// new. For a present key the stored key stays, `key` is dropped, and in [`Mode::Keep`] the
     /// pair keeps its place. Hashes the key once.
     ///
-    /// It allocates, and is refused, as [`insert`](LinkedHashMap::insert) is, and costs as much. An
-    /// insertion ends a visit.
+    /// It allocates, and is refused, as [`insert`](LinkedHashMap::insert) is. It is O(1), or up to
+    /// O(n) at full capacity. An insertion ends a visit.
     ///
     /// # Examples
     ///
@@ -106,7 +106,7 @@ impl<K: Eq + Hash, V, S: BuildHasher> LinkedHashMap<K, V, S> {
         ensures len { length self.new.pairs ≡ length self.old.pairs }
         ensures finds { (q : K) → find K.eq self.new.pairs q ≡ find K.eq self.old.pairs q }
     {
-        match self.mode {
+        match self.state.mode {
             Mode::Touch => self.last_to_front(),
             Mode::Keep => {}
         }
@@ -127,7 +127,7 @@ impl<K: Eq + Hash, V, S: BuildHasher> LinkedHashMap<K, V, S> {
         let Some(front) = self.table.first() else {
             return false;
         };
-        self.visit = Visit::at(front);
+        self.state = State::at(front, self.state.mode);
         true
     }
 
@@ -146,7 +146,7 @@ impl<K: Eq + Hash, V, S: BuildHasher> LinkedHashMap<K, V, S> {
         let Some(back) = self.table.last() else {
             return false;
         };
-        self.visit = Visit::at(back);
+        self.state = State::at(back, self.state.mode);
         true
     }
 }

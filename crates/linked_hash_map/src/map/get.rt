@@ -174,7 +174,7 @@ impl<K: Eq + Hash, V, S: BuildHasher> LinkedHashMap<K, V, S> {
         let (_, found) = locate(&self.table, &self.hasher, key);
         match found {
             Some(at) => {
-                self.visit.active = false;
+                self.state.active = false;
                 self.table.move_to_back(at);
                 Some(self.table.value_mut(at))
             }

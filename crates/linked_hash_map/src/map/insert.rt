@@ -91,8 +91,8 @@ impl<K: Eq + Hash, V, S: BuildHasher> LinkedHashMap<K, V, S> {
     {
         let (hash, found) = locate(&self.table, &self.hasher, &key);
         if let Some(at) = found {
-            self.visit.active = false;
-            touch(&mut self.table, at, self.mode);
+            self.state.active = false;
+            touch(&mut self.table, at, self.state.mode);
             return Ok(Some(mem::replace(self.table.value_mut(at), value)));
         }
         if !self.make_room() {

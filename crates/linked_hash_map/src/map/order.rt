@@ -42,7 +42,7 @@ impl<K: Eq + Hash, V, S: BuildHasher> LinkedHashMap<K, V, S> {
         let (_, found) = locate(&self.table, &self.hasher, key);
         match found {
             Some(at) => {
-                self.visit.active = false;
+                self.state.active = false;
                 self.table.move_to_back(at);
                 true
             }
@@ -81,7 +81,7 @@ impl<K: Eq + Hash, V, S: BuildHasher> LinkedHashMap<K, V, S> {
         let (_, found) = locate(&self.table, &self.hasher, key);
         match found {
             Some(at) => {
-                self.visit.active = false;
+                self.state.active = false;
                 self.table.move_to_front(at);
                 true
             }
@@ -115,7 +115,7 @@ impl<K: Eq + Hash, V, S: BuildHasher> LinkedHashMap<K, V, S> {
         ensures len { length self.new.pairs ≡ length self.old.pairs }
         ensures finds { (q : K) → find K.eq self.new.pairs q ≡ find K.eq self.old.pairs q }
     {
-        self.visit.active = false;
+        self.state.active = false;
         self.table.rotate_left(count);
     }
 
@@ -141,7 +141,7 @@ impl<K: Eq + Hash, V, S: BuildHasher> LinkedHashMap<K, V, S> {
         ensures len { length self.new.pairs ≡ length self.old.pairs }
         ensures finds { (q : K) → find K.eq self.new.pairs q ≡ find K.eq self.old.pairs q }
     {
-        self.visit.active = false;
+        self.state.active = false;
         self.table.reverse();
     }
 }

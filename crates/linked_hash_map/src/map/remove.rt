@@ -81,7 +81,7 @@ impl<K: Eq + Hash, V, S: BuildHasher> LinkedHashMap<K, V, S> {
     {
         let hash = self.hasher.hash_one(key);
         let pair = self.table.remove(hash, key)?;
-        self.visit.active = false;
+        self.state.active = false;
         Some(pair)
     }
 
@@ -108,7 +108,7 @@ impl<K: Eq + Hash, V, S: BuildHasher> LinkedHashMap<K, V, S> {
         ensures gone { IfSome result (λ pair. find K.eq self.new.pairs pair.0 ≡ None) }
     {
         let front = self.table.first()?;
-        self.visit.active = false;
+        self.state.active = false;
         Some(self.table.remove_at(front))
     }
 
@@ -135,7 +135,7 @@ impl<K: Eq + Hash, V, S: BuildHasher> LinkedHashMap<K, V, S> {
         ensures gone { IfSome result (λ pair. find K.eq self.new.pairs pair.0 ≡ None) }
     {
         let back = self.table.last()?;
-        self.visit.active = false;
+        self.state.active = false;
         Some(self.table.remove_at(back))
     }
 
@@ -173,7 +173,7 @@ impl<K: Eq + Hash, V, S: BuildHasher> LinkedHashMap<K, V, S> {
         ensures valid { IsValid K.eq self.old }
         ensures stays_valid { IsValid K.eq self.new }
     {
-        self.visit.active = false;
+        self.state.active = false;
         self.table.retain(keep);
     }
 
@@ -197,7 +197,7 @@ impl<K: Eq + Hash, V, S: BuildHasher> LinkedHashMap<K, V, S> {
         ensures valid { IsValid K.eq self.old }
         ensures stays_valid { IsValid K.eq self.new }
     {
-        self.visit.active = false;
+        self.state.active = false;
         drop(self.table.drain());
     }
 
@@ -229,7 +229,7 @@ impl<K: Eq + Hash, V, S: BuildHasher> LinkedHashMap<K, V, S> {
         ensures stays { DrainKeepsAlong DrainSteps result }
         ensures stays_back { DrainKeepsAlong DrainStepsBack result }
     {
-        self.visit.active = false;
+        self.state.active = false;
         Drain::new(self.table.drain())
     }
 }

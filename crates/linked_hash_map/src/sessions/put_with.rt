@@ -19,7 +19,8 @@ impl<T> Sessions<T> {
     /// back the payload, changes nothing and calls nothing.
     ///
     /// Only a new id at full capacity that removes none allocates: it raises the capacity by one.
-    /// The costs are those of `put`.
+    /// Except for the closure it is O(1), and O(1) more for each session removed, or O(n) if the
+    /// number of buckets changes.
     ///
     /// # Examples
     ///

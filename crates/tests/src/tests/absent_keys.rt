@@ -1,7 +1,7 @@
 //! Lookups of absent keys in a large map, each in constant time.
 
 use super::support::checks::{check, check_eq, given};
-use super::support::multiple::{BuildMultiple, KEY};
+use super::support::hashers::{BuildMultiple, KEY};
 use linked_hash_map::{Entry, LinkedHashMap, Probe};
 use std::alloc::Global;
 use std::process::Abort;

@@ -1,11 +1,15 @@
-//! Iterators that a caller chains, collects or loops over.
-ghost use Rattle.std.specs.Prelude.{◌≡◌, ◌∷◌, ◌^◌, ◌<◌, [], filter, nat_lt, reverse, sum_by, IfOk};
+//! Iterators that a caller chains, collects or loops over, and callers that drain a map: however the
+//! iterator ends, the map is empty then, and keeps its capacity and its hasher.
+ghost use Rattle.std.specs.Prelude.{◌≡◌, ◌∷◌, ◌^◌, ◌<◌, [], filter, nat_lt, reverse, slice_get, sum_by, IfOk};
 ghost use Rattle.std.specs.Map.{keys_of, values_of};
 
-use super::support::calls::{assert_get, check_insert, insert_all};
+use super::support::calls::{assert_get, assert_sizes, check_insert, insert_all};
 use super::support::checks::{check_eq, given};
+use super::{assert_pairs, map_of};
 use linked_hash_map::{LinkedHashMap, Refused};
 use std::alloc::{AllocError, Global};
+use std::hash::{BuildHasher, Hash};
+use std::mem::forget;
 use std::process::Abort;
 
 // Callers that chain an iterator, and know what the list gives.
@@ -92,4 +96,43 @@ fn drains_into_a_vector(rt: HostRuntime) {
     insert_all(&rt, &mut map, &[(5, 50)]);
     let pairs = given!(rt; drained(rt.alloc(), &mut map));
     check_eq!(rt; pairs.as_slice(), [(5, 50)].as_slice());
+}
+
+// A step from each end. What is left is dropped.
+fn drain_both_ends<K: Eq + Hash + Drop, V: Drop, S: BuildHasher>(
+    map: &mut LinkedHashMap<K, V, S>,
+) -> (Option<(K, V)>, Option<(K, V)>)
+    ensures first { result.0 ≡ slice_get map.old.pairs 0 }
+    ensures pairs { map.new.pairs ≡ [] }
+    ensures capacity { map.new.capacity ≡ map.old.capacity }
+    ensures hasher { map.new.hasher ≡ map.old.hasher }
+{
+    let mut pairs = map.drain();
+    let first = pairs.next();
+    (first, pairs.next_back())
+}
+
+// A step, after which the iterator is forgotten.
+fn drain_and_forget(map: &mut LinkedHashMap<u64, u64>) -> usize
+    ensures none { result ≡ 0 }
+    ensures pairs { map.new.pairs ≡ [] }
+    ensures capacity { map.new.capacity ≡ map.old.capacity }
+    ensures hasher { map.new.hasher ≡ map.old.hasher }
+{
+    let mut pairs = map.drain();
+    pairs.next();
+    forget(pairs);
+    map.len()
+}
+
+#[test]
+fn empties_the_map_however_the_iterator_ends(rt: HostRuntime) {
+    let mut map = map_of(&rt, rt.alloc(), &[(1, 10), (2, 20), (3, 30)]);
+    check_eq!(rt; drain_both_ends(&mut map), (Some((1, 10)), Some((3, 30))));
+    insert_all(&rt, &mut map, &[(1, 10), (2, 20)]);
+    check_eq!(rt; drain_and_forget(&mut map), 0);
+    assert_get(&rt, &map, &2, None);
+    insert_all(&rt, &mut map, &[(2, 21)]);
+    assert_pairs(&rt, &map, &[(2, 21)]);
+    assert_sizes(&rt, &map, 1, 3);
 }

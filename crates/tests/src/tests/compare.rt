@@ -2,7 +2,7 @@
 
 use super::map_of;
 use super::support::checks::{check_eq, given};
-use super::support::written::Written;
+use super::support::hashers::Written;
 use linked_hash_map::LinkedHashMap;
 use std::cmp::Ordering;
 use std::hash::Hash;

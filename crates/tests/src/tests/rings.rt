@@ -1,4 +1,4 @@
-//! The ring.
+//! The ring, and its nodes that are used again and move.
 ghost use Rattle.std.specs.Prelude.{◌≡◌, [], ◌∷◌, ◌++◌, map, None};
 ghost use Rattle.lhm_ring.specs.Ring.{IsHeld, AtHeld, held, unvalued};
 ghost use Rattle.lhm_ring.specs.Pointer.{pointer_of};
@@ -63,8 +63,6 @@ fn follows_the_worked_row(rt: HostRuntime) {
     check!(rt; is_ring(&ring, &[(7, 'a', 1), (7, 'b', 2), (9, 'c', 3)], 0));
     ring.move_to_back(a);
     check!(rt; is_ring(&ring, &[(7, 'b', 2), (9, 'c', 3), (7, 'a', 1)], 0));
-    ring.move_to_front(c);
-    check!(rt; is_ring(&ring, &[(9, 'c', 3), (7, 'b', 2), (7, 'a', 1)], 0));
     check_eq!(rt; ring.unlink(c), (9, 'c', 3));
     check!(rt; is_ring(&ring, &[(7, 'b', 2), (7, 'a', 1)], 1));
     drain_two(&rt, ring.splice_all());
@@ -244,4 +242,32 @@ fn refuses_a_size_that_cannot_be_had(rt: HostRuntime) {
     check_eq!(rt; ring.grow(usize::MAX), Err(AllocError));
     check_eq!(rt; ring.grow(1 << 59), Err(AllocError));
     check!(rt; is_ring(&ring, &[(7, 'a', 1)], 1));
+}
+
+#[test]
+fn uses_freed_nodes_again(rt: HostRuntime) {
+    let mut ring = with_spares(&rt, rt.alloc(), 3);
+    put(&rt, &mut ring, 7, 'a', 1);
+    ring.free_spares();
+    check!(rt; is_ring(&ring, &[(7, 'a', 1)], 0));
+    check_eq!(rt; ring.grow(1), Ok(()));
+    put(&rt, &mut ring, 8, 'b', 2);
+    check_eq!(rt; ring.grow_within(2, 4), Ok(()));
+    put(&rt, &mut ring, 9, 'c', 3);
+    check!(rt; is_ring(&ring, &[(7, 'a', 1), (8, 'b', 2), (9, 'c', 3)], 1));
+}
+
+#[test]
+fn moves_what_is_held_into_as_many_nodes(rt: HostRuntime) {
+    let mut ring = with_spares(&rt, rt.alloc(), 5);
+    put(&rt, &mut ring, 7, 'a', 1);
+    let b = put(&rt, &mut ring, 8, 'b', 2);
+    put(&rt, &mut ring, 9, 'c', 3);
+    check_eq!(rt; ring.unlink(b), (8, 'b', 2));
+    check_eq!(rt; ring.compact(), Ok(()));
+    check!(rt; is_ring(&ring, &[(7, 'a', 1), (9, 'c', 3)], 0));
+    check_eq!(rt; ring.iter().next_back(), Some((9, &'c', &3)));
+    check_eq!(rt; ring.grow(1), Ok(()));
+    put(&rt, &mut ring, 6, 'd', 4);
+    check!(rt; is_ring(&ring, &[(7, 'a', 1), (9, 'c', 3), (6, 'd', 4)], 0));
 }

@@ -4,5 +4,3 @@ pub mod calls;
 pub mod checks;
 pub mod counting;
 pub mod hashers;
-pub mod multiple;
-pub mod written;

@@ -1,8 +1,7 @@
 //! Calls and traits of a map.
 
 use super::super::support::checks::{check, check_eq, given};
-use super::super::support::hashers::BuildSame;
-use super::super::support::written::Written;
+use super::super::support::hashers::{BuildSame, Written};
 use linked_hash_map::{
     Drain, Entries, Entry, IntoIter, Iter, IterMut, Keys, LIMIT, LinkedHashMap, Mode, NoRoom,
     Probe, Refused, ReserveError, Values,

@@ -1,28 +1,23 @@
-use Rattle.std.proofs.Common.{None, refl, ap, ◌∙◌}
-use Rattle.lhm_ring.proofs.tables.Positions.{MovedTo-front, to_front_at-at, map-to_front_at, IsAt-entries}
-use Rattle.lhm_ring.proofs.tables.Tables.{IsHeld-table, IsTable-moved, KeepsCounts-moved}
+use Rattle.std.proofs.Common.{◌≡◌, List, [], ◌∷◌, Option, Some, None, refl, sym, ◌∙◌}
+use Rattle.std.specs.Prelude.{IfSome}
+use Rattle.lhm_ring.proofs.lists.Options.{Some-injective, none_some}
+use Rattle.lhm_ring.proofs.tables.Positions.{PlaceAt-first_at, to_before_at-first}
 use Rattle.lhm_ring.proofs.table.Table.move_to_front.Goals as goal
-use Rattle.lhm_ring.specs.Pointer.{pointer_of}
-use Rattle.lhm_ring.specs.Ring.{linked_to}
-use Rattle.lhm_ring.specs.Index.{entries}
+use Rattle.lhm_ring.specs.Pointer.{pointer_of, pointer_of_some}
+use Rattle.lhm_ring.specs.Ring.{Held, IsHeld, first_at}
+use Rattle.lhm_ring.specs.declared.pointer.Position.{Position}
 
-pub move_to_front-requires : goal.move_to_front-requires
-move_to_front-requires g c = IsHeld-table c.self.inside.ring c.self.inside.rechained c.self.view_is (pointer_of c.args.at) c.requires
+-- the first position, if there is one, is held
+IfSome-first : {K V : Type 0} (hs : List (Held (K × V))) (o : Option (Position K V)) → pointer_of_some o ≡ first_at hs
+    → IfSome o (λ next. IsHeld hs (pointer_of next))
+IfSome-first hs None is = tt
+IfSome-first [] (Some p) is = absurd (none_some _ (sym is))
+IfSome-first (t ∷ hs) (Some p) is = record { before = []; node = t; after = hs; is = refl; at_is = Some-injective _ _ (sym is) }
 
-pub invariant_of-self : goal.invariant_of-self
-invariant_of-self g c =
-    let moved = c.move_to_front.ensures in
-    let h = IsHeld-table c.self.inside.ring c.self.inside.rechained c.self.view_is (pointer_of c.args.at) c.requires in
-    IsTable-moved c.self.invariant (MovedTo-front h moved.first) moved.spares moved.nodes
+pub move_before-requires-clause-before : goal.move_before-requires-clause-before
+move_before-requires-clause-before g c = IfSome-first c.args.self.now.held _ c.first-front.ensures
 
 pub returns-clause-held : goal.returns-clause-held
 returns-clause-held g c =
-    let hs = c.self.inside.ring.held in
-    rw (← c.self.view_is) (λ i at. ap entries (to_front_at-at hs i (IsAt-entries hs i refl at) c.move_to_front.ensures.first)
-    ∙ map-to_front_at (linked_to None) hs i)
-
-pub returns-clause-keeps : goal.returns-clause-keeps
-returns-clause-keeps g c =
-    let s = c.self.inside.ring in let r = c.self.inside.rechained in let moved = c.move_to_front.ensures in
-    let h = IsHeld-table s r c.self.view_is (pointer_of c.args.at) c.requires in
-    KeepsCounts-moved s r c.self.view_is (MovedTo-front h moved.first) moved.spares moved.nodes
+    let hs = c.args.self.now.held in
+    λ i at. c.move_before.ensures.held i 0 at (PlaceAt-first_at hs ∙ sym c.first-front.ensures) ∙ to_before_at-first hs i

@@ -22,7 +22,7 @@ has g c = (of-Some _ c.in-Some.is c.locate-hash.ensures.found).has
 
 -- and the node there is moved by the map's mode
 moved : (g : _) (c : goal.After-drop-key g) → IsTouchedAt (pointer_of c.in-Some.at)
-    c.self.inside.mode c.self.inside.table.held c.touch.new.table.held
+    c.self.inside.state.mode c.self.inside.table.held c.touch.new.table.held
 moved g c = record { lies = index_of-HasKey (has g c); touched = c.touch.ensures.touched }
 
 -- a key that is not found is absent
@@ -33,7 +33,7 @@ pub value_mut-requires : goal.value_mut-requires
 value_mut-requires g c =
     let hs = c.self.inside.table.held in
     let there = (of-Some _ c.in-Some.is c.locate-hash.ensures.found).has in
-    let moved : IsTouchedAt (pointer_of c.in-Some.at) c.self.inside.mode hs c.touch.new.table.held =
+    let moved : IsTouchedAt (pointer_of c.in-Some.at) c.self.inside.state.mode hs c.touch.new.table.held =
     record { lies = index_of-HasKey there; touched = c.touch.ensures.touched } in
     held-at _ _ (touched_at moved)
 
@@ -56,7 +56,7 @@ returns-in-Some-clause-pairs g c =
     rw (← c.self.view_is) (
     pairs-put g.met.K.Eq.laws (IsIndex-index_of there) (distinct_keys c.self.inside.table.held c.self.invariant) (moved g c)
     c.value_mut.ensures.alone c.replace.new.dest
-    ∙ ap (put g.K.PartialEq.eq m.mode (pairs_of m.table.held) c.args.key) c.replace.ensures.after
+    ∙ ap (put g.K.PartialEq.eq m.state.mode (pairs_of m.table.held) c.args.key) c.replace.ensures.after
     )
 
 pub returns-in-Some-clause-updates : goal.returns-in-Some-clause-updates

@@ -19,19 +19,19 @@ touch-requires g c = held-at _ _ (IsAt-current c.self.inside.table.held c.self.i
 pub value_mut-requires : goal.value_mut-requires
 value_mut-requires g c =
     let is = current_of-Some c.current.ensures c.unwrap-at.ensures in
-    let moved : IsTouchedAt (pointer_of c.unwrap-at.result) c.self.inside.mode
+    let moved : IsTouchedAt (pointer_of c.unwrap-at.result) c.self.inside.state.mode
     c.self.inside.table.held c.touch.new.table.held =
     record { lies = index_of-current c.self.inside.table.held c.self.invariant is; touched = c.touch.ensures.touched } in
     held-at _ _ (touched_at moved)
 
 -- the current pair's node, which is moved by the map's mode, and is none of those to visit
 now : (g : _) (c : goal.After-self-1 g)
-    → IsCurrent (visit_of c.self.inside.visit) c.self.inside.table.held (pointer_of c.unwrap-at.result)
+    → IsCurrent (visit_of c.self.inside.state) c.self.inside.table.held (pointer_of c.unwrap-at.result)
 now g c = IsCurrent-outside c.self.inside.table.held c.self.invariant c.current.ensures c.unwrap-at.ensures c.args.self.now
     (ap (λ m. m.cursor) c.self.view_is) c.requires.outside
 
 moved : (g : _) (c : goal.After-self-1 g) → IsTouchedAt (pointer_of c.unwrap-at.result)
-    c.self.inside.mode c.self.inside.table.held c.touch.new.table.held
+    c.self.inside.state.mode c.self.inside.table.held c.touch.new.table.held
 moved g c = record { lies = (now g c).lies; touched = c.touch.ensures.touched }
 
 pub invariant_of-self : goal.invariant_of-self
@@ -44,7 +44,7 @@ returns-clause-pairs g c =
     rw (← c.self.view_is) (λ key index. pairs-put g.met.K.Eq.laws
     (subst (IsIndex g.K.PartialEq.eq (pairs_of hs) key) (current_at-Some (now g c).is hs) index)
     (distinct_keys c.self.inside.table.held c.self.invariant) (moved g c) c.value_mut.ensures.alone c.replace.new.dest
-    ∙ ap (put g.K.PartialEq.eq c.self.inside.mode (pairs_of hs) key) c.replace.ensures.after)
+    ∙ ap (put g.K.PartialEq.eq c.self.inside.state.mode (pairs_of hs) key) c.replace.ensures.after)
 
 pub returns-clause-old : goal.returns-clause-old
 returns-clause-old g c =

@@ -18,7 +18,7 @@ move_to_back-requires g c = held-at _ _ (IsAt-current c.self.inside.table.held c
 
 -- the current pair's node, which is none of those to visit
 now : (g : _) (c : goal.After-move_to_back g)
-    → IsCurrent (visit_of c.self.inside.visit) c.self.inside.table.held (pointer_of c.unwrap-at.result)
+    → IsCurrent (visit_of c.self.inside.state) c.self.inside.table.held (pointer_of c.unwrap-at.result)
 now g c = IsCurrent-outside c.self.inside.table.held c.self.invariant c.current.ensures c.unwrap-at.ensures c.args.self.now
     (ap (λ m. m.cursor) c.self.view_is) c.requires.outside
 

@@ -6,7 +6,7 @@ use Rattle.linked_hash_map.proofs.map.LinkedHashMap.of_empty.Goals as goal
 
 pub invariant_of-result : goal.invariant_of-result
 invariant_of-result g c =
-    let e = c.none.ensures in
+    let e = c.new.ensures in
     rw (e.bookmark, e.unvisited, e.current) (IsKept-none (ap bare c.requires.empty) c.requires.limit)
 
 pub returns-clause-valid : goal.returns-clause-valid

@@ -40,7 +40,7 @@ returns g c =
     rw (← c.self.view_is) (record {
       pairs = pairs_of-push hs u last;
       keeps = search rules;
-      cursor = λ i. cursor_state (bookmark_at-push hs u last c.self.invariant i) (unvisited_of m.visit)
+      cursor = λ i. cursor_state (bookmark_at-push hs u last c.self.invariant i) (unvisited_of m.state)
           (current_at-push hs u last c.self.invariant i);
       to_visit = to_visit-push hs u last c.self.invariant;
       stays_valid = IsValid-kept _ (invariant_of-self g c) refl refl refl;

@@ -15,7 +15,7 @@ remove_at-requires g c = held-at _ _ (IsAt-current c.self.inside.table.held c.se
 
 -- the current pair's node, which is none of those to visit
 now : (g : _) (c : goal.After-remove_at g)
-    → IsCurrent (visit_of c.self.inside.visit) c.self.inside.table.held (pointer_of c.unwrap-at.result)
+    → IsCurrent (visit_of c.self.inside.state) c.self.inside.table.held (pointer_of c.unwrap-at.result)
 now g c = IsCurrent-outside c.self.inside.table.held c.self.invariant c.current.ensures c.unwrap-at.ensures c.args.self.now
     (ap (λ m. m.cursor) c.self.view_is) c.requires.outside
 
@@ -25,8 +25,9 @@ others g c = c.remove_at.ensures.others _ (IsAt-index_of _ c.self.inside.table.h
 
 pub invariant_of-self : goal.invariant_of-self
 invariant_of-self g c =
-    IsKept-left (IsKept-taken _ _ (others g c) (now g c).lies c.self.invariant (now g c).elsewhere c.remove_at.ensures.keeps.capacity)
-    c.self.inside.visit.active
+    rw (c.nowhere-self-inside.ensures)
+    (IsKept-left (IsKept-taken _ _ (others g c) (now g c).lies c.self.invariant (now g c).elsewhere
+    c.remove_at.ensures.keeps.capacity) c.self.inside.state.active)
 
 pub returns : goal.returns
 returns g c =

@@ -38,8 +38,8 @@ pub returns-in_err-pair-clause-to_visit : goal.returns-in_err-pair-clause-to_vis
 returns-in_err-pair-clause-to_visit g c =
     let m = c.self.inside in
     rw (c.from_residual.ensures, ← c.self.view_is)
-    (ap (λ (hs : List (Held _)). take (unvisited_of m.visit)
-    (drop (bookmark_at (bookmark_of m.visit) (bare hs)) (keys_of (pairs_of hs)))) (same g c))
+    (ap (λ (hs : List (Held _)). take (unvisited_of m.state)
+    (drop (bookmark_at (bookmark_of m.state) (bare hs)) (keys_of (pairs_of hs)))) (same g c))
 
 pub returns-in_err-pair-clause-updates : goal.returns-in_err-pair-clause-updates
 returns-in_err-pair-clause-updates g c =

@@ -15,7 +15,7 @@ use Rattle.lhm_ring.specs.Pointer.{pointer_of}
 
 -- the current pair's node, which is none of those to visit
 now : (g : _) (c : goal.After-replace_key g)
-    → IsCurrent (visit_of c.self.inside.visit) c.self.inside.table.held (pointer_of c.unwrap-at.result)
+    → IsCurrent (visit_of c.self.inside.state) c.self.inside.table.held (pointer_of c.unwrap-at.result)
 now g c = IsCurrent-outside c.self.inside.table.held c.self.invariant c.current.ensures c.unwrap-at.ensures c.args.self.now
     (ap (λ m. m.cursor) c.self.view_is) c.requires.outside
 
@@ -24,14 +24,14 @@ cut g c = CutAt-index_of _ c.self.inside.table.held (now g c).lies
 
 -- its index
 index : (g : _) (c : goal.After-replace_key g)
-    → current_at (current_of c.self.inside.visit) (bare c.self.inside.table.held) ≡ length (cut g c).held.before
+    → current_at (current_of c.self.inside.state) (bare c.self.inside.table.held) ≡ length (cut g c).held.before
 index g c = current_at-Some (now g c).is c.self.inside.table.held ∙ sym (cut g c).long
 
 -- its key is the same
 same : (g : _) (c : goal.After-replace_key g) → IsTrue (g.K.PartialEq.eq c.args.key (cut g c).held.node.pair.0)
 same g c =
     let hs = c.self.inside.table.held in
-    let there : IsIndex g.K.PartialEq.eq (pairs_of hs) c.args.key (current_at (current_of c.self.inside.visit) (bare hs)) =
+    let there : IsIndex g.K.PartialEq.eq (pairs_of hs) c.args.key (current_at (current_of c.self.inside.state) (bare hs)) =
     subst (λ (m : LinkedMap g.row.K.Denot g.row.V.Denot g.row.S.Denot). IsIndex g.K.PartialEq.eq m.pairs c.args.key m.cursor.current)
     (sym c.self.view_is) c.requires.same in
     ap (λ pair. g.K.PartialEq.eq c.args.key pair.0)
@@ -63,7 +63,7 @@ returns-clause-pairs g c =
 pub returns-clause-moves : goal.returns-clause-moves
 returns-clause-moves g c =
     let m = c.self.inside in let hs = m.table.held in let ks = c.replace_key.new.self.held in
-    let visit = visit_of m.visit in let h = (cut g c).held in let rekeyed = c.replace_key.ensures.held in
+    let visit = visit_of m.state in let h = (cut g c).held in let rekeyed = c.replace_key.ensures.held in
     let as_before = index_of-rekeyed h c.args.key rekeyed (pointer_of c.unwrap-at.result) in
     let bookmark = ap (λ cursor. cursor.bookmark) (cursor_at-rekeyed h c.args.key rekeyed visit) in
     let elsewhere = (now g c).elsewhere in

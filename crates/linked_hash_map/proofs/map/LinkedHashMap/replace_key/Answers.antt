@@ -51,7 +51,7 @@ pub returns-in-Some : goal.returns-in-Some
 returns-in-Some g c =
     let it = of-Some _ c.in-Some.is c.locate-found.ensures.found in let h = it.has.held in
     let eq = g.K.PartialEq.eq in let k = c.args.key in let f = replaced eq k in let new = c.replace_key.new.self.held in
-    let visit = visit_of c.self.inside.visit in let ps = pairs_of c.self.inside.table.held in
+    let visit = visit_of c.self.inside.state in let ps = pairs_of c.self.inside.table.held in
     let b = bookmark_at visit.bookmark (bare c.self.inside.table.held) in
     rw (← c.self.view_is) (record {
       stored = ap (option_map (λ pair. pair.0)) it.pair ∙ ap Some (sym (c.replace_key.ensures.old h.before h.node h.after h.is h.at_is));
@@ -79,7 +79,7 @@ returns-in-None-clause-pairs g c =
 
 pub returns-in-None-clause-to_visit : goal.returns-in-None-clause-to_visit
 returns-in-None-clause-to_visit g c =
-    let hs = c.self.inside.table.held in let visit = visit_of c.self.inside.visit in
+    let hs = c.self.inside.table.held in let visit = visit_of c.self.inside.state in
     let keys = keys_of (pairs_of hs) in let b = bookmark_at visit.bookmark (bare hs) in
     let f = replaced g.K.PartialEq.eq c.args.key in
     rw (← c.self.view_is)

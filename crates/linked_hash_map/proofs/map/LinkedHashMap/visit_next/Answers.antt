@@ -6,14 +6,14 @@ use Rattle.lhm_ring.specs.Pointer.{pointer_of, pointer_of_some}
 
 -- the visit goes on from the pair at its bookmark
 goes : (g : _) (c : goal.After-self-1 g)
-    → Goes c.self.inside.table.held (pointer_of c.in-Some.at) (visit_of c.self.inside.visit)
+    → Goes c.self.inside.table.held (pointer_of c.in-Some.at) (visit_of c.self.inside.state)
     (record {
-      bookmark = pointer_of_some c.bookmark_behind.result;
+      bookmark = pointer_of_some c.bookmark_behind-next.result;
       unvisited = c.unvisited-unvisited.result - 1;
       current = Some (pointer_of c.in-Some.at);
     })
 goes g c =
-    let m = c.bookmark_behind in
+    let m = c.bookmark_behind-next in
     record {
       bookmarked = sym c.bookmark.ensures ∙ ap pointer_of_some c.in-Some.is;
       fewer = ap (λ n. n - 1) c.unvisited-unvisited.ensures;
@@ -23,15 +23,22 @@ goes g c =
       apart = m.ensures.apart;
     }
 
-pub bookmark_behind-requires : goal.bookmark_behind-requires
-bookmark_behind-requires g c = (bookmarked_cut c.self.inside.table.held c.self.invariant
+pub bookmark_behind-next-requires : goal.bookmark_behind-next-requires
+bookmark_behind-next-requires g c = (bookmarked_cut c.self.inside.table.held c.self.invariant
     (sym c.bookmark.ensures ∙ ap pointer_of_some c.in-Some.is)).held
 
 pub invariant_of-self : goal.invariant_of-self
-invariant_of-self g c = kept_on c.self.inside.table.held c.self.invariant (goes g c)
+invariant_of-self g c =
+    let on = c.on-self-inside.ensures in
+    rw (on.bookmark, on.unvisited, on.current) (kept_on c.self.inside.table.held c.self.invariant (goes g c))
 
 pub returns-clause-key : goal.returns-clause-key
-returns-clause-key g c = rw (← c.self.view_is) (λ _ key there. to_visit_on c.self.inside.table.held c.self.invariant (goes g c) key there)
+returns-clause-key g c =
+    let on = c.on-self-inside.ensures in
+    rw (← c.self.view_is, on.bookmark, on.unvisited, on.current)
+    (λ _ key there. to_visit_on c.self.inside.table.held c.self.invariant (goes g c) key there)
 
 pub returns-clause-outside : goal.returns-clause-outside
-returns-clause-outside g c = λ _. outside_on c.self.inside.table.held c.self.invariant (goes g c)
+returns-clause-outside g c =
+    let on = c.on-self-inside.ensures in
+    rw (on.bookmark, on.unvisited, on.current) (λ _. outside_on c.self.inside.table.held c.self.invariant (goes g c))

@@ -1,0 +1,113 @@
+"""The pages of definitions and lemmas, links to them, and what is put right on pages."""
+
+import functools
+import html
+import json
+import re
+
+# The head of an item, above its proof, or of a module; and an import that passes names on.
+HEAD = re.compile(
+    r"(?m)^(?: *--.*\n)*(?P<depth> *)(?:module (?:.|\n)*?where(?=\n)|pub use Rattle\.(?!std)\w+\.(?P<file>proofs\.(?!Callers)[\w.]+)\.\{(?P<passed>[^}]*)\}"
+    r"|(?:abbrev |unfoldable )?pub (?:record |data |ruleset )?(?!use |mod )(?P<name>[^\s:]+)(?= |$).*(?:\n(?P=depth) +\S.*)*)"
+)
+USE = re.compile(r"\buse Rattle\.(\w+)\.([\w.]+)\.\{([^}]*)\}")
+# A word of a definition, behind what is none: comments, and names of clauses and fields.
+WORD = re.compile(
+    r"(?m)(?:--|//) .*|(?:requires|ensures\*?|follows|ghost) [\w-]+(?= ?[{:=])|\.[\w-]+|[<>&]"
+    r"|(^ *(?:abbrev |unfoldable )?pub (?:record |data |ruleset )?)(?!use |mod )([^\s:]+)(?= |$)|([^\W\d][\w'-]*)"
+)
+# What is put right: what is said of Rust alone, a derive, an error without its path, and sources.
+DYN = re.compile(r'<h2 id="dyn-compatibility".*?(?=<h2 )|<h3><a href="#dyn-compatibility">.*?</h3>', re.S)
+RUST = re.compile(r'(<title>[^<]* - |<meta name="description" content="[^"]*\bthe )Rust\b')
+DERIVED = re.compile(r'(<h3 class=\\?"code-header\\?">)(?:(?!</h3>).)*(</h3><div class=\\?"docblock\\?"><p>A value is <code>Drop</code> if the type of each field)')
+IO_ERROR = re.compile(r"(?<= for )Error(?=</h3>)|(?<=-&gt; )Error(?=</h4>)")
+CODE = re.compile(r"<code>.*</code>(?=</pre></div></section>)", re.S)
+COMMENT = re.compile(r"(?://|-- ).*")
+# Returns a text as a literal of Rust, on one line.
+quoted = functools.partial(json.dumps, ensure_ascii=False)
+
+
+def heads_of(crate, file, wanted=()):
+    """Returns the heads of a file, or those wanted, in their modules, and their names."""
+    text, lines, names, modules = (crate / f"{file}.antt").read_text(encoding="utf-8"), "", [], {}
+    for it in HEAD.finditer(text):
+        depth, shown = len(it["depth"]), "\n" * text.endswith("\n\n", 0, it.start()) + it[0] + "\n"
+        if it["file"]:
+            there, passed = ("", []) if wanted else heads_of(crate, it["file"].replace(".", "/"), re.findall(r"[^\s,]+", it["passed"]))
+            lines, names = lines + (f"{shown}{there}\n" if passed else ""), names + passed
+        elif not it["name"]:
+            modules = {**{at: module for at, module in modules.items() if at < depth}, depth: shown}
+        elif not wanted or it["name"] in wanted:
+            lines += "".join(modules.pop(at) for at in sorted(modules) if at < depth) + shown
+            names.append(it["name"])
+    return lines, names
+
+
+def read_definitions(root, libraries):
+    """Returns what is shown of each file of definitions and lemmas, its names, and its text."""
+    found = {}
+    for crate in (root / "crates" / it for it in libraries):
+        for path in sorted([*crate.glob("specs/*.antt"), *crate.glob("proofs/Callers/*.antt")]):
+            text, name = path.read_text(encoding="utf-8"), str(path.relative_to(crate))[:-5]
+            lines, names = heads_of(crate, name)
+            if names:
+                found[crate.name, name] = text if name.startswith("specs/") else lines, names, text
+    return found
+
+
+def words_of(text, definitions):
+    """Returns the page and anchor of each name that a text imports."""
+    words = {}
+    for library, path, names in USE.findall(text):
+        page = library, path.replace(".", "/")
+        there = definitions[page][1] if page in definitions else []
+        words.update({it: f"site:{library}/{page[1]}/index.html#{it}" for it in re.findall(r"[^\s,]+", names) if it in there})
+    return words
+
+
+def linked(text, words, own=()):
+    """Returns a text as HTML, with links from its words, and anchors at the heads of its own."""
+    def shown(it):
+        if it[2] in own:
+            return f'{it[1]}<b id="{it[2]}">{it[2]}</b>'
+        return f'<a href="{words[it[3]]}">{it[3]}</a>' if it[3] in words else html.escape(it[0], quote=False)
+    return WORD.sub(shown, text)
+
+
+def page_of(library, name, definitions):
+    """Returns the text of the module that stands for a file of definitions."""
+    shown, names, text = definitions[library, name]
+    about = re.match(r"(?:-- .*\n)*", text)[0]
+    lines = linked(shown.removeprefix(about).strip("\n"), {**words_of(text, definitions), **{it: f"#{it}" for it in names}}, names)
+    body = " ".join(it[3:] for it in about.splitlines()) or name
+    body += f"\n\nImported from `Rattle.{library}.{name.replace('/', '.')}`.\n\n<pre><code>{lines}</code></pre>"
+    alias = ", ".join(quoted(it) for it in dict.fromkeys(names) if it != name.split("/")[-1])
+    return f"#![doc = {quoted(body)}] " + (f"#![doc(alias({alias}))]" if alias else "") + "\n" * text.count("\n")
+
+
+def modules_of(library, definitions, folder=""):
+    """Returns the modules of the pages of a crate below a folder, on one line."""
+    names, text = [name[len(folder) :] for of, name in definitions if of == library and name.startswith(folder)], ""
+    for part in dict.fromkeys(name.split("/")[0] for name in names):
+        if part in names:
+            text += f'#[path = "{folder}{part}.antt"] pub mod {part}; '
+        else:
+            about = "The definitions that contracts name." if part == "specs" else "Lemmas that the proofs of callers cite."
+            text += f'#[doc = "{about}"] #[path = "."] pub mod {part} {{ {modules_of(library, definitions, f"{folder}{part}/")}}} '
+    return text
+
+
+def put_right(root, site):
+    """Changes the links from contracts, derives, what is Rust's alone, and sources on pages."""
+    for page in [*site.rglob("*.html"), *site.glob("type.impl/**/*.js")]:
+        path, text = str(page.relative_to(site)), page.read_text(encoding="utf-8")
+        # A script of impls has links from the root of the site.
+        text = re.sub(r'(?<=href=")site:|(?<=href=\\")site:', "../" * path.count("/") if page.suffix == ".html" else "", text)
+        text = DERIVED.sub(r"\1#[derive(Drop)]\2", RUST.sub(r"\1Rattle", IO_ERROR.sub("io::Error", DYN.sub("", text))))
+        source = re.match(r"src/(\w+)/(.*\.(rt|antt))\.html", path)
+        if source:
+            file = root / "crates" / source[1] / ("src" if source[3] == "rt" else "") / source[2]
+            shown = COMMENT.sub(r'<span class="comment">\g<0></span>', html.escape(file.read_text(encoding="utf-8").rstrip("\n"), quote=False))
+            lines = "\n".join(f"<a href=#{at} id={at} data-nosnippet>{at}</a>{line}" for at, line in enumerate(shown.split("\n"), 1))
+            text = CODE.sub(lambda _, lines=lines: f"<code>{lines}</code>", text)
+        page.write_text(text, encoding="utf-8")
