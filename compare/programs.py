@@ -33,8 +33,8 @@ PRODUCTS = ("cache_insert", "cache_hit", "set_insert", "set_contains", "set_iter
 BY_MAP = "_by_map"
 
 # The workloads of the calls that the original has not, which the twin has. The sort of a vector of
-# the pairs is timed beside the last.
-MOVES = ("move_beside", "iter_from", "sort")
+# the pairs is timed beside the sorts, of which no peer has the last.
+MOVES = ("move_beside", "iter_from", "sort", "sort_cached")
 SORT_VECTOR = "sort_vector"
 
 # The workloads of changes of many pairs and of entries, and those of texts and documents.

@@ -35,8 +35,8 @@ pub fn workload_named(words: &[String]) -> (Option<Workload>, &[String]) {
     let [name, rest @ ..] = words else {
         return (None, words);
     };
-    for workload in Workload::ALL {
-        if workload.name() == name.as_str() {
+    for (workload, word) in Workload::ALL {
+        if word == name.as_str() {
             return (Some(workload), rest);
         }
     }

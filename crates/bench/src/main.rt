@@ -77,7 +77,7 @@ fn time<C: CpuClock, O: Order, W: Write>(
     clock: &C,
     alloc: Global,
     output: &mut W,
-    workload: Workload,
+    named: (Workload, &str),
     held: &mut Held,
     order: &mut O,
     rounds: u64,
@@ -85,12 +85,12 @@ fn time<C: CpuClock, O: Order, W: Write>(
 ) -> io::Result<()>
     requires { 0 < n }
 {
+    let (workload, name) = named;
     let timed = best_of(clock, alloc, workload, held, order, rounds, n)?;
     let time = hundredths(timed.nanoseconds, workload.pairs(n));
     writeln!(
         output,
-        "{} {n} {}.{:02} {}",
-        workload.name(),
+        "{name} {n} {}.{:02} {}",
         time / 100,
         time % 100,
         timed.check
@@ -110,13 +110,14 @@ fn bench<C: CpuClock, O: Order, W: Write>(
     requires { 0 < n }
 {
     let mut held = Held::new(alloc);
-    for workload in Workload::ALL {
+    for named in Workload::ALL {
+        let (workload, _) = named;
         if workload.is_done_at(n) {
             if workload.begins_anew() {
                 order.restart();
             }
             if only.is_none() || only == Some(workload) {
-                time(clock, alloc, output, workload, &mut held, order, rounds, n)?;
+                time(clock, alloc, output, named, &mut held, order, rounds, n)?;
             }
             held.refill(alloc, workload, n)?;
         }

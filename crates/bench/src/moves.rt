@@ -77,11 +77,23 @@ pub fn unsort<O: Order>(map: &mut Map, order: &mut O, n: u64)
     }
 }
 
-/// Sorts the pairs by their keys, and returns the exclusive or of the first key and the last.
-pub fn sort(map: &mut Map) -> u64 {
-    map.sort_keys();
+/// Returns the exclusive or of the first key and the last.
+fn ends_of(map: &Map) -> u64 {
     match (map.front(), map.back()) {
         (Some((first, _)), Some((last, _))) => *first ^ *last,
         _ => 0,
     }
+}
+
+/// Sorts the pairs by their keys, and returns the exclusive or of the first key and the last.
+pub fn sort(map: &mut Map) -> u64 {
+    map.sort_keys();
+    ends_of(map)
+}
+
+/// Sorts the pairs by copies of their keys, and returns the exclusive or of the first key and the
+/// last.
+pub fn sort_cached(map: &mut Map) -> Result<u64, AllocError> {
+    map.sort_by_cached_key(|key, _| *key)?;
+    Ok(ends_of(map))
 }
