@@ -7,7 +7,7 @@ ghost use Rattle.lhm_ring.specs.Buckets.{buckets, HasNoChain};
 ghost use Rattle.lhm_ring.specs.Search.{HasKey, LacksKey};
 ghost use Rattle.lhm_ring.specs.Index.{Indexes, spots, OfNodeAt, ChangesLinks, HoldsOthers, IsOnChain, PutsFirst};
 
-use crate::bucket_block::{Dealloc, Head, Word};
+use crate::bucket_block::{Dealloc, Elements, Head, Word};
 pub use crate::buckets::buckets_for;
 use crate::pointer::{Link, Position};
 use crate::ring::Ring;
@@ -18,7 +18,7 @@ use std::alloc::{AllocError, Global};
 use std::hash::Hash;
 use std::marker::{Model, PhantomData};
 use std::mem;
-use std_alloc::vec::Lodged;
+use std::ptr::null_mut;
 
 /// The chains of a ring, by their heads, and a filter of the hashes. Each call is given the ring,
 /// and changes its chain links alone.
@@ -27,10 +27,13 @@ use std_alloc::vec::Lodged;
 /// O(1), on average if they search or remove, unless they say otherwise. Only `with_buckets`
 /// allocates. It is not `Drop`: only `free` ends it.
 pub struct Index<K, V> {
+    // Where the heads of the buckets lie, and how many there are.
+    pub(crate) first: *mut Head,
+    pub(crate) len: usize,
     // For each bucket the head of its chain, and a word of the filter: if the bit of a hash is not
     // set, no node has that hash.
-    pub(crate) heads: Vec<Head, Lodged>,
-    pub(crate) words: Vec<Word, Lodged>,
+    pub(crate) heads: Elements<Head>,
+    pub(crate) words: Elements<Word>,
     // Both lie in one block of memory, which this is the right to free.
     pub(crate) dealloc: Dealloc,
     pub(crate) alloc: Global,
@@ -38,9 +41,8 @@ pub struct Index<K, V> {
 }
 
 impl<K, V> Model for Index<K, V> {
-    ghost use Rattle.std.specs.Prelude.{◌≡◌, ◌<◌, ◌*◌, map, length, vec_capacity};
-    ghost use Rattle.std.specs.Vec.{vec_ptr};
-    ghost use Rattle.lhm_ring.specs.BucketBlock.{words_address};
+    ghost use Rattle.std.specs.Prelude.{◌≡◌, ◌<◌, ◌≤◌, ◌^◌, map, length};
+    ghost use Rattle.lhm_ring.specs.BucketBlock.{behind};
     ghost use Rattle.lhm_ring.specs.Buckets.{BucketState, IsBucketCount, leads_to, bits_of};
 
     ghost Value = { BucketState };
@@ -51,13 +53,15 @@ impl<K, V> Model for Index<K, V> {
     } };
 
     ghost invariant = { λ i. record {
-      same_count : length i.words.items ≡ length i.heads.items;
-      power : IsBucketCount (length i.heads.items);
-      -- there is room for a multiple of four
-      heads_room : vec_capacity i.heads ≡ 4 * i.dealloc.quarter;
-      words_room : vec_capacity i.words ≡ 4 * i.dealloc.quarter;
-      heads_at : 0 < i.dealloc.quarter → vec_ptr i.heads ≡ i.dealloc.at;
-      words_at : 0 < i.dealloc.quarter → vec_ptr i.words ≡ words_address i.dealloc.at i.dealloc.quarter;
+      heads_count : length i.heads.items ≡ i.len;
+      words_count : length i.words.items ≡ i.len;
+      power : IsBucketCount i.len;
+      small : i.len ≤ 2 ^ 59;
+      heads_at : 0 < i.len → i.heads.at ≡ behind i.first 0;
+      -- the words lie right behind the heads
+      words_at : 0 < i.len → i.words.at ≡ behind i.first i.len;
+      dealloc_count : i.dealloc.count ≡ i.len;
+      dealloc_at : 0 < i.len → i.dealloc.at ≡ i.first;
     } };
 }
 
@@ -68,8 +72,10 @@ impl<K, V> Index<K, V> {
         ensures words { result.words ≡ [] }
     {
         Index {
-            heads: Vec::new(Lodged),
-            words: Vec::new(Lodged),
+            first: null_mut(),
+            len: 0,
+            heads: Elements::none(),
+            words: Elements::none(),
             dealloc: Dealloc::none(),
             alloc,
             marker: PhantomData,
@@ -80,7 +86,7 @@ impl<K, V> Index<K, V> {
     pub fn buckets(&self) -> usize
         ensures { result ≡ length self.now.heads }
     {
-        self.heads.len()
+        self.len
     }
 
     /// Puts a node that is in no chain at the head of its chain, and sets its bit.
@@ -187,6 +193,7 @@ impl<K, V> Index<K, V> {
     /// O(n).
     pub(crate) fn spread(&mut self, count: usize, ring: &mut Ring<K, V>) -> usize
         requires buckets { 0 < length self.old.heads }
+        requires within { length self.old.heads ≤ 4 }
         requires some { 0 < count }
         requires few { count ≤ 4 }
         requires power { IsPowerOfTwo count }
