@@ -151,7 +151,7 @@ module _ {M : Type 1} {𝓤 : Ura M} (𝓛 : Logic 𝓤) (at_mem : Memory → SP
         states_also ! ((ws.items ≡ []) × (ws.len ≡ 0) × (ws.cap ≡ m)) (iw.0, iw.1, iw.2) $
         states_also ! ((hs.items ≡ []) × (hs.len ≡ 0) × (hs.cap ≡ m)) (ih.0, ih.1, ih.2) $ all_spent ! 2 $
         returns ! (look_at ! 0 refl) $ free_all ! refl $ keep ! (3 ∷ 0 ∷ 2 ∷ 1 ∷ []) $ by !
-        (leaves 𝓛 ended stayed c y all (hs, ws, out) (tt, (tt, tt)) (tt, (tt, tt))))))))))))))))
+        (leaves 𝓛 ended stayed c y all (hs, ws, out) (tt, (tt, tt)) (tt, (tt, tt)))))))))))))))))
 
 pub split_block_spec : {M : Type 1} → statement M
 split_block_spec 𝓤 𝓛 𝓜 𝓡 wired =
