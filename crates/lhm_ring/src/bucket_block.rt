@@ -57,7 +57,7 @@ impl<T> Elements<T> {
     }
 
     /// Takes the elements of a vector.
-    pub(crate) fn of(vector: Vec<T, Lodged>) -> Elements<T>
+    pub(crate) fn from_vec(vector: Vec<T, Lodged>) -> Elements<T>
         requires full { vec_len vector ≡ vec_capacity vector }
         ensures items { result.items ≡ vector.items }
         ensures at { result.at ≡ vec_ptr vector }
@@ -91,8 +91,8 @@ impl<T> Elements<T> {
         unsafe { slice::from_raw_parts(first.add(skip) as *const T, len) }
     }
 
-    /// Moves the elements out as a vector.
-    pub(crate) fn lend(&mut self, first: *mut Head, skip: usize, len: usize) -> Vec<T, Lodged>
+    /// Takes the elements out, as a vector.
+    pub(crate) fn take(&mut self, first: *mut Head, skip: usize, len: usize) -> Vec<T, Lodged>
         requires at { self.old.at ≡ behind first skip }
         requires len { length self.old.items ≡ len }
         requires small { (skip ≤ 2 ^ 59) × (len ≤ 2 ^ 59) }
@@ -103,13 +103,13 @@ impl<T> Elements<T> {
         mem::replace(self, Elements::none()).into_vec(first, skip, len)
     }
 
-    /// Moves the elements of a vector in. What was there is forgotten.
-    pub(crate) fn put_back(&mut self, vector: Vec<T, Lodged>)
+    /// Puts the elements of a vector in. What was there is forgotten.
+    pub(crate) fn put(&mut self, vector: Vec<T, Lodged>)
         requires full { vec_len vector ≡ vec_capacity vector }
         ensures items { self.new.items ≡ vector.items }
         ensures at { self.new.at ≡ vec_ptr vector }
     {
-        mem::replace(self, Elements::of(vector)).end();
+        mem::replace(self, Elements::from_vec(vector)).end();
     }
 
     /// Forgets the elements.

@@ -69,9 +69,9 @@ impl<K, V> Index<K, V> {
         fill_words(&mut words, count);
         Index {
             first: heads.as_ptr().cast_mut(),
-            len: count,
-            heads: Elements::of(heads),
-            words: Elements::of(words),
+            count,
+            heads: Elements::from_vec(heads),
+            words: Elements::from_vec(words),
             dealloc,
             alloc,
             marker: PhantomData,
@@ -84,7 +84,7 @@ impl<K, V> Index<K, V> {
         ensures few { IsTrue result → count ≤ 4 }
         ensures none { IsFalse result → 0 < length self.now.heads → 4 < count }
     {
-        self.len != 0 && count <= FEW
+        self.count != 0 && count <= FEW
     }
 
     /// Makes `count` empty buckets within the room, in place of those that there are.
@@ -99,7 +99,7 @@ impl<K, V> Index<K, V> {
     {
         let Index {
             first,
-            len: _,
+            count: _,
             heads,
             words,
             dealloc,
@@ -116,7 +116,7 @@ impl<K, V> Index<K, V> {
         ensures of_hash { result ≡ hash % length self.now.heads }
         ensures within { result < length self.now.heads }
     {
-        (hash & (self.len as u64 - 1)) as usize
+        (hash & (self.count as u64 - 1)) as usize
     }
 
     /// Returns the head of a bucket.
@@ -124,7 +124,7 @@ impl<K, V> Index<K, V> {
         requires { bucket < length self.now.heads }
         ensures { target result ≡ slice_index_or self.now.heads bucket None }
     {
-        self.heads.as_slice(self.first, 0, self.len)[bucket].link
+        self.heads.as_slice(self.first, 0, self.count)[bucket].link
     }
 
     /// Returns whether a node may have a hash of this bucket: `false` only if none has it.
@@ -133,7 +133,7 @@ impl<K, V> Index<K, V> {
         requires within { bucket < length self.now.heads }
         ensures { result ≡ may_contain self.now.words hash }
     {
-        let words = self.words.as_slice(self.first, self.len, self.len);
+        let words = self.words.as_slice(self.first, self.count, self.count);
         (words[bucket].bits >> ((hash >> 60) as u32)) & 1 == 1
     }
 
@@ -146,14 +146,14 @@ impl<K, V> Index<K, V> {
         ensures words { SetsBit self.old.words self.new.words hash }
         ensures old { target result ≡ slice_index_or self.old.heads bucket None }
     {
-        let mut heads = self.heads.lend(self.first, 0, self.len);
+        let mut heads = self.heads.take(self.first, 0, self.count);
         let old = heads[bucket].link;
         heads[bucket].link = head;
-        self.heads.put_back(heads);
-        let mut words = self.words.lend(self.first, self.len, self.len);
+        self.heads.put(heads);
+        let mut words = self.words.take(self.first, self.count, self.count);
         let bits = words[bucket].bits;
         words[bucket].bits = bits | (1u16 << ((hash >> 60) as u32));
-        self.words.put_back(words);
+        self.words.put(words);
         old
     }
 
@@ -166,14 +166,14 @@ impl<K, V> Index<K, V> {
         ensures same { IsSome (target head) → self.new.words ≡ self.old.words }
         ensures count { length self.new.words ≡ length self.old.words }
     {
-        let mut heads = self.heads.lend(self.first, 0, self.len);
+        let mut heads = self.heads.take(self.first, 0, self.count);
         heads[bucket].link = head;
-        self.heads.put_back(heads);
+        self.heads.put(heads);
         let there: Option<Position<K, V>> = head.get();
         if there.is_none() {
-            let mut words = self.words.lend(self.first, self.len, self.len);
+            let mut words = self.words.take(self.first, self.count, self.count);
             words[bucket].bits = 0;
-            self.words.put_back(words);
+            self.words.put(words);
         }
     }
 
@@ -187,32 +187,32 @@ impl<K, V> Index<K, V> {
         if ring.len() == 0 {
             return;
         }
-        let mut heads = self.heads.lend(self.first, 0, self.len);
+        let mut heads = self.heads.take(self.first, 0, self.count);
         clear_heads(&mut heads);
-        self.heads.put_back(heads);
-        let mut words = self.words.lend(self.first, self.len, self.len);
+        self.heads.put(heads);
+        let mut words = self.words.take(self.first, self.count, self.count);
         clear_words(&mut words);
-        self.words.put_back(words);
+        self.words.put(words);
     }
 
     /// Frees the buckets, in O(n).
     pub fn free(self) {
         let Index {
             first,
-            len,
+            count,
             heads,
             words,
             dealloc,
             alloc,
             marker: _,
         } = self;
-        if len == 0 {
+        if count == 0 {
             heads.end();
             words.end();
             dealloc.end();
         } else {
             let block = join_block(first, heads, words, dealloc);
-            deallocate(&alloc, block, block_heads(len));
+            deallocate(&alloc, block, block_heads(count));
         }
     }
 }

@@ -29,7 +29,7 @@ use std::ptr::null_mut;
 pub struct Index<K, V> {
     // Where the heads of the buckets lie, and how many there are.
     pub(crate) first: *mut Head,
-    pub(crate) len: usize,
+    pub(crate) count: usize,
     // For each bucket the head of its chain, and a word of the filter: if the bit of a hash is not
     // set, no node has that hash.
     pub(crate) heads: Elements<Head>,
@@ -53,15 +53,15 @@ impl<K, V> Model for Index<K, V> {
     } };
 
     ghost invariant = { λ i. record {
-      heads_count : length i.heads.items ≡ i.len;
-      words_count : length i.words.items ≡ i.len;
-      power : IsBucketCount i.len;
-      small : i.len ≤ 2 ^ 59;
-      heads_at : 0 < i.len → i.heads.at ≡ behind i.first 0;
+      heads_count : length i.heads.items ≡ i.count;
+      words_count : length i.words.items ≡ i.count;
+      power : IsBucketCount i.count;
+      small : i.count ≤ 2 ^ 59;
+      heads_at : 0 < i.count → i.heads.at ≡ behind i.first 0;
       -- the words lie right behind the heads
-      words_at : 0 < i.len → i.words.at ≡ behind i.first i.len;
-      dealloc_count : i.dealloc.count ≡ i.len;
-      dealloc_at : 0 < i.len → i.dealloc.at ≡ i.first;
+      words_at : 0 < i.count → i.words.at ≡ behind i.first i.count;
+      dealloc_count : i.dealloc.count ≡ i.count;
+      dealloc_at : 0 < i.count → i.dealloc.at ≡ i.first;
     } };
 }
 
@@ -73,7 +73,7 @@ impl<K, V> Index<K, V> {
     {
         Index {
             first: null_mut(),
-            len: 0,
+            count: 0,
             heads: Elements::none(),
             words: Elements::none(),
             dealloc: Dealloc::none(),
@@ -86,7 +86,7 @@ impl<K, V> Index<K, V> {
     pub fn buckets(&self) -> usize
         ensures { result ≡ length self.now.heads }
     {
-        self.len
+        self.count
     }
 
     /// Puts a node that is in no chain at the head of its chain, and sets its bit.

@@ -12,7 +12,7 @@ returns-clause-of_hash g c =
     let n : ℕ = length c.args.self.now.heads in
     let long = length-map i.heads.items leads_to in
     let seen = ap (λ (z : BucketState). length z.heads) c.self.view_is in
-    let many : i.len ≡ n = omega (arith, c.self.invariant.heads_count, long, seen) in
+    let many : i.count ≡ n = omega (arith, c.self.invariant.heads_count, long, seen) in
     let p = IsPowerOfTwo-count n c.requires (subst IsBucketCount many c.self.invariant.power) in
     let P : ℕ → Type 0 = λ m. bit_and c.args.hash (m - 1) ≡ c.args.hash % m in
     ap (λ m. bit_and c.args.hash (m - 1)) many ∙ subst P (sym p.1) (and_mask c.args.hash p.0)

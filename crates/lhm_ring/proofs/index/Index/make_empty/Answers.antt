@@ -11,7 +11,7 @@ in_block-requires-clause-block g c =
     let long = length-map i.heads.items leads_to in
     let seen = ap (λ (z : BucketState). length z.heads) (c.first.view_is ∙ c.replace-2.ensures.value) in
     let many : i.dealloc.count ≡ length c.args.self.now.heads =
-        omega (arith, c.first.invariant.dealloc_count, c.first.invariant.heads_count, long, seen) in
+    omega (arith, c.first.invariant.dealloc_count, c.first.invariant.heads_count, long, seen) in
     let old = block_heads-few i.dealloc.count (omega (arith, many, c.requires.some)) (omega (arith, many, c.requires.within)) in
     let some : 0 < c.args.count = omega (arith, c.requires.power.1, pow_pos c.requires.power.0) in
     c.join_block-block.ensures ∙ old ∙ sym (block_heads-few c.args.count some c.requires.few)

@@ -10,7 +10,7 @@ use Rattle.lhm_ring.specs.Pointer.{target}
 pub returns-clause-heads : goal.returns-clause-heads
 returns-clause-heads g c =
     let head : Head = record { link = c.args.head } in
-    ap (map leads_to) (c.put_back.ensures.items ∙ ap (λ (hs : List Head). set hs c.args.bucket head) c.lend-heads.ensures.items)
+    ap (map leads_to) (c.put.ensures.items ∙ ap (λ (hs : List Head). set hs c.args.bucket head) c.take-heads.ensures.items)
     ∙ map-set leads_to c.self.inside.heads.items c.args.bucket head
     ∙ ap (λ (z : BucketState). set z.heads c.args.bucket (target c.args.head)) c.self.view_is
 
@@ -20,7 +20,7 @@ returns-clause-words g c =
     let below : c.args.hash < 2 ^ 64 = c.ranges.hash.fits in
     let small : c.args.hash / 2 ^ 60 < 16 = omega arith in
     let long = length-words i.heads.items i.words.items c.self.view_is c.self.invariant.heads_count c.self.invariant.words_count in
-    rw (c.put_back-2.ensures.items, c.lend-words.ensures.items, ← c.self.view_is)
+    rw (c.put-2.ensures.items, c.take-words.ensures.items, ← c.self.view_is)
     (SetsBit-written i.words.items c.args.bucket c.args.hash (c.args.hash / 2 ^ 60)
     (c.requires.of_hash ∙ ap (λ n. c.args.hash % n) long) (subst (λ n. c.args.bucket < n) long c.requires.within)
-    refl small (rw (← c.lend-words.ensures.items) c.index-2.ensures))
+    refl small (rw (← c.take-words.ensures.items) c.index-2.ensures))

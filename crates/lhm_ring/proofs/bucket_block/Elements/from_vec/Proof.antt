@@ -1,4 +1,4 @@
--- `of` keeps the memory of a vector. Assumes `Logic`.
+-- `from_vec` keeps the memory of a vector. Assumes `Logic`.
 use Rattle.lhm_ring.proofs.memory.Steps.{◌≡◌, ℕ, ◌*◌, ◌<◌, ◌^◌, List, [], ◌∷◌, ◌++◌, refl, sym, ◌∙◌, Val, vint, w64, inst_fn, SProp}
 use Rattle.lhm_ring.proofs.memory.Steps.{◌∵◌, ‵, raw, ◌⊛◌, ◌$◌, !, qed, by, move, keep, use0, use1, split, fsplit, fjoin, rewrite, of_opd, length}
 use Rattle.lhm_ring.proofs.memory.Steps.{no_more, and_then, returns, alloc_all, pass_all, free_all, look_at, get, sets, agg, tables, fact, yes, no}
@@ -14,13 +14,13 @@ use Rattle.std_alloc.proofs.vec.lodged.Vec+T+Lodged.dislodge.Met as dislodge_met
 use Rattle.lhm_ring.proofs.memory.NodeFields.{marker}
 use Rattle.lhm_ring.proofs.memory.ElementsOwned.{Owner, Field, elements_made}
 use Rattle.lhm_ring.proofs.memory.Lodging.{Lodging, lodging_laws, tells, Dislodges, at_dislodge, dislodge_goes, dislodge_gives}
-use Rattle.lhm_ring.specs.contracts.bucket_block.Elements.of.{ended, clauses}
-use Rattle.lhm_ring.specs.contracts.bucket_block.Elements.of.Key.{name as #self}
-use Rattle.lhm_ring.proofs.bucket_block.Elements.of.Statement.{statement}
-use Rattle.lhm_ring.proofs.bucket_block.Elements.of.Code as code
+use Rattle.lhm_ring.specs.contracts.bucket_block.Elements.from_vec.{ended, clauses}
+use Rattle.lhm_ring.specs.contracts.bucket_block.Elements.from_vec.Key.{name as #self}
+use Rattle.lhm_ring.proofs.bucket_block.Elements.from_vec.Statement.{statement}
+use Rattle.lhm_ring.proofs.bucket_block.Elements.from_vec.Code as code
 
-pub of_spec : {M : Type 1} → statement M
-of_spec 𝓤 𝓛 𝓜 𝓡 wired X L =
+pub from_vec_spec : {M : Type 1} → statement M
+from_vec_spec 𝓤 𝓛 𝓜 𝓡 wired X L =
     let H = 𝓛.H in let 𝓣 = tables 𝓤 H 𝓜 𝓡 𝓡.env in let args : Args = layouts (a_type ∷ []) (X, tt) in
     let R : RattleType = param 0 X in let V : RattleType = Lodging R in
     let En = ended X in let c = clauses X 𝓛 𝓜.mem 𝓡.returns in let fn = inst_fn args code.function in
