@@ -150,8 +150,10 @@ pub(crate) fn split_block(
 ) -> (Vec<Head, Lodged>, Vec<Word, Lodged>, Dealloc)
     requires some { 0 < count }
     requires block { block.count ≡ block_heads count }
-    ensures heads { (result.0.items ≡ []) × (vec_len result.0 ≡ 0) × (vec_capacity result.0 ≡ count) }
-    ensures words { (result.1.items ≡ []) × (vec_len result.1 ≡ 0) × (vec_capacity result.1 ≡ count) }
+    ensures heads { (result.0.items ≡ []) × (vec_len result.0 ≡ 0)
+        × (vec_capacity result.0 ≡ count) }
+    ensures words { (result.1.items ≡ []) × (vec_len result.1 ≡ 0)
+        × (vec_capacity result.1 ≡ count) }
     ensures count { result.2.count ≡ count }
     ensures at { (vec_ptr result.0 ≡ result.2.at) × (vec_ptr result.1 ≡ behind result.2.at count) }
 {
@@ -172,7 +174,8 @@ pub(crate) fn join_block(
 ) -> Block<Head, Global>
     requires some { 0 < dealloc.count }
     requires counts { (length heads.items ≡ dealloc.count) × (length words.items ≡ dealloc.count) }
-    requires at { (dealloc.at ≡ first) × (heads.at ≡ behind first 0) × (words.at ≡ behind first dealloc.count) }
+    requires at { (dealloc.at ≡ first) × (heads.at ≡ behind first 0)
+        × (words.at ≡ behind first dealloc.count) }
     ensures { result.count ≡ block_heads dealloc.count }
 {
     let Elements { marker: _ } = heads;

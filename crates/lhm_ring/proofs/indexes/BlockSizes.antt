@@ -1,5 +1,5 @@
 -- The block of n buckets has room for n heads, and for n words behind them.
-use Rattle.std.proofs.Common.{◌≡◌, ℕ, ◌+◌, ◌-◌, ◌*◌, ◌/◌, ◌<◌, ◌≤◌, arith, ap, refl}
+use Rattle.std.proofs.Common.{◌≡◌, ℕ, ◌+◌, ◌-◌, ◌*◌, ◌<◌, ◌≤◌, arith, ap, refl}
 use denote.RawPtr.{Ptr, block_ptr, null_ptr}
 use Rattle.lhm_ring.specs.BucketBlock.{behind, block_heads}
 

@@ -1,19 +1,16 @@
 -- A `&` to elements is made where one to an element is. Assumes `Logic`.
-use Rattle.lhm_ring.proofs.memory.Steps.{ℕ, ◌*◌, ◌^◌, List, [], ◌∷◌, refl, sym, subst, T, full_share, ent, sep, sem, Fml, fsep, ftrue, fbor}
+use Rattle.lhm_ring.proofs.memory.Steps.{ℕ, ◌*◌, ◌^◌, List, [], ◌∷◌, refl, sym, subst, full_share, sep, sem, Fml, fsep, ftrue, fbor}
 use Rattle.lhm_ring.proofs.memory.Steps.{Ura, Logic, RattleType, Laws, Lft, Incl, lfts, updating, now, done, drop, nothing, fjoin, feq_i}
 use Rattle.lhm_ring.proofs.memory.Steps.{‵, raw, ◌$◌, !, qed, Ptr, block_ptr, null_ptr, lies_at, room_for, Shares-less, length}
 use Rattle.lhm_ring.proofs.memory.Steps.{Lends, lent_at, Lends-lies, Lends-first, Lends-both}
-use Rattle.std.proofs.Common.{zero, suc, ◌-◌, ◌<◌, Bool, arith}
+use Rattle.std.proofs.Common.{zero, ◌-◌, ◌<◌, Bool, arith}
 use base.Fml.{flt}
-use mir.Syntax.{ty_array}
 use denote.Array.{Array}
 use denote.ArrayMemory.{Single}
-use denote.Memory.{lone}
 use denote.RawPtr.{in_block, ◌+ₚ◌}
 use denote.Sharing.{said}
 use denote.Shares.{Shares-Array}
 use denote.Struct.Lending.{Lends-false, Lends-said}
-use mir.Raw.{raw as bare}
 use Rattle.std.specs.Allocator.{block_with_items, array_of}
 use Rattle.std.specs.Mem.{type_size}
 use Rattle.std.specs.Vec.Ownership.{owns_if, has_block}
@@ -39,7 +36,8 @@ module _ {M : Type 1} {𝓤 : Ura M} (𝓛 : Logic 𝓤) (l : Lft) (R : RattleTy
       let some : 0 < n = omega arith in
       subst (λ (y : Bool). Lends 𝓛 (in_block p (owns_if y (Held p ys))) (Lent p ys) l) (sym (is_live n some))
       (Lends-first 𝓛 (lies_at (Array R n) full_share p ys) (fsep (room_for (array_of R (n - n)) (p +ₚ n * type_size R)) ftrue) (Lent p ys) l
-      (Lends-lies 𝓛 (Array R n) l p ys (Shares-Array 𝓛 R (subst Single (sym L.one) tt) n l (Shares-less 𝓛 R R.lives l within (L.shares 𝓛)) ys)))
+      (Lends-lies 𝓛 (Array R n) l p ys
+      (Shares-Array 𝓛 R (subst Single (sym L.one) tt) n l (Shares-less 𝓛 R R.lives l within (L.shares 𝓛)) ys)))
       κ ts inc sp
 
   pub Lends-elements : (p : Ptr) (xs : List R.Denot) → Lends 𝓛 (elements_own R p xs) (elements_lent R p xs) l

@@ -1,7 +1,7 @@
 -- What the owner of elements is by value, and where what it owns lies. Assumes `Logic`.
 --     elements_known, elements_made      the owner is its one machine value, and what it owns
 --     block_behind      what lies behind a pointer in a block lies in that block
-use Rattle.lhm_ring.proofs.memory.Steps.{◌≡◌, ℕ, ◌+◌, List, [], ◌∷◌, ◌++◌, refl, ap, ◌∙◌, Val, vstruct, vcons, vnil, ent, emp, sem, Ura, Logic}
+use Rattle.lhm_ring.proofs.memory.Steps.{◌≡◌, ℕ, List, [], ◌∷◌, ◌++◌, refl, ◌∙◌, Val, vstruct, vnil, ent, emp, sem, Ura, Logic}
 use Rattle.lhm_ring.proofs.memory.Steps.{‵, ◌$◌, drop, fsplit, fpick, feq_l, Item, Goal, makes_shadow, shape, Struct, RattleType, Ptr, block_ptr, null_ptr}
 use mir.Val.{of_list}
 use types.Kit.{Seq}
@@ -17,7 +17,8 @@ Owner = E-type.the_row
 abbrev pub Field : RattleType → RattleType
 Field R = Struct (shape (E-type.the_type R))
 
-pub elements_made : (R : RattleType) {M : Type 1} {𝓤 : Ura M} (𝓛 : Logic 𝓤) → ent 𝓤 (emp 𝓤) (sem 𝓛 ((Field R).own_val (record {}, tt) (marker ∷ [])))
+pub elements_made : (R : RattleType) {M : Type 1} {𝓤 : Ura M} (𝓛 : Logic 𝓤)
+    → ent 𝓤 (emp 𝓤) (sem 𝓛 ((Field R).own_val (record {}, tt) (marker ∷ [])))
 elements_made R 𝓛 = makes_shadow 𝓛 ((Field R).own_val (record {}, tt) (marker ∷ []))
     (λ vss. (tt, ((λ uss. (tt, tt)), tt))) ((vstruct vnil ∷ [], tt), (refl, ((tt, (refl, tt)), tt)))
 

@@ -36,7 +36,6 @@ use Rattle.std_alloc.specs.contracts.vec.lodged.LodgedAllocator.TheImpl.{ghosts}
 use Rattle.std_alloc.specs.contracts.vec.lodge as LG
 use Rattle.std_alloc.specs.contracts.vec.lodge.Key.{name as lodge_name}
 use Rattle.std_alloc.specs.contracts.vec.lodged.Vec+T+Lodged.dislodge as DL
-use Rattle.std_alloc.specs.contracts.vec.lodged.Vec+T+Lodged.dislodge.Key.{name as dislodge_name}
 use Rattle.std_alloc.proofs.vec.Vec.TheLaws as V-laws
 use Rattle.std_alloc.proofs.vec.lodged.Lodged.TheLaws as L-laws
 
@@ -49,9 +48,6 @@ lodging_laws Y L = V-laws.the_row_laws Y L-type.the_row ghosts L L-laws.the_row_
 
 abbrev pub lodge_key : RattleType → Callee
 lodge_key Y = lodge_name (layouts (a_type ∷ []) (Y, tt))
-
-abbrev pub dislodge_key : RattleType → Callee
-dislodge_key Y = dislodge_name (layouts (a_type ∷ []) (Y, tt))
 
 abbrev pub plainly : List RattleType → RattleType
 plainly Rs = Struct (record { name = []; args = []; types = []; fields = Rs })

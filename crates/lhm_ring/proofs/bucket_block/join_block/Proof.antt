@@ -76,7 +76,8 @@ module _ {M : Type 1} {𝓤 : Ura M} (𝓛 : Logic 𝓤) (at_mem : Memory → SP
       rewrite ! 0 (λ z. ‵ (owns_if z (block_dealloc d.at n k))) (is_live n some) refl $
       rewrite ! 0 (λ (q : Ptr). ‵ (block_dealloc q n k)) placed.0 refl $ fsplit3 ! $ flt_l ! (λ fit.
       -- [the token; that the parts join; the words; the heads; what is alive]
-      runs_with ! C Λ code.function Post (ptr_val p ∷ marker ∷ marker ∷ vstruct vnil ∷ []) (λ i. are.0 i ++ (eh i ++ (ew i ++ (ed i ++ [])))) $
+      runs_with ! C Λ code.function Post (ptr_val p ∷ marker ∷ marker ∷ vstruct vnil ∷ [])
+      (λ i. are.0 i ++ (eh i ++ (ew i ++ (ed i ++ [])))) $
       alloc_all ! (λ l. pass_all ! refl (((rawptr_Lawful 𝓛).typed p _ refl).0, ((tt, (tt, tt)), ((tt, (tt, tt)), ((tt, tt), tt)))) $
       sets ! (agg ! (no_more !)) refl (tt, tt) $ sets ! (agg ! (and_then ! (get ! refl) (and_then ! (get ! refl) (no_more !)))) refl
       (block_Good p) $

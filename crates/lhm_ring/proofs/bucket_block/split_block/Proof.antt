@@ -10,9 +10,9 @@ use Rattle.lhm_ring.proofs.memory.Steps.{block_ptr, ptr_val, room_for, heard, St
 use Rattle.lhm_ring.proofs.memory.Steps.{walk_of, Goes-dropped, after, proved_at, leaves, id⊢}
 use Rattle.lhm_ring.proofs.memory.Steps.{flt_l, flt_i, in_a_block, later, pick, await, some, given}
 use Rattle.lhm_ring.proofs.memory.Steps.{learn, framed, vstruct, vcons, vnil, all_spent, runs_with}
-use Rattle.lhm_ring.proofs.memory.Steps.{states, states_also, param, param_laws, layout, Fml, fsep}
+use Rattle.lhm_ring.proofs.memory.Steps.{states, states_also, param, param_laws, layout, Fml}
 use Rattle.lhm_ring.proofs.memory.Steps.{RattleType, Laws, Ura, Logic, ent}
-use base.Fml.{fwand, flt}
+use base.Fml.{fwand}
 use denote.Steps.{only}
 use denote.Struct.Struct.{as_fields}
 use denote.Triple.Call.{calls_at}

@@ -4,13 +4,13 @@ use Rattle.lhm_ring.proofs.memory.Steps.{Val, vptr, vint, w64, inst_fn, SProp, f
 use Rattle.lhm_ring.proofs.memory.Steps.{use1, split, join, fsplit, fjoin, rewrite, feq_i, flt_l, flt_i, bin, of_opd, no_more, and_then, first}
 use Rattle.lhm_ring.proofs.memory.Steps.{blocks, exec, returns, alloc_all, pass_all, free_all, look_at, get, sets, sets_last, env, agg, tables, fact}
 use Rattle.lhm_ring.proofs.memory.Steps.{usize, yes, owns, types_at, plain, Ptr, block_ptr, ptr_val, RawPtr, heard, Stays, stay_dropped, walk_of}
-use Rattle.lhm_ring.proofs.memory.Steps.{Goes-dropped, after, proved_at, leaves, RattleType, Lft, hide, Bor, RefOf, Args, a_type, layouts, param}
+use Rattle.lhm_ring.proofs.memory.Steps.{Goes-dropped, after, proved_at, leaves, RattleType, Lft, hide, RefOf, Args, a_type, layouts, param}
 use Rattle.lhm_ring.proofs.memory.Steps.{states, all_spent, tokens, runs_with, mem}
 use Rattle.std.proofs.Common.{◌≤◌}
 use base.Fml.{fhide}
 use types.Run.{lit}
 use denote.Opens.{unhide}
-use denote.RawPtr.{InBlock, block_of, count_of, ◌+ₚ◌}
+use denote.RawPtr.{InBlock, block_of, count_of}
 use denote.Slice.{slice_val, elements_shared}
 use denote.Struct.Lending.{in_block_says}
 use Rattle.lhm_ring.proofs.memory.ElementsOwned.{Owner, block_behind}
@@ -79,4 +79,5 @@ as_slice_spec 𝓤 𝓛 𝓜 𝓡 wired X L =
     -- [the result; the token; the other token]
     move ! (1 ∷ 2 ∷ []) $ join ! $ states ! (h.items ≡ h.items) refl $ all_spent ! 4 $
     returns ! (look_at ! 0 refl) $ free_all ! refl $ keep ! (2 ∷ 0 ∷ 3 ∷ 1 ∷ []) $ by !
-    (leaves 𝓛 En hs c y (slice_val place n) (record { ref_ptr = place; now = h.items }) (tt, (tt, (tt, (tt, tt)))) (tt, (tt, (tt, (tt, tt))))))))))))
+    (leaves 𝓛 En hs c y (slice_val place n) (record { ref_ptr = place; now = h.items })
+    (tt, (tt, (tt, (tt, tt)))) (tt, (tt, (tt, (tt, tt))))))))))))

@@ -1,6 +1,6 @@
 -- `into_vec` makes the memory of the elements a vector. Assumes `Logic`.
-use Rattle.lhm_ring.proofs.memory.Steps.{◌≡◌, ℕ, ◌+◌, ◌*◌, ◌<◌, ◌^◌, List, [], ◌∷◌, ◌++◌, refl, sym, ap, ◌∙◌, subst, arith, length}
-use Rattle.lhm_ring.proofs.memory.Steps.{Val, vptr, vint, w64, inst_fn, SProp, ◌∵◌, ‵, raw, ◌⊛◌, at_ret, ◌$◌, !, qed, by, move, keep, drop}
+use Rattle.lhm_ring.proofs.memory.Steps.{◌≡◌, ℕ, ◌+◌, ◌*◌, ◌<◌, ◌^◌, [], ◌∷◌, ◌++◌, refl, sym, ap, ◌∙◌, subst, arith, length}
+use Rattle.lhm_ring.proofs.memory.Steps.{Val, vptr, vint, w64, inst_fn, SProp, ◌∵◌, ‵, raw, ◌⊛◌, at_ret, ◌$◌, !, qed, by, move, keep}
 use Rattle.lhm_ring.proofs.memory.Steps.{use1, split, fsplit, rewrite, bin, of_opd, no_more, and_then, first, blocks, exec, returns, alloc_all}
 use Rattle.lhm_ring.proofs.memory.Steps.{pass_all, free_all, look_at, get, sets, env, tables, fact, usize, yes, no, owns, types_at, plain, Ptr}
 use Rattle.lhm_ring.proofs.memory.Steps.{block_ptr, ptr_val, RawPtr, heard, Stays, stay_dropped, walk_of, Goes-dropped, after, proved_at, leaves}
@@ -8,7 +8,7 @@ use Rattle.lhm_ring.proofs.memory.Steps.{RattleType, Args, a_type, layout, layou
 use Rattle.lhm_ring.proofs.memory.Steps.{in_a_block, snd∗, never, sem, later, pick, await, some, given, learn}
 use Rattle.std.proofs.Common.{◌≤◌}
 use base.Fml.{flt}
-use denote.RawPtr.{InBlock, ◌+ₚ◌}
+use denote.RawPtr.{InBlock}
 use denote.Steps.{only}
 use denote.Triple.Call.{calls_at_last}
 use denote.Triple.Entry.{alive}
@@ -28,7 +28,7 @@ use Rattle.lhm_ring.specs.contracts.bucket_block.Elements.into_vec.{ended, claus
 use Rattle.lhm_ring.specs.contracts.bucket_block.Elements.into_vec.Key.{name as #self}
 use Rattle.lhm_ring.proofs.bucket_block.Elements.into_vec.Statement.{statement}
 use Rattle.lhm_ring.proofs.bucket_block.Elements.into_vec.Code as code
-use Rattle.lhm_ring.specs.BucketBlock.{behind, elements_own}
+use Rattle.lhm_ring.specs.BucketBlock.{behind}
 
 pub into_vec_spec : {M : Type 1} → statement M
 into_vec_spec 𝓤 𝓛 𝓜 𝓡 wired X L =

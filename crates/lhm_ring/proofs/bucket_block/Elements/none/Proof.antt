@@ -1,8 +1,8 @@
 -- `none` owns no element. Assumes `Logic`.
-use Rattle.lhm_ring.proofs.memory.Steps.{◌≡◌, ℕ, ◌*◌, ◌^◌, List, [], ◌∷◌, refl, arith, Val, inst_fn, SProp, ftrue, ◌∵◌, ‵, raw, ◌⊛◌, ◌$◌}
+use Rattle.lhm_ring.proofs.memory.Steps.{◌≡◌, ◌*◌, ◌^◌, [], ◌∷◌, refl, arith, Val, inst_fn, SProp, ftrue, ◌∵◌, ‵, raw, ◌⊛◌, ◌$◌}
 use Rattle.lhm_ring.proofs.memory.Steps.{ !, qed, by, keep, use0, split, fjoin, flt_i, no_more, and_then, returns, alloc_all}
 use Rattle.lhm_ring.proofs.memory.Steps.{pass_all, free_all, look_at, get, sets, agg, tables, Stays, walk_of, proved_at, leaves}
-use Rattle.lhm_ring.proofs.memory.Steps.{nothing, enter, states, tokens, Args, a_type, layouts, param, RattleType, block_ptr, mem}
+use Rattle.lhm_ring.proofs.memory.Steps.{nothing, enter, states, tokens, Args, a_type, layouts, param, RattleType, block_ptr}
 use Rattle.std.specs.Mem.{type_size}
 use Rattle.lhm_ring.proofs.memory.NodeFields.{marker}
 use Rattle.lhm_ring.proofs.memory.ElementsOwned.{Owner, Field, elements_made}
