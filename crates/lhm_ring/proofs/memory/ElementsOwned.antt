@@ -2,7 +2,8 @@
 --     elements_known, elements_made      the owner is its one machine value, and what it owns
 --     block_behind      what lies behind a pointer in a block lies in that block
 use Rattle.lhm_ring.proofs.memory.Steps.{◌≡◌, ℕ, List, [], ◌∷◌, ◌++◌, refl, ◌∙◌, Val, vstruct, vnil, ent, emp, sem, Ura, Logic}
-use Rattle.lhm_ring.proofs.memory.Steps.{‵, ◌$◌, drop, fsplit, fpick, feq_l, Item, Goal, makes_shadow, shape, Struct, RattleType, Ptr, block_ptr, null_ptr}
+use Rattle.lhm_ring.proofs.memory.Steps.{‵, ◌$◌, drop, fsplit, fpick, feq_l, Item, Goal, makes_shadow, shape, Struct}
+use Rattle.lhm_ring.proofs.memory.Steps.{RattleType, Ptr, block_ptr, null_ptr}
 use mir.Val.{of_list}
 use types.Kit.{Seq}
 use denote.RawPtr.{InBlock, ◌+ₚ◌}

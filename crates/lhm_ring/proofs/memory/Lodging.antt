@@ -2,9 +2,12 @@
 use Rattle.lhm_ring.proofs.memory.Steps.{◌≡◌, ℕ, ◌+◌, ◌*◌, ◌<◌, ◌^◌, List, [], ◌∷◌, refl, ap, ◌∙◌, arith, Ura, ftrue, fsep, flft}
 use Rattle.lhm_ring.proofs.memory.Steps.{full_share, ent, emp, SProp, id⊢, w64, ty_array, a_type, Val, vptr, vint, ◌∵◌, ‵, raw, ◌⊛◌, ◌$◌}
 use Rattle.lhm_ring.proofs.memory.Steps.{ !, qed, move, keep, drop, use0, use1, use2, split, join, fsplit, fjoin, rewrite, feq_i, feq_l}
-use Rattle.lhm_ring.proofs.memory.Steps.{flt_l, flt_i, later, pick, await, split3, some, done, updating, now, Logic, sem, ◌⊑◌, fact, fact_i}
-use Rattle.lhm_ring.proofs.memory.Steps.{usize, part_at, froom, layout, layouts, length, param, Laws, RattleType, block_ptr, nothing, heard, as_raw}
-use Rattle.lhm_ring.proofs.memory.Steps.{Item, Goal, T, has_ty, WT, Struct, Valss, within, fpack, vstruct, vcons, vnil, fpick, by, never_e}
+use Rattle.lhm_ring.proofs.memory.Steps.{flt_l, flt_i, later, pick, await, split3, some, done, updating, now, Logic}
+use Rattle.lhm_ring.proofs.memory.Steps.{sem, ◌⊑◌, fact, fact_i}
+use Rattle.lhm_ring.proofs.memory.Steps.{usize, part_at, froom, layout, layouts, length, param, Laws, RattleType}
+use Rattle.lhm_ring.proofs.memory.Steps.{block_ptr, nothing, heard, as_raw}
+use Rattle.lhm_ring.proofs.memory.Steps.{Item, Goal, T, has_ty, WT, Struct, Valss, within, fpack, vstruct, vcons, vnil}
+use Rattle.lhm_ring.proofs.memory.Steps.{fpick, by, never_e}
 use Rattle.lhm_ring.proofs.memory.Steps.{Ptr, null_ptr, room_for}
 use Rattle.std.specs.Allocator.{array_of}
 use Rattle.std.proofs.Common.{◌≤◌, ◌-◌}

@@ -1,10 +1,15 @@
 -- `as_slice` shows the elements that are lent. Assumes `Logic`.
 use Rattle.lhm_ring.proofs.memory.Steps.{◌≡◌, ℕ, ◌+◌, ◌*◌, ◌<◌, ◌^◌, List, [], ◌∷◌, ◌++◌, refl, sym, ap, ◌∙◌, subst, arith, length}
-use Rattle.lhm_ring.proofs.memory.Steps.{Val, vptr, vint, w64, inst_fn, SProp, flft, ◌∵◌, ‵, raw, ◌⊛◌, at_ret, ◌$◌, !, qed, by, move, keep, drop}
-use Rattle.lhm_ring.proofs.memory.Steps.{use1, split, join, fsplit, fjoin, rewrite, feq_i, flt_l, flt_i, bin, of_opd, no_more, and_then, first}
-use Rattle.lhm_ring.proofs.memory.Steps.{blocks, exec, returns, alloc_all, pass_all, free_all, look_at, get, sets, sets_last, env, agg, tables, fact}
-use Rattle.lhm_ring.proofs.memory.Steps.{usize, yes, owns, types_at, plain, Ptr, block_ptr, ptr_val, RawPtr, heard, Stays, stay_dropped, walk_of}
-use Rattle.lhm_ring.proofs.memory.Steps.{Goes-dropped, after, proved_at, leaves, RattleType, Lft, hide, RefOf, Args, a_type, layouts, param}
+use Rattle.lhm_ring.proofs.memory.Steps.{Val, vptr, vint, w64, inst_fn, SProp, flft, ◌∵◌, ‵, raw, ◌⊛◌, at_ret, ◌$◌, !}
+use Rattle.lhm_ring.proofs.memory.Steps.{qed, by, move, keep, drop}
+use Rattle.lhm_ring.proofs.memory.Steps.{use1, split, join, fsplit, fjoin, rewrite, feq_i, flt_l, flt_i, bin, of_opd}
+use Rattle.lhm_ring.proofs.memory.Steps.{no_more, and_then, first}
+use Rattle.lhm_ring.proofs.memory.Steps.{blocks, exec, returns, alloc_all, pass_all, free_all, look_at, get, sets}
+use Rattle.lhm_ring.proofs.memory.Steps.{sets_last, env, agg, tables, fact}
+use Rattle.lhm_ring.proofs.memory.Steps.{usize, yes, owns, types_at, plain, Ptr, block_ptr, ptr_val, RawPtr, heard}
+use Rattle.lhm_ring.proofs.memory.Steps.{Stays, stay_dropped, walk_of}
+use Rattle.lhm_ring.proofs.memory.Steps.{Goes-dropped, after, proved_at, leaves, RattleType, Lft, hide, RefOf, Args}
+use Rattle.lhm_ring.proofs.memory.Steps.{a_type, layouts, param}
 use Rattle.lhm_ring.proofs.memory.Steps.{states, all_spent, tokens, runs_with, mem}
 use Rattle.std.proofs.Common.{◌≤◌}
 use base.Fml.{fhide}

@@ -1,9 +1,13 @@
 -- `from_vec` keeps the memory of a vector. Assumes `Logic`.
 use Rattle.lhm_ring.proofs.memory.Steps.{◌≡◌, ℕ, ◌<◌, ◌^◌, [], ◌∷◌, ◌++◌, refl, sym, ◌∙◌, Val, vint, w64, inst_fn, SProp}
-use Rattle.lhm_ring.proofs.memory.Steps.{◌∵◌, ‵, raw, ◌⊛◌, ◌$◌, !, qed, by, move, keep, use0, use1, split, fsplit, fjoin, rewrite, of_opd, length}
-use Rattle.lhm_ring.proofs.memory.Steps.{no_more, and_then, returns, alloc_all, pass_all, free_all, look_at, get, sets, agg, tables, fact, no}
-use Rattle.lhm_ring.proofs.memory.Steps.{owns, types_at, plain, heard, Stays, stay_dropped, walk_of, proved_at, leaves, later, await, given, learn}
-use Rattle.lhm_ring.proofs.memory.Steps.{framed, states, states_also, all_spent, runs_with, param, param_laws, RattleType, Args, a_type, layouts}
+use Rattle.lhm_ring.proofs.memory.Steps.{◌∵◌, ‵, raw, ◌⊛◌, ◌$◌, !, qed, by, move, keep, use0, use1, split, fsplit}
+use Rattle.lhm_ring.proofs.memory.Steps.{fjoin, rewrite, of_opd, length}
+use Rattle.lhm_ring.proofs.memory.Steps.{no_more, and_then, returns, alloc_all, pass_all, free_all, look_at, get, sets}
+use Rattle.lhm_ring.proofs.memory.Steps.{agg, tables, fact, no}
+use Rattle.lhm_ring.proofs.memory.Steps.{owns, types_at, plain, heard, Stays, stay_dropped, walk_of, proved_at, leaves}
+use Rattle.lhm_ring.proofs.memory.Steps.{later, await, given, learn}
+use Rattle.lhm_ring.proofs.memory.Steps.{framed, states, states_also, all_spent, runs_with, param, param_laws}
+use Rattle.lhm_ring.proofs.memory.Steps.{RattleType, Args, a_type, layouts}
 use denote.Triple.Call.{calls_at}
 use denote.Triple.Entry.{alive}
 use types.ByLocal.{lands_as}

@@ -1,10 +1,14 @@
 -- `into_vec` makes the memory of the elements a vector. Assumes `Logic`.
 use Rattle.lhm_ring.proofs.memory.Steps.{◌≡◌, ℕ, ◌+◌, ◌*◌, ◌<◌, ◌^◌, [], ◌∷◌, ◌++◌, refl, sym, ap, ◌∙◌, subst, arith, length}
 use Rattle.lhm_ring.proofs.memory.Steps.{Val, vptr, vint, w64, inst_fn, SProp, ◌∵◌, ‵, raw, ◌⊛◌, at_ret, ◌$◌, !, qed, by, move, keep}
-use Rattle.lhm_ring.proofs.memory.Steps.{use1, split, fsplit, rewrite, bin, of_opd, no_more, and_then, first, blocks, exec, returns, alloc_all}
-use Rattle.lhm_ring.proofs.memory.Steps.{pass_all, free_all, look_at, get, sets, env, tables, fact, usize, yes, no, owns, types_at, plain, Ptr}
-use Rattle.lhm_ring.proofs.memory.Steps.{block_ptr, ptr_val, RawPtr, heard, Stays, stay_dropped, walk_of, Goes-dropped, after, proved_at, leaves}
-use Rattle.lhm_ring.proofs.memory.Steps.{RattleType, Args, a_type, layout, layouts, param, T, has_ty, WT, param_laws, states, states_also, all_spent, runs_with, framed}
+use Rattle.lhm_ring.proofs.memory.Steps.{use1, split, fsplit, rewrite, bin, of_opd, no_more, and_then, first, blocks}
+use Rattle.lhm_ring.proofs.memory.Steps.{exec, returns, alloc_all}
+use Rattle.lhm_ring.proofs.memory.Steps.{pass_all, free_all, look_at, get, sets, env, tables, fact, usize, yes, no}
+use Rattle.lhm_ring.proofs.memory.Steps.{owns, types_at, plain, Ptr}
+use Rattle.lhm_ring.proofs.memory.Steps.{block_ptr, ptr_val, RawPtr, heard, Stays, stay_dropped, walk_of, Goes-dropped}
+use Rattle.lhm_ring.proofs.memory.Steps.{after, proved_at, leaves}
+use Rattle.lhm_ring.proofs.memory.Steps.{RattleType, Args, a_type, layout, layouts, param, T, has_ty, WT, param_laws}
+use Rattle.lhm_ring.proofs.memory.Steps.{states, states_also, all_spent, runs_with, framed}
 use Rattle.lhm_ring.proofs.memory.Steps.{in_a_block, snd∗, never, sem, later, pick, await, some, given, learn}
 use Rattle.std.proofs.Common.{◌≤◌}
 use base.Fml.{flt}
