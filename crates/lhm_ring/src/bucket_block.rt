@@ -32,8 +32,6 @@ const _: () = prove!(size_of::<Word>() == 2);
 
 /// The elements of a vector without spare room, whose pointer and length the caller knows. It takes
 /// no space.
-///
-/// They lie behind `skip` heads from `first` on.
 pub(crate) struct Elements<T> {
     marker: PhantomData<*mut T>,
     ghost at: { Ptr },
@@ -69,38 +67,37 @@ impl<T> Elements<T> {
     }
 
     /// Makes the elements a vector.
-    pub(crate) fn into_vec(self, first: *mut Head, skip: usize, len: usize) -> Vec<T, Lodged>
-        requires at { self.at ≡ behind first skip }
+    pub(crate) fn into_vec(self, ptr: *mut T, len: usize) -> Vec<T, Lodged>
+        requires at { self.at ≡ ptr }
         requires len { length self.items ≡ len }
-        requires small { (skip ≤ 2 ^ 59) × (len ≤ 2 ^ 59) }
+        requires small { len < 2 ^ 63 }
         ensures items { result.items ≡ self.items }
         ensures len { (vec_len result ≡ len) × (vec_capacity result ≡ len) }
         ensures at { vec_ptr result ≡ self.at }
     {
         let Elements { marker: _ } = self;
-        unsafe { lodge(first.add(skip) as *mut T, len, len) }
+        unsafe { lodge(ptr, len, len) }
     }
 
     /// Returns the elements.
-    pub(crate) fn as_slice(&self, first: *mut Head, skip: usize, len: usize) -> &[T]
-        requires at { self.now.at ≡ behind first skip }
+    pub(crate) fn as_slice(&self, ptr: *const T, len: usize) -> &[T]
+        requires at { self.now.at ≡ ptr }
         requires len { length self.now.items ≡ len }
-        requires small { skip ≤ 2 ^ 59 }
         ensures { result.now ≡ self.now.items }
     {
-        unsafe { slice::from_raw_parts(first.add(skip) as *const T, len) }
+        unsafe { slice::from_raw_parts(ptr, len) }
     }
 
     /// Takes the elements out, as a vector.
-    pub(crate) fn take(&mut self, first: *mut Head, skip: usize, len: usize) -> Vec<T, Lodged>
-        requires at { self.old.at ≡ behind first skip }
+    pub(crate) fn take(&mut self, ptr: *mut T, len: usize) -> Vec<T, Lodged>
+        requires at { self.old.at ≡ ptr }
         requires len { length self.old.items ≡ len }
-        requires small { (skip ≤ 2 ^ 59) × (len ≤ 2 ^ 59) }
+        requires small { len < 2 ^ 63 }
         ensures items { result.items ≡ self.old.items }
         ensures len { (vec_len result ≡ len) × (vec_capacity result ≡ len) }
         ensures at { vec_ptr result ≡ self.old.at }
     {
-        mem::replace(self, Elements::none()).into_vec(first, skip, len)
+        mem::replace(self, Elements::none()).into_vec(ptr, len)
     }
 
     /// Puts the elements of a vector in. What was there is forgotten.
@@ -174,7 +171,7 @@ pub(crate) fn join_block(
 ) -> Block<Head, Global>
     requires some { 0 < dealloc.count }
     requires counts { (length heads.items ≡ dealloc.count) × (length words.items ≡ dealloc.count) }
-    requires at { (dealloc.at ≡ first) × (heads.at ≡ behind first 0)
+    requires at { (dealloc.at ≡ first) × (heads.at ≡ first)
         × (words.at ≡ behind first dealloc.count) }
     ensures { result.count ≡ block_heads dealloc.count }
 {

@@ -68,8 +68,9 @@ impl<K, V> Index<K, V> {
         fill_heads(&mut heads, count);
         fill_words(&mut words, count);
         Index {
-            first: heads.as_ptr().cast_mut(),
             count,
+            words_ptr: words.as_ptr().cast_mut(),
+            heads_ptr: heads.as_ptr().cast_mut(),
             heads: Elements::from_vec(heads),
             words: Elements::from_vec(words),
             dealloc,
@@ -98,15 +99,16 @@ impl<K, V> Index<K, V> {
         ensures buckets { length self.new.heads ≡ count }
     {
         let Index {
-            first,
             count: _,
+            words_ptr: _,
+            heads_ptr,
             heads,
             words,
             dealloc,
             alloc,
             marker: _,
         } = mem::replace(self, Index::new(self.alloc));
-        let block = join_block(first, heads, words, dealloc);
+        let block = join_block(heads_ptr, heads, words, dealloc);
         mem::replace(self, Index::in_block(block, count, alloc)).free();
     }
 
@@ -124,7 +126,7 @@ impl<K, V> Index<K, V> {
         requires { bucket < length self.now.heads }
         ensures { target result ≡ slice_index_or self.now.heads bucket None }
     {
-        self.heads.as_slice(self.first, 0, self.count)[bucket].link
+        self.heads.as_slice(self.heads_ptr, self.count)[bucket].link
     }
 
     /// Returns whether a node may have a hash of this bucket: `false` only if none has it.
@@ -133,7 +135,7 @@ impl<K, V> Index<K, V> {
         requires within { bucket < length self.now.heads }
         ensures { result ≡ may_contain self.now.words hash }
     {
-        let words = self.words.as_slice(self.first, self.count, self.count);
+        let words = self.words.as_slice(self.words_ptr, self.count);
         (words[bucket].bits >> ((hash >> 60) as u32)) & 1 == 1
     }
 
@@ -146,11 +148,11 @@ impl<K, V> Index<K, V> {
         ensures words { SetsBit self.old.words self.new.words hash }
         ensures old { target result ≡ slice_index_or self.old.heads bucket None }
     {
-        let mut heads = self.heads.take(self.first, 0, self.count);
+        let mut heads = self.heads.take(self.heads_ptr, self.count);
         let old = heads[bucket].link;
         heads[bucket].link = head;
         self.heads.put(heads);
-        let mut words = self.words.take(self.first, self.count, self.count);
+        let mut words = self.words.take(self.words_ptr, self.count);
         let bits = words[bucket].bits;
         words[bucket].bits = bits | (1u16 << ((hash >> 60) as u32));
         self.words.put(words);
@@ -166,12 +168,12 @@ impl<K, V> Index<K, V> {
         ensures same { IsSome (target head) → self.new.words ≡ self.old.words }
         ensures count { length self.new.words ≡ length self.old.words }
     {
-        let mut heads = self.heads.take(self.first, 0, self.count);
+        let mut heads = self.heads.take(self.heads_ptr, self.count);
         heads[bucket].link = head;
         self.heads.put(heads);
         let there: Option<Position<K, V>> = head.get();
         if there.is_none() {
-            let mut words = self.words.take(self.first, self.count, self.count);
+            let mut words = self.words.take(self.words_ptr, self.count);
             words[bucket].bits = 0;
             self.words.put(words);
         }
@@ -187,10 +189,10 @@ impl<K, V> Index<K, V> {
         if ring.len() == 0 {
             return;
         }
-        let mut heads = self.heads.take(self.first, 0, self.count);
+        let mut heads = self.heads.take(self.heads_ptr, self.count);
         clear_heads(&mut heads);
         self.heads.put(heads);
-        let mut words = self.words.take(self.first, self.count, self.count);
+        let mut words = self.words.take(self.words_ptr, self.count);
         clear_words(&mut words);
         self.words.put(words);
     }
@@ -198,8 +200,9 @@ impl<K, V> Index<K, V> {
     /// Frees the buckets, in O(n).
     pub fn free(self) {
         let Index {
-            first,
             count,
+            words_ptr: _,
+            heads_ptr,
             heads,
             words,
             dealloc,
@@ -211,7 +214,7 @@ impl<K, V> Index<K, V> {
             words.end();
             dealloc.end();
         } else {
-            let block = join_block(first, heads, words, dealloc);
+            let block = join_block(heads_ptr, heads, words, dealloc);
             deallocate(&alloc, block, block_heads(count));
         }
     }

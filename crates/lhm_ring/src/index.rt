@@ -27,9 +27,11 @@ use std::ptr::null_mut;
 /// O(1), on average if they search or remove, unless they say otherwise. Only `with_buckets`
 /// allocates. It is not `Drop`: only `free` ends it.
 pub struct Index<K, V> {
-    // Where the heads of the buckets lie, and how many there are.
-    pub(crate) first: *mut Head,
+    // How many buckets there are, and where their words and heads lie. A lookup of an absent key
+    // mostly reads the first two alone.
     pub(crate) count: usize,
+    pub(crate) words_ptr: *mut Word,
+    pub(crate) heads_ptr: *mut Head,
     // For each bucket the head of its chain, and a word of the filter: if the bit of a hash is not
     // set, no node has that hash.
     pub(crate) heads: Elements<Head>,
@@ -57,11 +59,12 @@ impl<K, V> Model for Index<K, V> {
       words_count : length i.words.items ≡ i.count;
       power : IsBucketCount i.count;
       small : i.count ≤ 2 ^ 59;
-      heads_at : 0 < i.count → i.heads.at ≡ behind i.first 0;
+      heads_at : 0 < i.count → i.heads.at ≡ i.heads_ptr;
+      words_at : 0 < i.count → i.words.at ≡ i.words_ptr;
       -- the words lie right behind the heads
-      words_at : 0 < i.count → i.words.at ≡ behind i.first i.count;
+      behind_heads : 0 < i.count → i.words.at ≡ behind i.heads_ptr i.count;
       dealloc_count : i.dealloc.count ≡ i.count;
-      dealloc_at : 0 < i.count → i.dealloc.at ≡ i.first;
+      dealloc_at : 0 < i.count → i.dealloc.at ≡ i.heads_ptr;
     } };
 }
 
@@ -72,8 +75,9 @@ impl<K, V> Index<K, V> {
         ensures words { result.words ≡ [] }
     {
         Index {
-            first: null_mut(),
             count: 0,
+            words_ptr: null_mut(),
+            heads_ptr: null_mut(),
             heads: Elements::none(),
             words: Elements::none(),
             dealloc: Dealloc::none(),

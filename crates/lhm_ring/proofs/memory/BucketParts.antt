@@ -1,7 +1,7 @@
 -- The memory of a block is split into that of heads and that of words, and joined again. Assumes `Logic`.
 use Rattle.lhm_ring.proofs.memory.Steps.{◌≡◌, ℕ, ◌+◌, ◌*◌, [], ◌∷◌, refl, arith, Ura, Ty, ent, sep, SProp, ty_array}
 use Rattle.lhm_ring.proofs.memory.Steps.{◌∵◌, ‵, raw, ◌⊛◌, ◌$◌}
-use Rattle.lhm_ring.proofs.memory.Steps.{!, qed, move, use1, use2, split, fsplit, fjoin, done, Logic, sem, layout, Laws}
+use Rattle.lhm_ring.proofs.memory.Steps.{ !, qed, move, use1, use2, split, fsplit, fjoin, done, Logic, sem, layout, Laws}
 use Rattle.lhm_ring.proofs.memory.Steps.{block_ptr, froom, as_raw, RattleType}
 use Rattle.std.proofs.Common.{◌≤◌, ◌-◌}
 use mir.Raw.{raw as bare}

@@ -1,12 +1,12 @@
 -- What the owner of elements is by value, and where what it owns lies. Assumes `Logic`.
 --     elements_known, elements_made      the owner is its one machine value, and what it owns
---     block_behind      what lies behind a pointer in a block lies in that block
+--     in_block-block      a pointer into a block, by its block and its place
 use Rattle.lhm_ring.proofs.memory.Steps.{◌≡◌, ℕ, List, [], ◌∷◌, ◌++◌, refl, ◌∙◌, Val, vstruct, vnil, ent, emp, sem, Ura, Logic}
 use Rattle.lhm_ring.proofs.memory.Steps.{‵, ◌$◌, drop, fsplit, fpick, feq_l, Item, Goal, makes_shadow, shape, Struct}
 use Rattle.lhm_ring.proofs.memory.Steps.{RattleType, Ptr, block_ptr, null_ptr}
 use mir.Val.{of_list}
 use types.Kit.{Seq}
-use denote.RawPtr.{InBlock, ◌+ₚ◌}
+use denote.RawPtr.{InBlock, block_of, count_of}
 use Rattle.lhm_ring.proofs.memory.NodeFields.{marker}
 use Rattle.lhm_ring.specs.contracts.bucket_block.Elements as E-type
 use Rattle.lhm_ring.specs.BucketBlock.{elements_own}
@@ -32,6 +32,6 @@ module _ {M : Type 1} {𝓤 : Ura M} {𝓛 : Logic 𝓤} {K : Type 0} {Γ : List
       (λ ev. fsplit t $ fpick t (λ uss. fsplit t $ feq_l t (λ em. drop t $ drop t $
       k (ev ∙ (λ i. vstruct (of_list (em i ++ [])) ∷ []))))))
 
-pub block_behind : (p : Ptr) (n : ℕ) → InBlock (p +ₚ n) → (at : ℕ × ℕ) × (p ≡ block_ptr at.0 at.1)
-block_behind (block_ptr b o) n t = ((b, o), refl)
-block_behind null_ptr n t = absurd t
+pub in_block-block : (p : Ptr) → InBlock p → p ≡ block_ptr (block_of p) (count_of p)
+in_block-block (block_ptr b o) t = refl
+in_block-block null_ptr t = absurd t

@@ -27,7 +27,6 @@ use Rattle.lhm_ring.specs.contracts.bucket_block.Word.{the_row as word}
 use Rattle.lhm_ring.specs.contracts.bucket_block.Dealloc.{the_row as dealloc}
 use Rattle.lhm_ring.proofs.bucket_block.Head.TheLaws as head-laws
 use Rattle.lhm_ring.proofs.bucket_block.Word.TheLaws as word-laws
-use Rattle.lhm_ring.proofs.indexes.BlockSizes.{behind-none}
 use Rattle.lhm_ring.proofs.memory.BlockValues.{block_val, block_Good, BlockType, BlockFields, block_made}
 use Rattle.lhm_ring.proofs.memory.ElementsOwned.{Owner, elements_known}
 use Rattle.lhm_ring.proofs.memory.Lodging.{none_had, room_of_vector}
@@ -65,7 +64,7 @@ module _ {M : Type 1} {𝓤 : Ura M} (𝓛 : Logic 𝓤) (at_mem : Memory → SP
       let p : Ptr = a.0 in let hs = a.1.0 in let ws = a.1.1.0 in let d = a.1.1.1.0 in let n : ℕ = d.count in
       let k : ℕ = block_heads n in
       let Some : Type 0 = 0 < n in let Counts : Type 0 = (length hs.items ≡ n) × (length ws.items ≡ n) in
-      let At : Type 0 = (d.at ≡ p) × (hs.at ≡ behind p 0) × (ws.at ≡ behind p n) in
+      let At : Type 0 = (d.at ≡ p) × (hs.at ≡ p) × (ws.at ≡ behind p n) in
       qed 𝓛 ((raw (alive 𝓛 ended.signature κs y.0.1) ⊛ ‵ (owns (types_at ended.signature.params κs) a vss)) ∷ raw (fact 𝓤 Some) ∷ raw
       (fact 𝓤 Counts) ∷ raw (fact 𝓤 At) ∷ []) ∵
       keep ! (1 ∷ 2 ∷ 3 ∷ 0 ∷ []) $ heard ! Some (λ some. heard ! Counts (λ counts. heard ! At (λ placed. split ! $ move ! (1 ∷ []) $
@@ -86,7 +85,7 @@ module _ {M : Type 1} {𝓤 : Ura M} (𝓛 : Logic 𝓤) (at_mem : Memory → SP
       use1 𝓛 (‵ (room_for (array_of word n) (behind p n)))
       (room_of_vector word word-laws.the_row_laws 𝓛 n some n ws.items (omega arith) (behind p n)) $
       move ! (3 ∷ []) $ rewrite ! 0 (λ (z : Ptr × ℕ). ‵ (lodged (param 0 head) z.0 z.1 z.1 hs.items)) {x = (p, n)}
-      (λ i. ((placed.1 ∙ behind-none p) i, counts.0 i)) refl $
+      (λ i. (placed.1 i, counts.0 i)) refl $
       use1 𝓛 (‵ (room_for (array_of head n) p))
       (room_of_vector head head-laws.the_row_laws 𝓛 n some n hs.items (omega arith) p) $ fjoin ! $
       -- [the parts; the token; that they join; what is alive]

@@ -26,7 +26,7 @@ use Rattle.std_alloc.proofs.vec.lodge.Met as lodge_met
 use Rattle.std_alloc.specs.declared.vec.Vec.{Vec}
 use Rattle.std_alloc.specs.declared.vec.lodged.Lodged.{Lodged}
 use Rattle.lhm_ring.proofs.memory.NodeFields.{marker}
-use Rattle.lhm_ring.proofs.memory.ElementsOwned.{Owner, elements_known, block_behind}
+use Rattle.lhm_ring.proofs.memory.ElementsOwned.{Owner, elements_known}
 use Rattle.lhm_ring.proofs.memory.Lodging.{Lodging, lodging_laws, tells, Lodges, at_lodge, IsLodged, lodge_goes, lodge_gives}
 use Rattle.lhm_ring.specs.contracts.bucket_block.Elements.into_vec.{ended, clauses}
 use Rattle.lhm_ring.specs.contracts.bucket_block.Elements.into_vec.Key.{name as #self}
@@ -41,26 +41,19 @@ into_vec_spec 𝓤 𝓛 𝓜 𝓡 wired X L =
     let En = ended X in let c = clauses X 𝓛 𝓜.mem 𝓡.returns in let fn = inst_fn args code.function in
     let hs : Stays En.signature.params En.kept = (
       stay_dropped (plain (λ _. S)) no,
-      (
-        stay_dropped (plain (λ _. RawPtr)) yes,
-        (stay_dropped (plain (λ _. usize)) yes, (stay_dropped (plain (λ _. usize)) yes, tt)),
-      ),
+      (stay_dropped (plain (λ _. RawPtr)) yes, (stay_dropped (plain (λ _. usize)) yes, tt)),
     ) in
     let Called = Lodges X 𝓛 𝓜.mem 𝓡.returns in
     proved_at 𝓛 En hs c 𝓜 𝓡 (
       Goes-blank 𝓛 1 (plain (λ _. S)) no (λ κs x f. tt),
       (
         Goes-dropped 𝓛 1 (plain (λ _. RawPtr)) yes (λ κs x f. refl),
-        (
-          Goes-dropped 𝓛 1 (plain (λ _. usize)) yes (λ κs x f. refl),
-          (Goes-dropped 𝓛 1 (plain (λ _. usize)) yes (λ κs x f. refl), tt),
-        ),
+        (Goes-dropped 𝓛 1 (plain (λ _. usize)) yes (λ κs x f. refl), tt),
       ),
     ) (#self args) fn (code.unfolded 𝓤 H 𝓜 𝓡 wired (X, tt)) (λ y are.
     let κs = y.0.0 in let a = y.0.3 in let vss = y.0.4 in let Post : Val → SProp 𝓤 = (walk_of 𝓛 En hs c).post y in
-    let h : S.Denot = a.0 in let p : Ptr = a.1.0 in let m : ℕ = a.1.1.0 in let n : ℕ = a.1.1.1.0 in
-    let At : Type 0 = h.at ≡ behind p m in let Long : Type 0 = length h.items ≡ n in
-    let Small : Type 0 = (m ≤ 2 ^ 59) × (n ≤ 2 ^ 59) in
+    let h : S.Denot = a.0 in let p : Ptr = a.1.0 in let n : ℕ = a.1.1.0 in
+    let At : Type 0 = h.at ≡ p in let Long : Type 0 = length h.items ≡ n in let Small : Type 0 = n < 2 ^ 63 in
     qed 𝓛 ((raw (alive 𝓛 En.signature κs y.0.1) ⊛ ‵ (owns (types_at En.signature.params κs) a vss)) ∷ raw (fact 𝓤 _) ∷ raw
     (fact 𝓤 At) ∷ raw (fact 𝓤 Long) ∷ raw (fact 𝓤 Small) ∷ []) ∵
     keep ! (2 ∷ 3 ∷ 4 ∷ 0 ∷ []) $ heard ! At (λ placed. heard ! Long (λ long. heard ! Small (λ small. split ! $
@@ -69,28 +62,21 @@ into_vec_spec 𝓤 𝓛 𝓜 𝓡 wired X L =
     elements_known ! R h vss.0 (λ is.
     rewrite ! 0 (λ (k : ℕ). ‵ (lodged R h.at k k h.items)) long refl $
     in_a_block ! h.at (λ q. lodged R q n n h.items)
-    (snd∗ 𝓤 (sem 𝓛 (flt (n * type_size R) (2 ^ 63))) (never 𝓤)) (λ b' o' found.
-    let e = block_behind p (m * 8) (subst InBlock (sym found ∙ placed) tt) in
-    let b : ℕ = e.0.0 in let o : ℕ = e.0.1 in let at : ℕ = m * 8 + o in
-    let turned : o + m * 8 ≡ at = omega arith in
-    let there : h.at ≡ block_ptr b at = placed ∙ ap (λ (q : Ptr). behind q m) e.1 ∙ ap (λ (k : ℕ). block_ptr b k) turned in
-    rewrite ! 0 (λ (q : Ptr). ‵ (lodged R q n n h.items)) (sym found ∙ there) refl $
-    let f : m < 2 ^ 64 = are.1.1.0.1 in let g : n < 2 ^ 64 = are.1.1.1.0.1 in
-    let f₈ : m * 8 < 2 ^ 64 = omega (arith, small) in
-    let z = at_lodge X 𝓛 𝓜.mem 𝓡.returns b at n n h.items in
-    runs_with ! 𝓣.C 𝓣.Λ fn Post (marker ∷ vptr b o ∷ vint w64 m ∷ vint w64 n ∷ [])
-    (λ i. is i ++ ((are.1.0 ∙ ap (λ (q : Ptr). ptr_val q ∷ []) e.1) i ++ (are.1.1.0.0 i ++ (are.1.1.1.0.0 i ++ [])))) $
-    alloc_all ! (λ l. pass_all ! refl ((tt, (tt, tt)), ((tt, tt), ((tt, record { fits = f }), ((tt, record { fits = g }), tt)))) $
+    (snd∗ 𝓤 (sem 𝓛 (flt (n * type_size R) (2 ^ 63))) (never 𝓤)) (λ b o found.
+    let g : n < 2 ^ 64 = are.1.1.0.1 in
+    let z = at_lodge X 𝓛 𝓜.mem 𝓡.returns b o n n h.items in
+    runs_with ! 𝓣.C 𝓣.Λ fn Post (marker ∷ vptr b o ∷ vint w64 n ∷ [])
+    (λ i. is i ++ ((are.1.0 ∙ ap (λ (q : Ptr). ptr_val q ∷ []) (sym placed ∙ found)) i ++ (are.1.1.0.0 i ++ []))) $
+    alloc_all ! (λ l. pass_all ! refl ((tt, (tt, tt)), ((tt, tt), ((tt, record { fits = g }), tt))) $
     let Ev = env fn.locals l in
-    first ! $ blocks ! $ sets ! (bin ! (get ! refl) (lit ! tt) (record { fits = f₈ })) refl (tt, record { fits = f₈ }) $
-    sets ! (bin ! (get ! refl) (get ! refl) tt) refl (tt, tt) $ sets ! (of_opd ! (get ! refl)) refl (tt, tt) $
-    use1 𝓛 (raw (Called.pre z)) (lodge_goes X 𝓛 𝓜.mem 𝓡.returns b at n n h.items (sym long) (omega arith) (omega (arith, small))) $
+    first ! $ blocks ! $
+    use1 𝓛 (raw (Called.pre z)) (lodge_goes X 𝓛 𝓜.mem 𝓡.returns b o n n h.items (sym long) (omega arith) small) $
     calls_at_last ! (framed 𝓤 H 𝓜 𝓣) Called
     (lodge_met.met 𝓤 𝓛 𝓜 𝓡 (code.calls-std_alloc::vec::lodge 𝓡.env wired) (timeless X) (timeless_laws X L)) z
     (and_then ! (get ! refl) (and_then ! (get ! refl) (and_then ! (get ! refl) (no_more !)))) (λ u.
-    use1 𝓛 (later (some (λ (r : Vec X.Denot Lodged). given (IsLodged X 𝓛 𝓜.mem 𝓡.returns b at n n h.items r)
+    use1 𝓛 (later (some (λ (r : Vec X.Denot Lodged). given (IsLodged X 𝓛 𝓜.mem 𝓡.returns b o n n h.items r)
     (‵ (V.own_val r (u ∷ []))))))
-    (lodge_gives X 𝓛 𝓜.mem 𝓡.returns b at n n h.items u) $ await ! tt $ pick ! (λ r. learn ! (λ made.
+    (lodge_gives X 𝓛 𝓜.mem 𝓡.returns b o n n h.items u) $ await ! tt $ pick ! (λ r. learn ! (λ made.
     tells ! V (lodging_laws R (param_laws 0 X L)) r (u ∷ []) (λ v ev gv.
     rewrite ! 0 (λ w. ‵ (V.own_val r (w ∷ []))) (sym (ap only ev)) refl $
     let good = subst (λ w. T (has_ty (layout V) w) × WT w) (sym (ap only ev)) gv in
@@ -98,7 +84,7 @@ into_vec_spec 𝓤 𝓛 𝓜 𝓡 wired X L =
     exec ! 𝓣.C 𝓣.Λ Ev (after 1 fn.body) (at_ret Ev Post) $
     sets ! (of_opd ! (get ! refl)) refl good $
     -- [the vector; what is alive]
-    states ! (r.ptr ≡ h.at) (made.3 ∙ sym there) $ states_also ! ((r.len ≡ n) × (r.cap ≡ n)) (made.1, made.2) $
-    states_also ! (r.items ≡ h.items) made.0 $ all_spent ! 4 $
+    states ! (r.ptr ≡ h.at) (made.3 ∙ sym found) $ states_also ! ((r.len ≡ n) × (r.cap ≡ n)) (made.1, made.2) $
+    states_also ! (r.items ≡ h.items) made.0 $ all_spent ! 3 $
     returns ! (look_at ! 0 refl) $ free_all ! refl $ keep ! (3 ∷ 0 ∷ 2 ∷ 1 ∷ []) $ by !
-    (leaves 𝓛 En hs c y u r (tt, (tt, (tt, (tt, tt)))) (tt, (tt, (tt, (tt, tt))))))))))))))))
+    (leaves 𝓛 En hs c y u r (tt, (tt, (tt, tt))) (tt, (tt, (tt, tt)))))))))))))))

@@ -7,11 +7,11 @@ use Rattle.lhm_ring.specs.Buckets.{BucketState, leads_to}
 
 pub in_block-requires-clause-block : goal.in_block-requires-clause-block
 in_block-requires-clause-block g c =
-    let i = c.first.inside in
+    let i = c.heads_ptr.inside in
     let long = length-map i.heads.items leads_to in
-    let seen = ap (λ (z : BucketState). length z.heads) (c.first.view_is ∙ c.replace-2.ensures.value) in
+    let seen = ap (λ (z : BucketState). length z.heads) (c.heads_ptr.view_is ∙ c.replace-2.ensures.value) in
     let many : i.dealloc.count ≡ length c.args.self.now.heads =
-    omega (arith, c.first.invariant.dealloc_count, c.first.invariant.heads_count, long, seen) in
+    omega (arith, c.heads_ptr.invariant.dealloc_count, c.heads_ptr.invariant.heads_count, long, seen) in
     let old = block_heads-few i.dealloc.count (omega (arith, many, c.requires.some)) (omega (arith, many, c.requires.within)) in
     let some : 0 < c.args.count = omega (arith, c.requires.power.1, pow_pos c.requires.power.0) in
     c.join_block-block.ensures ∙ old ∙ sym (block_heads-few c.args.count some c.requires.few)
