@@ -1,3 +1,4 @@
+pub mod BlockSizes
 pub mod BucketCounts
 pub mod BucketHeads
 pub mod Chains

@@ -5,6 +5,8 @@ pub mod BucketParts
 pub mod ChunkPlaces
 pub mod ContentTaken
 pub mod ContentsSplitOff
+pub mod ElementsLent
+pub mod ElementsOwned
 pub mod FieldSeen
 pub mod Lodging
 pub mod NodeAdded

@@ -2,18 +2,19 @@
 ghost use Rattle.std.specs.Prelude.{◌≡◌, ◌≢◌, ◌%◌, ◌<◌, ◌≤◌, ◌/◌, ◌^◌, length, None, IfOk, IsOk, IsSome, IsTrue, IsFalse, ℕ, slice_index_or, slice_set};
 ghost use Rattle.lhm_ring.specs.Pointer.{target};
 ghost use Rattle.std.specs.Int.{IsNextPowerOfTwo, IsPowerOfTwo};
+ghost use Rattle.lhm_ring.specs.BucketBlock.{block_heads};
 ghost use Rattle.lhm_ring.specs.Index.{Indexes, spots};
 ghost use Rattle.lhm_ring.specs.Buckets.{buckets, IsBucketCount, HasNoChain, SetsBit, may_contain};
 
-use crate::bucket_parts::{
-    clear_heads, clear_words, empty_heads, empty_words, fill_heads, fill_words, free_parts,
-    new_parts,
-};
+use crate::bucket_block::{Elements, Head, join_block, split_block};
+use crate::bucket_parts::{block_heads, clear_heads, clear_words, fill_heads, fill_words};
 use crate::index::Index;
+use crate::nodes::{Block, allocate, deallocate};
 use crate::pointer::{Link, Position};
 use crate::ring::Ring;
 use std::alloc::{AllocError, Global};
 use std::marker::PhantomData;
+use std::mem;
 
 /// So many buckets an index has room for, if it has any: a growth up to so many asks for no memory
 /// for buckets.
@@ -49,14 +50,33 @@ impl<K, V> Index<K, V> {
         if count == 0 {
             return Ok(Index::new(alloc));
         }
-        let (heads, words, dealloc) = new_parts(alloc, count)?;
-        Ok(Index {
-            heads,
-            words,
+        let block = allocate(&alloc, block_heads(count))?;
+        Ok(Index::in_block(block, count, alloc))
+    }
+
+    /// Makes `count` empty buckets in a block that has room for them.
+    fn in_block(block: Block<Head, Global>, count: usize, alloc: Global) -> Index<K, V>
+        requires block { block.count ≡ block_heads count }
+        requires some { 0 < count }
+        requires small { count ≤ 2 ^ 59 }
+        requires power { IsPowerOfTwo count }
+        ensures empty { HasNoChain result }
+        ensures words { length result.words ≡ length result.heads }
+        ensures buckets { length result.heads ≡ count }
+    {
+        let (mut heads, mut words, dealloc) = split_block(block, count);
+        fill_heads(&mut heads, count);
+        fill_words(&mut words, count);
+        Index {
+            count,
+            words_ptr: words.as_ptr().cast_mut(),
+            heads_ptr: heads.as_ptr().cast_mut(),
+            heads: Elements::from_vec(heads),
+            words: Elements::from_vec(words),
             dealloc,
             alloc,
             marker: PhantomData,
-        })
+        }
     }
 
     /// Returns whether there is room for `count` buckets, as there is for 4 if there is a bucket.
@@ -65,22 +85,31 @@ impl<K, V> Index<K, V> {
         ensures few { IsTrue result → count ≤ 4 }
         ensures none { IsFalse result → 0 < length self.now.heads → 4 < count }
     {
-        !self.heads.is_empty() && count <= FEW
+        self.count != 0 && count <= FEW
     }
 
     /// Makes `count` empty buckets within the room, in place of those that there are.
     pub(crate) fn make_empty(&mut self, count: usize)
         requires some { 0 < length self.old.heads }
+        requires within { length self.old.heads ≤ 4 }
         requires few { count ≤ 4 }
         requires power { IsPowerOfTwo count }
         ensures empty { HasNoChain self.new }
         ensures words { length self.new.words ≡ length self.new.heads }
         ensures buckets { length self.new.heads ≡ count }
     {
-        empty_heads(&mut self.heads);
-        fill_heads(&mut self.heads, count);
-        empty_words(&mut self.words);
-        fill_words(&mut self.words, count);
+        let Index {
+            count: _,
+            words_ptr: _,
+            heads_ptr,
+            heads,
+            words,
+            dealloc,
+            alloc,
+            marker: _,
+        } = mem::replace(self, Index::new(self.alloc));
+        let block = join_block(heads_ptr, heads, words, dealloc);
+        mem::replace(self, Index::in_block(block, count, alloc)).free();
     }
 
     /// Returns the bucket of a hash, by a mask.
@@ -89,7 +118,7 @@ impl<K, V> Index<K, V> {
         ensures of_hash { result ≡ hash % length self.now.heads }
         ensures within { result < length self.now.heads }
     {
-        (hash & (self.heads.len() as u64 - 1)) as usize
+        (hash & (self.count as u64 - 1)) as usize
     }
 
     /// Returns the head of a bucket.
@@ -97,7 +126,7 @@ impl<K, V> Index<K, V> {
         requires { bucket < length self.now.heads }
         ensures { target result ≡ slice_index_or self.now.heads bucket None }
     {
-        self.heads[bucket].link
+        self.heads.as_slice(self.heads_ptr, self.count)[bucket].link
     }
 
     /// Returns whether a node may have a hash of this bucket: `false` only if none has it.
@@ -106,7 +135,8 @@ impl<K, V> Index<K, V> {
         requires within { bucket < length self.now.heads }
         ensures { result ≡ may_contain self.now.words hash }
     {
-        (self.words[bucket].bits >> ((hash >> 60) as u32)) & 1 == 1
+        let words = self.words.as_slice(self.words_ptr, self.count);
+        (words[bucket].bits >> ((hash >> 60) as u32)) & 1 == 1
     }
 
     /// Makes a node with this hash the head of its bucket, sets the bit of the hash, and returns
@@ -118,10 +148,14 @@ impl<K, V> Index<K, V> {
         ensures words { SetsBit self.old.words self.new.words hash }
         ensures old { target result ≡ slice_index_or self.old.heads bucket None }
     {
-        let old = self.heads[bucket].link;
-        self.heads[bucket].link = head;
-        let bits = self.words[bucket].bits;
-        self.words[bucket].bits = bits | (1u16 << ((hash >> 60) as u32));
+        let mut heads = self.heads.take(self.heads_ptr, self.count);
+        let old = heads[bucket].link;
+        heads[bucket].link = head;
+        self.heads.put(heads);
+        let mut words = self.words.take(self.words_ptr, self.count);
+        let bits = words[bucket].bits;
+        words[bucket].bits = bits | (1u16 << ((hash >> 60) as u32));
+        self.words.put(words);
         old
     }
 
@@ -134,10 +168,14 @@ impl<K, V> Index<K, V> {
         ensures same { IsSome (target head) → self.new.words ≡ self.old.words }
         ensures count { length self.new.words ≡ length self.old.words }
     {
-        self.heads[bucket].link = head;
+        let mut heads = self.heads.take(self.heads_ptr, self.count);
+        heads[bucket].link = head;
+        self.heads.put(heads);
         let there: Option<Position<K, V>> = head.get();
         if there.is_none() {
-            self.words[bucket].bits = 0;
+            let mut words = self.words.take(self.words_ptr, self.count);
+            words[bucket].bits = 0;
+            self.words.put(words);
         }
     }
 
@@ -151,19 +189,33 @@ impl<K, V> Index<K, V> {
         if ring.len() == 0 {
             return;
         }
-        clear_heads(&mut self.heads);
-        clear_words(&mut self.words);
+        let mut heads = self.heads.take(self.heads_ptr, self.count);
+        clear_heads(&mut heads);
+        self.heads.put(heads);
+        let mut words = self.words.take(self.words_ptr, self.count);
+        clear_words(&mut words);
+        self.words.put(words);
     }
 
     /// Frees the buckets, in O(n).
     pub fn free(self) {
         let Index {
+            count,
+            words_ptr: _,
+            heads_ptr,
             heads,
             words,
             dealloc,
             alloc,
             marker: _,
         } = self;
-        free_parts(&alloc, heads, words, dealloc);
+        if count == 0 {
+            heads.end();
+            words.end();
+            dealloc.end();
+        } else {
+            let block = join_block(heads_ptr, heads, words, dealloc);
+            deallocate(&alloc, block, block_heads(count));
+        }
     }
 }

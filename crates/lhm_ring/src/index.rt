@@ -7,7 +7,7 @@ ghost use Rattle.lhm_ring.specs.Buckets.{buckets, HasNoChain};
 ghost use Rattle.lhm_ring.specs.Search.{HasKey, LacksKey};
 ghost use Rattle.lhm_ring.specs.Index.{Indexes, spots, OfNodeAt, ChangesLinks, HoldsOthers, IsOnChain, PutsFirst};
 
-use crate::bucket_block::{Dealloc, Head, Word};
+use crate::bucket_block::{Dealloc, Elements, Head, Word};
 pub use crate::buckets::buckets_for;
 use crate::pointer::{Link, Position};
 use crate::ring::Ring;
@@ -18,7 +18,7 @@ use std::alloc::{AllocError, Global};
 use std::hash::Hash;
 use std::marker::{Model, PhantomData};
 use std::mem;
-use std_alloc::vec::Lodged;
+use std::ptr::null_mut;
 
 /// The chains of a ring, by their heads, and a filter of the hashes. Each call is given the ring,
 /// and changes its chain links alone.
@@ -27,10 +27,15 @@ use std_alloc::vec::Lodged;
 /// O(1), on average if they search or remove, unless they say otherwise. Only `with_buckets`
 /// allocates. It is not `Drop`: only `free` ends it.
 pub struct Index<K, V> {
+    // How many buckets there are, and where their words and heads lie. A lookup of an absent key
+    // mostly reads the first two alone.
+    pub(crate) count: usize,
+    pub(crate) words_ptr: *mut Word,
+    pub(crate) heads_ptr: *mut Head,
     // For each bucket the head of its chain, and a word of the filter: if the bit of a hash is not
     // set, no node has that hash.
-    pub(crate) heads: Vec<Head, Lodged>,
-    pub(crate) words: Vec<Word, Lodged>,
+    pub(crate) heads: Elements<Head>,
+    pub(crate) words: Elements<Word>,
     // Both lie in one block of memory, which this is the right to free.
     pub(crate) dealloc: Dealloc,
     pub(crate) alloc: Global,
@@ -38,9 +43,8 @@ pub struct Index<K, V> {
 }
 
 impl<K, V> Model for Index<K, V> {
-    ghost use Rattle.std.specs.Prelude.{◌≡◌, ◌<◌, ◌*◌, map, length, vec_capacity};
-    ghost use Rattle.std.specs.Vec.{vec_ptr};
-    ghost use Rattle.lhm_ring.specs.BucketBlock.{words_address};
+    ghost use Rattle.std.specs.Prelude.{◌≡◌, ◌<◌, ◌≤◌, ◌^◌, map, length};
+    ghost use Rattle.lhm_ring.specs.BucketBlock.{behind};
     ghost use Rattle.lhm_ring.specs.Buckets.{BucketState, IsBucketCount, leads_to, bits_of};
 
     ghost Value = { BucketState };
@@ -51,13 +55,16 @@ impl<K, V> Model for Index<K, V> {
     } };
 
     ghost invariant = { λ i. record {
-      same_count : length i.words.items ≡ length i.heads.items;
-      power : IsBucketCount (length i.heads.items);
-      -- there is room for a multiple of four
-      heads_room : vec_capacity i.heads ≡ 4 * i.dealloc.quarter;
-      words_room : vec_capacity i.words ≡ 4 * i.dealloc.quarter;
-      heads_at : 0 < i.dealloc.quarter → vec_ptr i.heads ≡ i.dealloc.at;
-      words_at : 0 < i.dealloc.quarter → vec_ptr i.words ≡ words_address i.dealloc.at i.dealloc.quarter;
+      heads_count : length i.heads.items ≡ i.count;
+      words_count : length i.words.items ≡ i.count;
+      power : IsBucketCount i.count;
+      small : i.count ≤ 2 ^ 59;
+      heads_at : 0 < i.count → i.heads.at ≡ i.heads_ptr;
+      words_at : 0 < i.count → i.words.at ≡ i.words_ptr;
+      -- the words lie right behind the heads
+      behind_heads : 0 < i.count → i.words.at ≡ behind i.heads_ptr i.count;
+      dealloc_count : i.dealloc.count ≡ i.count;
+      dealloc_at : 0 < i.count → i.dealloc.at ≡ i.heads_ptr;
     } };
 }
 
@@ -68,8 +75,11 @@ impl<K, V> Index<K, V> {
         ensures words { result.words ≡ [] }
     {
         Index {
-            heads: Vec::new(Lodged),
-            words: Vec::new(Lodged),
+            count: 0,
+            words_ptr: null_mut(),
+            heads_ptr: null_mut(),
+            heads: Elements::none(),
+            words: Elements::none(),
             dealloc: Dealloc::none(),
             alloc,
             marker: PhantomData,
@@ -80,7 +90,7 @@ impl<K, V> Index<K, V> {
     pub fn buckets(&self) -> usize
         ensures { result ≡ length self.now.heads }
     {
-        self.heads.len()
+        self.count
     }
 
     /// Puts a node that is in no chain at the head of its chain, and sets its bit.
@@ -187,6 +197,7 @@ impl<K, V> Index<K, V> {
     /// O(n).
     pub(crate) fn spread(&mut self, count: usize, ring: &mut Ring<K, V>) -> usize
         requires buckets { 0 < length self.old.heads }
+        requires within { length self.old.heads ≤ 4 }
         requires some { 0 < count }
         requires few { count ≤ 4 }
         requires power { IsPowerOfTwo count }

@@ -10,10 +10,10 @@ use Rattle.lhm_ring.specs.Buckets.{BucketState, leads_to, bits_of}
 use Rattle.lhm_ring.specs.Pointer.{led_to}
 
 -- there are as many words as heads
-pub length-words : (heads : List Head) (words : List Word) {s : BucketState}
+pub length-words : (heads : List Head) (words : List Word) {n : ℕ} {s : BucketState}
     → record { heads = map leads_to heads; words = map bits_of words } ≡ s
-    → length words ≡ length heads → length s.heads ≡ length (map bits_of words)
-length-words heads words seen same = grind (arith, length-map)
+    → length heads ≡ n → length words ≡ n → length s.heads ≡ length (map bits_of words)
+length-words heads words seen h w = grind (arith, length-map)
 
 -- one more empty bucket
 pub get_or-pushed : (xs : List Head) (h : Head) → leads_to h ≡ None → ((b : ℕ) → get_or (map leads_to xs) b None ≡ None) → (b : ℕ)

@@ -1,6 +1,7 @@
 -- The memory of a block is split into that of heads and that of words, and joined again. Assumes `Logic`.
-use Rattle.lhm_ring.proofs.memory.Steps.{◌≡◌, ℕ, ◌+◌, ◌*◌, [], ◌∷◌, refl, arith, Ura, Ty, ent, sep, SProp, ty_array, ◌∵◌, ‵, raw, ◌⊛◌, ◌$◌}
-use Rattle.lhm_ring.proofs.memory.Steps.{ !, qed, move, use1, use2, split, fsplit, fjoin, rewrite, done, Logic, sem, layout, Laws}
+use Rattle.lhm_ring.proofs.memory.Steps.{◌≡◌, ℕ, ◌+◌, ◌*◌, [], ◌∷◌, refl, arith, Ura, Ty, ent, sep, SProp, ty_array}
+use Rattle.lhm_ring.proofs.memory.Steps.{◌∵◌, ‵, raw, ◌⊛◌, ◌$◌}
+use Rattle.lhm_ring.proofs.memory.Steps.{ !, qed, move, use1, use2, split, fsplit, fjoin, done, Logic, sem, layout, Laws}
 use Rattle.lhm_ring.proofs.memory.Steps.{block_ptr, froom, as_raw, RattleType}
 use Rattle.std.proofs.Common.{◌≤◌, ◌-◌}
 use mir.Raw.{raw as bare}
@@ -81,33 +82,38 @@ words = layout word
 abbrev of_heads : El
 of_heads = element head head-laws.the_row_laws
 
-module _ {M : Type 1} {𝓤 : Ura M} (𝓛 : Logic 𝓤) (b o q : ℕ) where
+abbrev of_words : El
+of_words = element word word-laws.the_row_laws
+
+-- room for k heads is room for n heads, for n words behind them, and the rest, which joins them again
+module _ {M : Type 1} {𝓤 : Ura M} (𝓛 : Logic 𝓤) (b o n k : ℕ) (le : n ≤ k) (fits : n ≤ 4 * (k - n)) where
   open 𝓛 use {H}
 
-  abbrev Whole : SProp 𝓤
-  Whole = H.room (ty_array heads (5 * q)) b o
-
-  pub block_parts : ent 𝓤 (sem 𝓛 (room_for (array_of head (5 * q)) (block_ptr b o)))
-      (sep 𝓤 (sem 𝓛 (parts_own (block_ptr b o) q))
-      (sem 𝓛 (fwand (parts_own (block_ptr b o) q) (room_for (array_of head (5 * q)) (block_ptr b o)))))
+  pub block_parts : ent 𝓤 (sem 𝓛 (room_for (array_of head k) (block_ptr b o)))
+      (sep 𝓤 (sem 𝓛 (parts_own (block_ptr b o) n))
+      (sem 𝓛 (fwand (parts_own (block_ptr b o) n) (room_for (array_of head k) (block_ptr b o)))))
   block_parts =
-      let at : ℕ = o + 4 * q * 8 in
-      let Behind : SProp 𝓤 = H.room (ty_array heads q) b at in
-      let Words : SProp 𝓤 = H.room (ty_array words (4 * q)) b at in
-      let left : 5 * q - 4 * q ≡ q = omega arith in
-      let less : 4 * q ≤ 5 * q = omega arith in
-      let all : 4 * q + q ≡ 5 * q = omega arith in
-      let same : 4 * q * 2 ≡ q * 8 = omega arith in
-      qed 𝓛 (‵ (froom (array_of head (5 * q)) b o) ∷ []) ∵ as_written ! (ty_array heads (5 * q)) b o $
-      use1 𝓛 (‵ (froom (ty_array heads (4 * q)) b o) ⊛ ‵ (froom (ty_array heads (5 * q - 4 * q)) b at))
-      (room_split of_heads 𝓛 (4 * q) (5 * q) b o less) $ split ! $ move ! (1 ∷ []) $
-      rewrite ! 0 (λ (k : ℕ). ‵ (froom (ty_array heads k) b at)) left refl $
-      use1 𝓛 (‵ (froom (ty_array words (4 * q)) b at) ⊛ raw (wand 𝓤 Words Behind))
-      (𝓛.laws.room_as (ty_array heads q) (ty_array words (4 * q)) b at same tt) $ split ! $
-      as_raw ! (ty_array words (4 * q)) b at $ move ! (2 ∷ []) $ as_raw ! (ty_array heads (4 * q)) b o $
-      move ! (0 ∷ 1 ∷ []) $ fjoin ! $ move ! (0 ∷ 1 ∷ []) $ frame ! $
-      assume ! (‵ (parts_own (block_ptr b o) q)) $ fsplit ! $ as_written ! (ty_array heads (4 * q)) b o $
-      move ! (1 ∷ []) $ as_written ! (ty_array words (4 * q)) b at $ move ! (0 ∷ 2 ∷ []) $
-      use2 𝓛 (‵ (froom (ty_array heads q) b at)) (apply∗ 𝓤 Words Behind) $ move ! (1 ∷ 0 ∷ []) $
-      use2 𝓛 (‵ (froom (ty_array heads (5 * q)) b o)) (glued of_heads 𝓛 (4 * q) q (5 * q) b o all) $
-      as_raw ! (ty_array heads (5 * q)) b o $ done !
+      let at : ℕ = o + n * 8 in
+      let m : ℕ = 4 * (k - n) in
+      let after : ℕ = at + n * 2 in
+      let Behind : SProp 𝓤 = H.room (ty_array heads (k - n)) b at in
+      let All : SProp 𝓤 = H.room (ty_array words m) b at in
+      let same : m * 2 ≡ (k - n) * 8 = omega arith in
+      let both : n + (k - n) ≡ k = omega (arith, le) in
+      let all : n + (m - n) ≡ m = omega (arith, fits) in
+      qed 𝓛 (‵ (froom (array_of head k) b o) ∷ []) ∵ as_written ! (ty_array heads k) b o $
+      use1 𝓛 (‵ (froom (ty_array heads n) b o) ⊛ ‵ (froom (ty_array heads (k - n)) b at))
+      (room_split of_heads 𝓛 n k b o le) $ split ! $ move ! (1 ∷ []) $
+      use1 𝓛 (‵ (froom (ty_array words m) b at) ⊛ raw (wand 𝓤 All Behind))
+      (𝓛.laws.room_as (ty_array heads (k - n)) (ty_array words m) b at same tt) $ split ! $
+      use1 𝓛 (‵ (froom (ty_array words n) b at) ⊛ ‵ (froom (ty_array words (m - n)) b after))
+      (room_split of_words 𝓛 n m b at fits) $ split ! $
+      -- [the words; the rest; that these join; the heads]
+      as_raw ! (ty_array words n) b at $ move ! (3 ∷ []) $ as_raw ! (ty_array heads n) b o $
+      move ! (0 ∷ 1 ∷ []) $ fjoin ! $ move ! (0 ∷ 1 ∷ 2 ∷ []) $ frame ! $
+      assume ! (‵ (parts_own (block_ptr b o) n)) $ fsplit ! $ as_written ! (ty_array heads n) b o $
+      move ! (1 ∷ []) $ as_written ! (ty_array words n) b at $ move ! (0 ∷ 2 ∷ []) $
+      use2 𝓛 (‵ (froom (ty_array words m) b at)) (glued of_words 𝓛 n (m - n) m b at all) $ move ! (0 ∷ 2 ∷ []) $
+      use2 𝓛 (‵ (froom (ty_array heads (k - n)) b at)) (apply∗ 𝓤 All Behind) $ move ! (1 ∷ 0 ∷ []) $
+      use2 𝓛 (‵ (froom (ty_array heads k) b o)) (glued of_heads 𝓛 n (k - n) k b o both) $
+      as_raw ! (ty_array heads k) b o $ done !

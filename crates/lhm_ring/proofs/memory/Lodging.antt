@@ -2,9 +2,12 @@
 use Rattle.lhm_ring.proofs.memory.Steps.{◌≡◌, ℕ, ◌+◌, ◌*◌, ◌<◌, ◌^◌, List, [], ◌∷◌, refl, ap, ◌∙◌, arith, Ura, ftrue, fsep, flft}
 use Rattle.lhm_ring.proofs.memory.Steps.{full_share, ent, emp, SProp, id⊢, w64, ty_array, a_type, Val, vptr, vint, ◌∵◌, ‵, raw, ◌⊛◌, ◌$◌}
 use Rattle.lhm_ring.proofs.memory.Steps.{ !, qed, move, keep, drop, use0, use1, use2, split, join, fsplit, fjoin, rewrite, feq_i, feq_l}
-use Rattle.lhm_ring.proofs.memory.Steps.{flt_l, flt_i, later, pick, await, split3, some, done, updating, now, Logic, sem, ◌⊑◌, fact, fact_i}
-use Rattle.lhm_ring.proofs.memory.Steps.{usize, part_at, froom, layout, layouts, param, Laws, RattleType, block_ptr, nothing, heard, as_raw}
-use Rattle.lhm_ring.proofs.memory.Steps.{Item, Goal, T, has_ty, WT, Struct, Valss, within, fpack, vstruct, vcons, vnil, fpick, by, never_e}
+use Rattle.lhm_ring.proofs.memory.Steps.{flt_l, flt_i, later, pick, await, split3, some, done, updating, now, Logic}
+use Rattle.lhm_ring.proofs.memory.Steps.{sem, ◌⊑◌, fact, fact_i}
+use Rattle.lhm_ring.proofs.memory.Steps.{usize, part_at, froom, layout, layouts, length, param, Laws, RattleType}
+use Rattle.lhm_ring.proofs.memory.Steps.{block_ptr, nothing, heard, as_raw}
+use Rattle.lhm_ring.proofs.memory.Steps.{Item, Goal, T, has_ty, WT, Struct, Valss, within, fpack, vstruct, vcons, vnil}
+use Rattle.lhm_ring.proofs.memory.Steps.{fpick, by, never_e}
 use Rattle.lhm_ring.proofs.memory.Steps.{Ptr, null_ptr, room_for}
 use Rattle.std.specs.Allocator.{array_of}
 use Rattle.std.proofs.Common.{◌≤◌, ◌-◌}
@@ -36,7 +39,6 @@ use Rattle.std_alloc.specs.contracts.vec.lodged.LodgedAllocator.TheImpl.{ghosts}
 use Rattle.std_alloc.specs.contracts.vec.lodge as LG
 use Rattle.std_alloc.specs.contracts.vec.lodge.Key.{name as lodge_name}
 use Rattle.std_alloc.specs.contracts.vec.lodged.Vec+T+Lodged.dislodge as DL
-use Rattle.std_alloc.specs.contracts.vec.lodged.Vec+T+Lodged.dislodge.Key.{name as dislodge_name}
 use Rattle.std_alloc.proofs.vec.Vec.TheLaws as V-laws
 use Rattle.std_alloc.proofs.vec.lodged.Lodged.TheLaws as L-laws
 
@@ -49,9 +51,6 @@ lodging_laws Y L = V-laws.the_row_laws Y L-type.the_row ghosts L L-laws.the_row_
 
 abbrev pub lodge_key : RattleType → Callee
 lodge_key Y = lodge_name (layouts (a_type ∷ []) (Y, tt))
-
-abbrev pub dislodge_key : RattleType → Callee
-dislodge_key Y = dislodge_name (layouts (a_type ∷ []) (Y, tt))
 
 abbrev pub plainly : List RattleType → RattleType
 plainly Rs = Struct (record { name = []; args = []; types = []; fields = Rs })
@@ -98,31 +97,31 @@ module _ (Y : RattleType) {M : Type 1} {𝓤 : Ura M} (𝓛 : Logic 𝓤) (at_me
   abbrev pub Dislodges : Contract 𝓤
   Dislodges = triple_of 𝓛 (DL.signature (timeless Y)) (DL.spec (timeless Y) 𝓛 at_mem run)
 
-  module _ (b o c : ℕ) where
+  module _ (b o n c : ℕ) (xs : List Y.Denot) where
     abbrev pub at_lodge : Lodges.Ghost
     at_lodge = (
       (
         ([], tt),
         (full_share, tt),
         tt,
-        (block_ptr b o, (0, (c, tt))),
-        (vptr b o ∷ [], (vint w64 0 ∷ [], (vint w64 c ∷ [], tt))),
+        (block_ptr b o, (n, (c, tt))),
+        (vptr b o ∷ [], (vint w64 n ∷ [], (vint w64 c ∷ [], tt))),
       ),
-      [],
+      xs,
     )
 
     abbrev pub IsLodged : Vec Y.Denot Lodged → Type 0
-    IsLodged r = (r.items ≡ []) × (r.len ≡ 0) × (r.cap ≡ c) × (r.ptr ≡ block_ptr b o)
+    IsLodged r = (r.items ≡ xs) × (r.len ≡ n) × (r.cap ≡ c) × (r.ptr ≡ block_ptr b o)
 
-    pub lodge_goes : c < 2 ^ 63 → ent 𝓤 (sem 𝓛 (lodged (param 0 Y) (block_ptr b o) 0 c [])) (Lodges.pre at_lodge)
-    lodge_goes small =
-        let Asked : Type 0 = (0 ≡ 0) × (0 ≤ c) × (c < 2 ^ 63) in
-        qed 𝓛 (‵ (lodged (param 0 Y) (block_ptr b o) 0 c []) ∷ []) ∵ use0 𝓛 (raw (fact 𝓤 Asked))
-        (fact_i 𝓤 Asked (emp 𝓤) (refl, omega arith, small)) $ join ! $
+    pub lodge_goes : n ≡ length xs → n ≤ c → c < 2 ^ 63 → ent 𝓤 (sem 𝓛 (lodged (param 0 Y) (block_ptr b o) n c xs)) (Lodges.pre at_lodge)
+    lodge_goes long le small =
+        let Asked : Type 0 = (n ≡ length xs) × (n ≤ c) × (c < 2 ^ 63) in
+        qed 𝓛 (‵ (lodged (param 0 Y) (block_ptr b o) n c xs) ∷ []) ∵ use0 𝓛 (raw (fact 𝓤 Asked))
+        (fact_i 𝓤 Asked (emp 𝓤) (long, le, small)) $ join ! $
         use0 𝓛 (raw (fact 𝓤 ([] ⊑ []))) (fact_i 𝓤 ([] ⊑ []) (emp 𝓤) (⊑_refl [])) $ join ! $
         nothing ! $ flt_i ! c (2 ^ 64) (omega (arith, small)) $ feq_i ! (List Val) (vint w64 c ∷ []) (vint w64 c ∷ []) refl $ fjoin ! $
         fjoin ! $
-        flt_i ! 0 (2 ^ 64) (omega arith) $ feq_i ! (List Val) (vint w64 0 ∷ []) (vint w64 0 ∷ []) refl $ fjoin ! $ fjoin ! $
+        flt_i ! n (2 ^ 64) (omega (arith, le, small)) $ feq_i ! (List Val) (vint w64 n ∷ []) (vint w64 n ∷ []) refl $ fjoin ! $ fjoin ! $
         feq_i ! (List Val) (vptr b o ∷ []) (vptr b o ∷ []) refl $ fjoin ! $ nothing ! $ use0 𝓛 (‵ (flft [] full_share))
         (𝓛.lfts.lft-nil full_share) $ join ! $ join ! $ done !
 

@@ -10,9 +10,9 @@ use Rattle.lhm_ring.proofs.memory.Steps.{block_ptr, ptr_val, room_for, heard, St
 use Rattle.lhm_ring.proofs.memory.Steps.{walk_of, Goes-dropped, after, proved_at, leaves, id⊢}
 use Rattle.lhm_ring.proofs.memory.Steps.{flt_l, flt_i, in_a_block, later, pick, await, some, given}
 use Rattle.lhm_ring.proofs.memory.Steps.{learn, framed, vstruct, vcons, vnil, all_spent, runs_with}
-use Rattle.lhm_ring.proofs.memory.Steps.{states, states_also, param, param_laws, layout, Fml, fsep}
+use Rattle.lhm_ring.proofs.memory.Steps.{states, states_also, param, param_laws, layout, Fml}
 use Rattle.lhm_ring.proofs.memory.Steps.{RattleType, Laws, Ura, Logic, ent}
-use base.Fml.{fwand, flt}
+use base.Fml.{fwand}
 use denote.Steps.{only}
 use denote.Struct.Struct.{as_fields}
 use denote.Triple.Call.{calls_at}
@@ -46,8 +46,10 @@ use Rattle.lhm_ring.proofs.memory.BlockValues.{block_val, block_Good, BlockType,
 use Rattle.lhm_ring.proofs.memory.BucketParts.{block_parts, head₀, word₀, head₀-laws, word₀-laws}
 use Rattle.lhm_ring.proofs.memory.Lodging.{Lodging, lodging_laws, tells, none_made, three_made, row_of_room}
 use Rattle.lhm_ring.proofs.memory.Lodging.{lodge_key, Lodges, at_lodge, IsLodged, lodge_goes, lodge_gives}
-use Rattle.lhm_ring.specs.BucketBlock.{words_address, parts_own}
+use Rattle.lhm_ring.specs.BucketBlock.{behind, block_heads, block_dealloc, parts_own}
 use Rattle.lhm_ring.specs.Nodes.{chunk_token}
+use Rattle.std.proofs.Common.{◌≤◌, ◌-◌}
+use Rattle.lhm_ring.proofs.indexes.BlockSizes.{block_heads-enough, block_heads-roomy}
 use Rattle.lhm_ring.specs.contracts.bucket_block.split_block.{ended, clauses}
 use Rattle.lhm_ring.specs.contracts.bucket_block.split_block.Key.{name as #self}
 use Rattle.lhm_ring.proofs.bucket_block.split_block.Statement.{statement}
@@ -77,82 +79,79 @@ module _ {M : Type 1} {𝓤 : Ura M} (𝓛 : Logic 𝓤) (at_mem : Memory → SP
     walks y are =
         let κs = y.0.0 in let a = y.0.3 in let vss = y.0.4 in let Post : Val → SProp 𝓤 = (walk_of 𝓛 ended stayed c).post y in
         let r = a.0 in let m : ℕ = a.1.0 in
-        let Asked : Type 0 = (q : ℕ) × (0 < q) × (m ≡ 4 * q) × (r.count ≡ 5 * q) in
-        qed 𝓛 ((raw (alive 𝓛 ended.signature κs y.0.1) ⊛ ‵ (owns (types_at ended.signature.params κs) a vss)) ∷ raw (fact 𝓤 Asked) ∷ []) ∵
-        move ! (1 ∷ []) $ heard ! Asked (λ asked. split ! $ move ! (1 ∷ []) $ fsplit ! $
+        let k : ℕ = block_heads m in
+        let Some : Type 0 = 0 < m in let Counted : Type 0 = r.count ≡ k in
+        qed 𝓛 ((raw (alive 𝓛 ended.signature κs y.0.1) ⊛ ‵ (owns (types_at ended.signature.params κs) a vss)) ∷ raw (fact 𝓤 Some) ∷ raw
+        (fact 𝓤 Counted) ∷ []) ∵
+        keep ! (1 ∷ 2 ∷ 0 ∷ []) $ heard ! Some (λ roomy. heard ! Counted (λ counted. split ! $ move ! (1 ∷ []) $ fsplit ! $
         block_known head heap.the_row ghosts ! r vss.0 (λ told. fsplit3 ! $ flt_l ! (λ fit₀.
-        let q : ℕ = asked.0 in let some_room : 0 < q = asked.1 in let room_is : m ≡ 4 * q = asked.2 in
-        let counted : r.count ≡ 5 * q = asked.3 in
-        let fit : 5 * q * 8 < 2 ^ 63 = subst (λ (k : ℕ). k * 8 < 2 ^ 63) counted fit₀ in
+        let fit : k * 8 < 2 ^ 63 = subst (λ (j : ℕ). j * 8 < 2 ^ 63) counted fit₀ in
+        let le : m ≤ k = block_heads-enough m in let fits : m ≤ 4 * (k - m) = block_heads-roomy m in
         let f₆₄ : m < 2 ^ 64 = are.1.0.1 in
         -- [the token; the memory; ..; what is alive]
         keep ! (1 ∷ 0 ∷ 3 ∷ []) $
         in_a_block ! r.ptr (λ p. room_for (array_of head r.count) p) (id⊢ 𝓤 _) (λ b o e.
         let p : Ptr = block_ptr b o in
-        rewrite ! 0 (λ (k : ℕ). ‵ (room_for (array_of head k) p)) counted refl $
-        rewrite ! 1 (λ (k : ℕ). ‵ (chunk_token (array_of head k) r.ptr)) counted refl $
-        rewrite ! 1 (λ (p' : Ptr). ‵ (chunk_token (array_of head (5 * q)) p')) e refl $
-        let Back : Fml = fwand (parts_own p q) (room_for (array_of head (5 * q)) p) in
-        use1 𝓛 (‵ (parts_own p q) ⊛ ‵ Back) (block_parts 𝓛 b o q) $ split ! $ fsplit ! $
+        rewrite ! 0 (λ (j : ℕ). ‵ (room_for (array_of head j) p)) counted refl $
+        rewrite ! 1 (λ (j : ℕ). ‵ (chunk_token (array_of head j) r.ptr)) counted refl $
+        rewrite ! 1 (λ (p' : Ptr). ‵ (chunk_token (array_of head k) p')) e refl $
+        let Back : Fml = fwand (parts_own p m) (room_for (array_of head k) p) in
+        use1 𝓛 (‵ (parts_own p m) ⊛ ‵ Back) (block_parts 𝓛 b o m k le fits) $ split ! $ fsplit ! $
         -- [the heads' memory; the words' memory; that they join; the token; what is alive]
-        move ! (3 ∷ 2 ∷ []) $ fjoin ! $ flt_i ! (5 * q * 8) (2 ^ 63) fit $ fjoin ! $
-        let Owned : Fml = fsep (flt (5 * q * 8) (2 ^ 63)) (fsep (chunk_token (array_of head (5 * q)) p) Back) in
-        rewrite ! 0 (λ z. ‵ (owns_if z Owned)) (sym (is_live q some_room)) refl $
+        move ! (3 ∷ 2 ∷ []) $ fjoin ! $ flt_i ! (k * 8) (2 ^ 63) fit $ fjoin ! $
+        rewrite ! 0 (λ z. ‵ (owns_if z (block_dealloc p m k))) (sym (is_live m roomy)) refl $
         -- [the right to free; the heads' memory; the words' memory; what is alive]
-        let at : ℕ = o + 4 * q * 8 in let at' : ℕ = m * 8 + o in
-        let moved : at ≡ at' = omega (arith, room_is) in
-        let roomy : 0 < 4 * q = omega (arith, some_room) in
-        let small : m < 2 ^ 63 = omega (arith, room_is, fit) in
-        let f₈ : m * 8 < 2 ^ 64 = omega (arith, room_is, fit) in
-        move ! (1 ∷ []) $ use1 𝓛 (‵ (lodged (param 0 head) p 0 (4 * q) []))
-        (row_of_room head head-laws.the_row_laws 𝓛 b o (4 * q) roomy (omega (arith, fit))) $
-        rewrite ! 0 (λ (k : ℕ). ‵ (lodged (param 0 head) p 0 k [])) (sym room_is) refl $
-        move ! (2 ∷ []) $ use1 𝓛 (‵ (lodged (param 0 word) (block_ptr b at) 0 (4 * q) []))
-        (row_of_room word word-laws.the_row_laws 𝓛 b at (4 * q) roomy (omega (arith, fit))) $
-        rewrite ! 0 (λ (k : ℕ). ‵ (lodged (param 0 word) (block_ptr b at) 0 k [])) (sym room_is) refl $
-        rewrite ! 0 (λ (k : ℕ). ‵ (lodged (param 0 word) (block_ptr b k) 0 m [])) moved refl $
+        let at : ℕ = o + m * 8 in let at' : ℕ = m * 8 + o in
+        let moved : at ≡ at' = omega arith in
+        let small : m < 2 ^ 63 = omega (arith, le, fit) in
+        let f₈ : m * 8 < 2 ^ 64 = omega (arith, le, fit) in
+        move ! (1 ∷ []) $ use1 𝓛 (‵ (lodged (param 0 head) p 0 m []))
+        (row_of_room head head-laws.the_row_laws 𝓛 b o m roomy (omega (arith, le, fit))) $
+        move ! (2 ∷ []) $ use1 𝓛 (‵ (lodged (param 0 word) (block_ptr b at) 0 m []))
+        (row_of_room word word-laws.the_row_laws 𝓛 b at m roomy (omega (arith, le, fit))) $
+        rewrite ! 0 (λ (j : ℕ). ‵ (lodged (param 0 word) (block_ptr b j) 0 m [])) moved refl $
         move ! (1 ∷ []) $
         -- [the heads; the words; the right to free; what is alive]
         let of_heads = Lodges head₀ 𝓛 at_mem run in let of_words = Lodges word₀ 𝓛 at_mem run in
-        let yh = at_lodge head₀ 𝓛 at_mem run b o m in let yw = at_lodge word₀ 𝓛 at_mem run b at' m in
+        let yh = at_lodge head₀ 𝓛 at_mem run b o 0 m [] in let yw = at_lodge word₀ 𝓛 at_mem run b at' 0 m [] in
         runs_with ! C Λ code.function Post (block_val r.ptr ∷ vint w64 m ∷ []) (λ i. told i ++ (are.1.0.0 i ++ [])) $
         alloc_all ! (λ l. pass_all ! refl (block_Good r.ptr, ((tt, record { fits = f₆₄ }), tt)) $ let Ev = env (code.function).locals l in
         sets ! (is ! (of_opd ! (get_in ! (fld ! refl (stop !)) (sub ! 0 refl (whole !)))) (ap ptr_val e)) refl (tt, tt) $
         first ! $ blocks ! $
-        use1 𝓛 (raw (of_heads.pre yh)) (lodge_goes head₀ 𝓛 at_mem run b o m small) $
+        use1 𝓛 (raw (of_heads.pre yh)) (lodge_goes head₀ 𝓛 at_mem run b o 0 m [] refl (omega arith) small) $
         calls_at ! fr of_heads lh yh
         (and_then ! (get ! refl) (and_then ! (lit ! tt) (and_then ! (get ! refl) (no_more !)))) (λ u.
-        use1 𝓛 (later (some (λ (hs : Vec head₀.Denot Lodged). given (IsLodged head₀ 𝓛 at_mem run b o m hs)
+        use1 𝓛 (later (some (λ (hs : Vec head₀.Denot Lodged). given (IsLodged head₀ 𝓛 at_mem run b o 0 m [] hs)
         (‵ ((Lodging (param 0 head₀)).own_val hs (u ∷ []))))))
-        (lodge_gives head₀ 𝓛 at_mem run b o m u) $ await ! tt $ pick ! (λ hs. learn ! (λ ih.
+        (lodge_gives head₀ 𝓛 at_mem run b o 0 m [] u) $ await ! tt $ pick ! (λ hs. learn ! (λ ih.
         tells ! (Lodging (param 0 head₀)) (laws_of head₀ head₀-laws) hs (u ∷ []) (λ vh eh gh. lands_as ! (ap only eh) refl gh $
         move ! (1 ∷ []) $
         sets ! (bin ! (get ! refl) (lit ! tt) (record { fits = f₈ })) refl (tt, record { fits = f₈ }) $
         sets ! (bin ! (get ! refl) (get ! refl) tt) refl (tt, tt) $ sets ! (of_opd ! (get ! refl)) refl (tt, tt) $
-        use1 𝓛 (raw (of_words.pre yw)) (lodge_goes word₀ 𝓛 at_mem run b at' m small) $
+        use1 𝓛 (raw (of_words.pre yw)) (lodge_goes word₀ 𝓛 at_mem run b at' 0 m [] refl (omega arith) small) $
         calls_at ! fr of_words lw yw
         (and_then ! (get ! refl) (and_then ! (lit ! tt) (and_then ! (get ! refl) (no_more !)))) (λ v.
-        use1 𝓛 (later (some (λ (ws : Vec word₀.Denot Lodged). given (IsLodged word₀ 𝓛 at_mem run b at' m ws)
+        use1 𝓛 (later (some (λ (ws : Vec word₀.Denot Lodged). given (IsLodged word₀ 𝓛 at_mem run b at' 0 m [] ws)
         (‵ ((Lodging (param 0 word₀)).own_val ws (v ∷ []))))))
-        (lodge_gives word₀ 𝓛 at_mem run b at' m v) $ await ! tt $ pick ! (λ ws. learn ! (λ iw.
+        (lodge_gives word₀ 𝓛 at_mem run b at' 0 m [] v) $ await ! tt $ pick ! (λ ws. learn ! (λ iw.
         tells ! (Lodging (param 0 word₀)) (laws_of word₀ word₀-laws) ws (v ∷ []) (λ vw ew gw. lands_as ! (ap only ew) refl gw $
         let none : Val = vstruct vnil in
         let all : Val = vstruct (vcons vh (vcons vw (vcons none vnil))) in
         let good = as_fields (layout (Lodging head) ∷ layout (Lodging word) ∷ layout dealloc ∷ []) (vh ∷ vw ∷ none ∷ [])
         (gh, (gw, ((tt, tt), tt))) in
-        let out : dealloc.Denot = record { at = p; quarter = q } in
+        let out : dealloc.Denot = record { at = p; count = m } in
         sets ! (of_opd ! (get ! refl)) refl gh $ sets ! (of_opd ! (get ! refl)) refl gw $ sets ! (agg ! (no_more !)) refl (tt, tt) $
         sets_last ! (agg ! (and_then ! (get ! refl) (and_then ! (get ! refl) (and_then ! (get ! refl) (no_more !))))) refl good $
         exec ! C Λ Ev (after 2 (code.function).body) (at_ret Ev Post) $ sets ! (of_opd ! (get ! refl)) refl good $
         -- [the words; the heads; the right to free; what is alive]
         move ! (2 ∷ []) $ none_made ! $ fjoin ! $ move ! (2 ∷ 1 ∷ 0 ∷ []) $
         three_made ! (Lodging head) (Lodging word) dealloc hs ws out vh vw none $
-        states ! ((hs.ptr ≡ p) × (ws.ptr ≡ words_address p q)) (ih.3, iw.3 ∙ ap (λ (k : ℕ). block_ptr b k) (sym moved)) $
-        states_also ! (m ≡ 4 * q) room_is $
+        states ! ((hs.ptr ≡ p) × (ws.ptr ≡ behind p m)) (ih.3, iw.3 ∙ ap (λ (j : ℕ). block_ptr b j) (sym moved)) $
+        states_also ! (m ≡ m) refl $
         states_also ! ((ws.items ≡ []) × (ws.len ≡ 0) × (ws.cap ≡ m)) (iw.0, iw.1, iw.2) $
         states_also ! ((hs.items ≡ []) × (hs.len ≡ 0) × (hs.cap ≡ m)) (ih.0, ih.1, ih.2) $ all_spent ! 2 $
         returns ! (look_at ! 0 refl) $ free_all ! refl $ keep ! (3 ∷ 0 ∷ 2 ∷ 1 ∷ []) $ by !
-        (leaves 𝓛 ended stayed c y all (hs, ws, out) (tt, (tt, tt)) (tt, (tt, tt))))))))))))))))
+        (leaves 𝓛 ended stayed c y all (hs, ws, out) (tt, (tt, tt)) (tt, (tt, tt)))))))))))))))))
 
 pub split_block_spec : {M : Type 1} → statement M
 split_block_spec 𝓤 𝓛 𝓜 𝓡 wired =

@@ -17,7 +17,7 @@ none_spec 𝓤 𝓛 𝓜 𝓡 wired =
     let hs : Stays ended.signature.params ended.kept = tt in
     proved_at 𝓛 ended hs c 𝓜 𝓡 tt #self fn (code.unfolded 𝓤 H 𝓜 𝓡 wired) (λ y are.
     let Post : Val → SProp 𝓤 = (walk_of 𝓛 ended hs c).post y in
-    let out : dealloc.Denot = record { at = null_ptr; quarter = 0 } in
+    let out : dealloc.Denot = record { at = null_ptr; count = 0 } in
     qed 𝓛 ((raw (alive 𝓛 ended.signature y.0.0 y.0.1) ⊛ ‵ ftrue) ∷ raw ((c y.0.0 y.0.3).requires y.1) ∷ []) ∵ split ! $ keep ! (0 ∷ []) $
     enter ! 𝓣.C 𝓣.Λ fn [] Post $ alloc_all ! (λ l. pass_all ! refl tt $
     sets ! (agg ! (no_more !)) refl (tt, tt) $

@@ -8,11 +8,11 @@ use Rattle.lhm_ring.specs.Buckets.{BucketState, IsBucketCount, leads_to}
 
 pub returns-clause-of_hash : goal.returns-clause-of_hash
 returns-clause-of_hash g c =
-    let items = c.self.inside.heads.items in
+    let i = c.self.inside in
     let n : ℕ = length c.args.self.now.heads in
-    let long = length-map items leads_to in
+    let long = length-map i.heads.items leads_to in
     let seen = ap (λ (z : BucketState). length z.heads) c.self.view_is in
-    let many : c.len.result ≡ n = omega (arith, c.len.ensures, c.self.inside.heads.ok, long, seen) in
-    let p = IsPowerOfTwo-count n c.requires (subst IsBucketCount (sym long ∙ seen) c.self.invariant.power) in
+    let many : i.count ≡ n = omega (arith, c.self.invariant.heads_count, long, seen) in
+    let p = IsPowerOfTwo-count n c.requires (subst IsBucketCount many c.self.invariant.power) in
     let P : ℕ → Type 0 = λ m. bit_and c.args.hash (m - 1) ≡ c.args.hash % m in
     ap (λ m. bit_and c.args.hash (m - 1)) many ∙ subst P (sym p.1) (and_mask c.args.hash p.0)

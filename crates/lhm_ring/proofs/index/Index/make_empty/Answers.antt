@@ -1,36 +1,17 @@
-use Rattle.std.proofs.Common.{◌<◌, ap, arith, length}
+use Rattle.std.proofs.Common.{◌≡◌, ◌<◌, ◌∙◌, sym, ap, arith, length}
 use Rattle.std.proofs.lemmas.List.{length-map}
+use Rattle.std.proofs.lemmas.Nat.{pow_pos}
+use Rattle.lhm_ring.proofs.indexes.BlockSizes.{block_heads-few}
 use Rattle.lhm_ring.proofs.index.Index.make_empty.Goals as goal
 use Rattle.lhm_ring.specs.Buckets.{BucketState, leads_to}
 
-pub fill_heads-requires-clause-room : goal.fill_heads-requires-clause-room
-fill_heads-requires-clause-room g c =
-    let i = c.self.inside in
+pub in_block-requires-clause-block : goal.in_block-requires-clause-block
+in_block-requires-clause-block g c =
+    let i = c.heads_ptr.inside in
     let long = length-map i.heads.items leads_to in
-    let seen = ap (λ (z : BucketState). length z.heads) c.self.view_is in
-    let some : 0 < i.dealloc.quarter = omega (
-      arith,
-      c.requires.some,
-      long,
-      seen,
-      i.heads.ok.0,
-      i.heads.ok.1,
-      c.self.invariant.heads_room,
-    ) in
-    omega (arith, some, c.requires.few, c.self.invariant.heads_room, c.empty_heads.ensures.capacity)
-
-pub fill_words-requires-clause-room : goal.fill_words-requires-clause-room
-fill_words-requires-clause-room g c =
-    let i = c.self.inside in
-    let long = length-map i.heads.items leads_to in
-    let seen = ap (λ (z : BucketState). length z.heads) c.self.view_is in
-    let some : 0 < i.dealloc.quarter = omega (
-      arith,
-      c.requires.some,
-      long,
-      seen,
-      i.heads.ok.0,
-      i.heads.ok.1,
-      c.self.invariant.heads_room,
-    ) in
-    omega (arith, some, c.requires.few, c.self.invariant.words_room, c.empty_words.ensures.capacity)
+    let seen = ap (λ (z : BucketState). length z.heads) (c.heads_ptr.view_is ∙ c.replace-2.ensures.value) in
+    let many : i.dealloc.count ≡ length c.args.self.now.heads =
+    omega (arith, c.heads_ptr.invariant.dealloc_count, c.heads_ptr.invariant.heads_count, long, seen) in
+    let old = block_heads-few i.dealloc.count (omega (arith, many, c.requires.some)) (omega (arith, many, c.requires.within)) in
+    let some : 0 < c.args.count = omega (arith, c.requires.power.1, pow_pos c.requires.power.0) in
+    c.join_block-block.ensures ∙ old ∙ sym (block_heads-few c.args.count some c.requires.few)

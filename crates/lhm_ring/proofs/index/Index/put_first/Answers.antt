@@ -1,5 +1,6 @@
-use Rattle.std.proofs.Common.{refl, arith, ◌/◌, ◌^◌, ◌%◌, ap, ◌∙◌, set, subst, ◌<◌}
+use Rattle.std.proofs.Common.{refl, arith, ◌/◌, ◌^◌, ◌%◌, ap, ◌∙◌, set, subst, ◌<◌, List, map}
 use Rattle.std.proofs.lemmas.List.{map-set}
+use Rattle.lhm_ring.specs.declared.bucket_block.Head.{Head}
 use Rattle.lhm_ring.proofs.indexes.BucketHeads.{length-words}
 use Rattle.lhm_ring.proofs.indexes.Filters.{SetsBit-written}
 use Rattle.lhm_ring.proofs.index.Index.put_first.Goals as goal
@@ -8,7 +9,9 @@ use Rattle.lhm_ring.specs.Pointer.{target}
 
 pub returns-clause-heads : goal.returns-clause-heads
 returns-clause-heads g c =
-    map-set leads_to c.self.inside.heads.items c.args.bucket (record { link = c.args.head })
+    let head : Head = record { link = c.args.head } in
+    ap (map leads_to) (c.put.ensures.items ∙ ap (λ (hs : List Head). set hs c.args.bucket head) c.take-heads.ensures.items)
+    ∙ map-set leads_to c.self.inside.heads.items c.args.bucket head
     ∙ ap (λ (z : BucketState). set z.heads c.args.bucket (target c.args.head)) c.self.view_is
 
 pub returns-clause-words : goal.returns-clause-words
@@ -16,7 +19,8 @@ returns-clause-words g c =
     let i = c.self.inside in
     let below : c.args.hash < 2 ^ 64 = c.ranges.hash.fits in
     let small : c.args.hash / 2 ^ 60 < 16 = omega arith in
-    let long = length-words i.heads.items i.words.items c.self.view_is c.self.invariant.same_count in
-    rw (← c.self.view_is) (SetsBit-written i.words.items c.args.bucket c.args.hash (c.args.hash / 2 ^ 60)
+    let long = length-words i.heads.items i.words.items c.self.view_is c.self.invariant.heads_count c.self.invariant.words_count in
+    rw (c.put-2.ensures.items, c.take-words.ensures.items, ← c.self.view_is)
+    (SetsBit-written i.words.items c.args.bucket c.args.hash (c.args.hash / 2 ^ 60)
     (c.requires.of_hash ∙ ap (λ n. c.args.hash % n) long) (subst (λ n. c.args.bucket < n) long c.requires.within)
-    refl small c.index-2.ensures)
+    refl small (rw (← c.take-words.ensures.items) c.index-2.ensures))

@@ -12,6 +12,12 @@ spread-requires-clause-buckets g c =
     let all = length-capacity c.self.inside.ring c.self.inside.rechained c.self.view_is in
     omega (arith, c.requires.some, ap buckets all, c.self.invariant.indexed.count)
 
+pub spread-requires-clause-within : goal.spread-requires-clause-within
+spread-requires-clause-within g c =
+    let all = length-capacity c.self.inside.ring c.self.inside.rechained c.self.view_is in
+    let enough = buckets-at_least c.args.capacity in
+    omega (arith, enough, c.requires.more, c.requires.count, c.requires.few, ap buckets all, c.self.invariant.indexed.count)
+
 pub spread-requires-clause-some : goal.spread-requires-clause-some
 spread-requires-clause-some g c =
     let enough = buckets-at_least c.args.capacity in omega (arith, c.requires.higher, c.requires.count, enough)

@@ -1,0 +1,15 @@
+-- A `&` to the elements reaches each. Assumes `Logic`.
+use Rattle.lhm_ring.proofs.memory.Steps.{[], ◌++◌, Incl-trans, meet_⊑_left, RattleType, RawPtr, Laws, copy_shared, field_copy, of_Lends}
+use Rattle.std.specs.contracts.marker.PhantomData as marker
+use Rattle.std_alloc.proofs.SharedLaws.{lent_shr_laws}
+use Rattle.lhm_ring.specs.contracts.bucket_block.Elements as C
+use Rattle.lhm_ring.proofs.bucket_block.Elements.TheLaw.Statement.{statement}
+use Rattle.lhm_ring.proofs.memory.ElementsLent.{Lends-elements}
+use Rattle.std.proofs.Common.{length}
+
+pub shares : (R : RattleType) (L : Laws R) → statement R L
+shares R L = of_Lends (C.struct R) (C.the_codes R.Denot R.coded (marker.the_row RawPtr).coded) (C.the_heap R) (C.the_lent R)
+    (λ e p. lent_shr_laws R L.shr_laws e.at (length e.items) (length e.items) e.items)
+    (copy_shared (marker.the_field RawPtr) (field_copy (marker.the_type RawPtr) tt), tt)
+    (λ M 𝓤 𝓛 e p. Lends-elements 𝓛 (C.the_row R).lives R L
+    (Incl-trans (meet_⊑_left (R.lives ++ []) _) (meet_⊑_left R.lives [])) e.at e.items)
