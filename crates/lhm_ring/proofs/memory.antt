@@ -2,6 +2,7 @@ pub mod BlockPointers
 pub mod BlockValues
 pub mod BodiesChanged
 pub mod BucketParts
+pub mod ChunkParts
 pub mod ChunkPlaces
 pub mod ContentTaken
 pub mod ContentsSplitOff
