@@ -21,7 +21,6 @@ use mir.Syntax.{ty_int, ty_ptr, ty_struct, tcons, tnil}
 use types.Part.{look_in}
 use types.Run.{load}
 use Rattle.std.proofs.RcSteps.{word_ty}
-use Rattle.std.specs.Allocator.{array_of}
 use Rattle.std.specs.Mem.{type_size}
 use Rattle.std.proofs.lemmas.List.{append-nil}
 use Rattle.lhm_ring.proofs.lists.Apart.{IsApart-none}
@@ -129,5 +128,12 @@ pop_chunk_spec 𝓤 𝓛 𝓜 𝓡 wired L K V U LL LK LV LU =
       laid = append-nil rest;
     } in
     move ! (2 ∷ 0 ∷ []) $ fjoin ! $ move ! (2 ∷ 0 ∷ 3 ∷ 4 ∷ 5 ∷ []) $ closes ! tt N h' vs rb ro $
-    -- [self, in two; its token?; the block; the other tokens]
-    self_left ! 1 are.0.0 $ ?))))))))
+    -- [self; its token; the block; the other tokens]
+    self_left ! 1 are.0.0 $ move ! (1 ∷ 3 ∷ []) $ join ! $ move ! (2 ∷ []) $
+    flt_i ! n (2 ^ 64) told.1 $ feq_i ! (List Val) (vint w64 n ∷ []) (vint w64 n ∷ []) refl $ fjoin ! $
+    use0 𝓛 (‵ (Pl.own_val (record { ptr = q }) (word q ∷ []))) (pointer_made 𝓛 q) $ move ! (2 ∷ 0 ∷ 1 ∷ []) $
+    three_made ! Block Pl usize out (record { ptr = q }) n (block_val start) (word q) (vint w64 n) $
+    states ! (IsChunk R S W n × (m ≡ m)) (told.0, refl) $ states_also ! (h.chunks ≡ chunk p q n ∷ cs) last $
+    states_also ! (h'.cells ≡ []) refl $
+    returns ! (look_at ! 0 refl) $ free_all ! refl $ keep ! (2 ∷ 3 ∷ 1 ∷ 0 ∷ []) $ by !
+    (leaves 𝓛 En hs c y all (out, (record { ptr = q }), n) (h', (tt, tt)) (tt, (tt, tt)))))))))))
