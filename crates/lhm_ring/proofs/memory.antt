@@ -4,6 +4,7 @@ pub mod BodiesChanged
 pub mod BucketParts
 pub mod ChunkParts
 pub mod ChunkPlaces
+pub mod ChunkSizes
 pub mod ContentTaken
 pub mod ContentsSplitOff
 pub mod FieldSeen

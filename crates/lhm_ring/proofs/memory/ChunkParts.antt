@@ -3,7 +3,7 @@ use Rattle.lhm_ring.proofs.memory.Steps.{◌≡◌, ℕ, ◌+◌, ◌*◌, [], �
 use Rattle.lhm_ring.proofs.memory.Steps.{ !, qed, move, use1, use2, split, fsplit, fjoin, rewrite, done, Logic, sem, layout, size, size-raw}
 use Rattle.lhm_ring.proofs.memory.Steps.{block_ptr, froom, as_raw, RattleType}
 use Rattle.std.proofs.Common.{◌/◌, zero, suc}
-use native.Mathlib.Nat.{mul_assoc, add-mul}
+use native.Mathlib.Nat.{mul_assoc}
 use Rattle.std.proofs.ptr.Rows.{one_more, next}
 use mir.Raw.{raw as bare}
 use mir.Syntax.{w64, ty_int, tcons, tnil}
@@ -19,6 +19,7 @@ use Rattle.std.proofs.RawLayout.{as_written}
 use Rattle.lhm_ring.specs.contracts.nodes.ChunkHead.{the_row as head}
 use Rattle.lhm_ring.specs.contracts.nodes.ChunkUnit.{the_row as unit}
 use Rattle.lhm_ring.specs.contracts.nodes.Node.{the_row as node}
+use Rattle.lhm_ring.proofs.memory.ChunkSizes.{units-times}
 use Rattle.lhm_ring.proofs.memory.NodeFields.{Three, RL, RK, RV}
 use Rattle.lhm_ring.proofs.memory.PlaceCut.{written, block}
 use Rattle.lhm_ring.specs.Nodes.{parts_own, chunk_type, chunk_units, unit_bytes, IsChunk, head_type}
@@ -49,8 +50,7 @@ module _ (E : Three) where
 
   -- how many bytes the units of a chunk have
   pub chunk-bytes : (n : ℕ) → IsChunk (RL E) (RK E) (RV E) n → units n * u ≡ 16 + n * s
-  chunk-bytes n is = add-mul (16 / u) (n * (s / u)) u ∙ ap (λ (z : ℕ). z + n * (s / u) * u) is.1
-      ∙ ap (λ (z : ℕ). 16 + z) (mul_assoc n (s / u) u ∙ ap (λ (z : ℕ). n * z) is.2)
+  chunk-bytes n is = units-times u s n is.1 is.2
 
 module _ {M : Type 1} {𝓤 : Ura M} (𝓛 : Logic 𝓤) (E : Three) (b o n : ℕ) (is : IsChunk (RL E) (RK E) (RV E) n) where
   open 𝓛 use {H}

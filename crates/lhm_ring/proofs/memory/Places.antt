@@ -1,15 +1,16 @@
 -- Where the places of chunks lie.
-use Rattle.std.proofs.Common.{◌≡◌, ℕ, zero, suc, ◌+◌, ◌-◌, ◌*◌, ◌<◌, ◌^◌, List, [], ◌∷◌, ◌++◌, length, length-append, true, false, refl, sym, ap}
+use Rattle.std.proofs.Common.{◌≡◌, ℕ, zero, suc, ◌+◌, ◌-◌, ◌*◌, ◌<◌, ◌^◌, List, [], ◌∷◌, ◌++◌, length, length-append, true, false, refl, sym, ap, None}
 use Rattle.std.proofs.Common.{◌∙◌, subst, arith, lt→ltb}
 use Rattle.std.proofs.lemmas.List.{append_assoc}
 use Rattle.std.specs.Prelude.{nat_lt}
 use Rattle.std.proofs.Flags.{T_true}
 use Rattle.std.proofs.ptr.Rows.{one_more, next}
-use denote.RawPtr.{Ptr, block_ptr, null_ptr, ◌+ₚ◌}
+use denote.RawPtr.{Ptr, block_ptr, null_ptr, ◌+ₚ◌, InBlock}
 use lib.ListN.{length-map}
 use Rattle.lhm_ring.proofs.lists.ForAll.{AllByRecursion-left, AllByRecursion-right}
 use Rattle.lhm_ring.specs.Nodes.{Cell, pointers, is_block, is_null, is_null_or_block, AreBlocks, row, places, Chunk, chunk}
 use Rattle.lhm_ring.specs.Links.{place_count, IsLaid, IsChain}
+use Rattle.lhm_ring.specs.Pointer.{led_to}
 
 pub places-none : (s : ℕ) → [] ≡ places s []
 unfolding places
@@ -134,8 +135,6 @@ pub record FirstChunk (cs : List Chunk) (p : Ptr) : Type 0 where
   pub count : ℕ
   pub rest : List Chunk
   pub is : cs ≡ chunk p next count ∷ rest
-  pub comparable : is_null_or_block next ≡ true
-  pub chain : IsChain rest next
 
 pub IsChain-comparable : (cs : List Chunk) (p : Ptr) → IsChain cs p → is_null_or_block p ≡ true
 unfolding IsChain
@@ -167,6 +166,19 @@ IsChain-first (c ∷ cs) p k e = record {
   count = c.count;
   rest = cs;
   is = ap (λ q. chunk q c.next c.count ∷ cs) (sym k.0);
-  comparable = IsChain-comparable cs c.next k.2;
-  chain = k.2;
 }
+
+pub IsChain-rest : (cs : List Chunk) (p : Ptr) (c : Chunk) (ds : List Chunk) → IsChain cs p → cs ≡ c ∷ ds → IsChain ds c.next
+unfolding IsChain
+IsChain-rest cs p c ds k e = (subst (λ zs. IsChain zs p) e k).2
+
+pub is_null-in_block : (p : Ptr) → InBlock p → is_null p ≡ false
+is_null-in_block (block_ptr b o) t = refl
+is_null-in_block null_ptr t = absurd t
+
+pub led_to-nowhere : (p : Ptr) → led_to p ≡ None → p ≡ null_ptr
+led_to-nowhere (block_ptr b o) e = cc
+led_to-nowhere null_ptr e = refl
+
+pub IsChain-same : {cs ds : List Chunk} (p : Ptr) → IsChain cs p → ds ≡ cs → IsChain ds p
+IsChain-same p k e = subst (λ zs. IsChain zs p) (sym e) k
