@@ -68,11 +68,7 @@ pub(crate) fn new_chunk<K, V>(
 }
 
 /// Frees all chunks, and forgets what the nodes hold.
-pub(crate) fn free_chunks<K, V>(
-    nodes: &mut Nodes<Links, K, V>,
-    alloc: &Global,
-    newest: NodePointer,
-)
+pub(crate) fn free_chunks<K, V>(nodes: &mut Nodes<Links, K, V>, alloc: &Global, newest: NodePointer)
     requires { IsChain nodes.old.chunks newest.ptr }
     ensures cells { nodes.new.cells ≡ [] }
     ensures chunks { nodes.new.chunks ≡ [] }

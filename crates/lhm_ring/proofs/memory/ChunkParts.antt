@@ -1,7 +1,7 @@
 -- The memory of a chunk's block is split into that of its head and that of its nodes. Assumes `Logic`.
 use Rattle.lhm_ring.proofs.memory.Steps.{◌≡◌, ℕ, ◌+◌, ◌*◌, [], ◌∷◌, refl, sym, ap, ◌∙◌, arith, Ura, Ty, ent, sep, SProp, ty_array, ◌∵◌, ‵, raw, ◌⊛◌, ◌$◌}
-use Rattle.lhm_ring.proofs.memory.Steps.{ !, qed, move, use1, use2, split, fsplit, fjoin, rewrite, done, Logic, sem, layout, size, size-raw}
-use Rattle.lhm_ring.proofs.memory.Steps.{block_ptr, froom, as_raw, RattleType}
+use Rattle.lhm_ring.proofs.memory.Steps.{!, qed, move, use1, use2, split, fsplit, fjoin, rewrite, done, Logic, sem, layout, size}
+use Rattle.lhm_ring.proofs.memory.Steps.{block_ptr, froom, as_raw}
 use Rattle.std.proofs.Common.{◌/◌, zero, suc}
 use native.Mathlib.Nat.{mul_assoc}
 use Rattle.std.proofs.ptr.Rows.{one_more, next}
@@ -11,17 +11,16 @@ use base.Fml.{fwand}
 use base.Logic.{wand, apply∗}
 use denote.RawPtr.{room_for}
 use denote.RawPtr.Room.{room_cut, room_glue, past}
-use prog.Align.{head_aligns, tail_aligns, dv_trans, Dv}
+use prog.Align.{head_aligns, tail_aligns, Dv}
 use prog.Memory.{align}
 use types.Kit.{assume, frame}
 use Rattle.std.specs.Mem.{type_size}
 use Rattle.std.proofs.RawLayout.{as_written}
-use Rattle.lhm_ring.specs.contracts.nodes.ChunkHead.{the_row as head}
 use Rattle.lhm_ring.specs.contracts.nodes.ChunkUnit.{the_row as unit}
 use Rattle.lhm_ring.specs.contracts.nodes.Node.{the_row as node}
 use Rattle.lhm_ring.proofs.memory.ChunkSizes.{units-times}
 use Rattle.lhm_ring.proofs.memory.NodeFields.{Three, RL, RK, RV}
-use Rattle.lhm_ring.proofs.memory.PlaceCut.{written, block}
+use Rattle.lhm_ring.proofs.memory.PlaceCut.{written}
 use Rattle.lhm_ring.specs.Nodes.{parts_own, chunk_type, chunk_units, unit_bytes, IsChunk, head_type}
 
 -- where m values of τ end

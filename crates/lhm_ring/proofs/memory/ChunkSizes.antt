@@ -1,5 +1,5 @@
 -- How many units a chunk takes, and how many bytes these have.
-use Rattle.std.proofs.Common.{◌≡◌, ℕ, zero, suc, ◌+◌, ◌-◌, ◌*◌, ◌/◌, ◌%◌, ◌<◌, ◌≤◌, ◌^◌, sym, ap, ◌∙◌, subst, arith}
+use Rattle.std.proofs.Common.{◌≡◌, ℕ, zero, suc, ◌+◌, ◌*◌, ◌/◌, ◌%◌, ◌<◌, ◌≤◌, ◌^◌, sym, ap, ◌∙◌, subst, arith}
 use native.Mathlib.Nat.{mul_assoc, add-mul, zero-mul, mul-zero, suc-mul, div-add-mod', le-mul_of_pos_right, lt_of_le_of_lt}
 use Rattle.std.proofs.ptr.Rows.{one_below}
 use prog.Capped.{capped_is, capped_small}

@@ -1,4 +1,4 @@
-use Rattle.std.proofs.Common.{◌∙◌, sym, ap, arith, length, refl}
+use Rattle.std.proofs.Common.{◌∙◌, sym, ap, arith, length}
 use Rattle.lhm_ring.proofs.memory.Places.{IsChain-comparable, IsChain-null, IsChain-first, IsChain-rest}
 use Rattle.lhm_ring.proofs.chunks.free_chunks.Goals as goal
 

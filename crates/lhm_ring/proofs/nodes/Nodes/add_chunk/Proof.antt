@@ -9,15 +9,14 @@ use Rattle.lhm_ring.proofs.memory.Steps.{get, get_in, sets, is, sub, whole, agg,
 use Rattle.lhm_ring.proofs.memory.Steps.{owns, types_at, plain, Ptr, block_ptr, ptr_val, room_for}
 use Rattle.lhm_ring.proofs.memory.Steps.{heard, opens, closes, Stays, stay_dropped, stay_ref}
 use Rattle.lhm_ring.proofs.memory.Steps.{walk_of, Goes-ref, word, word-Good, proved_at, leaves}
-use Rattle.lhm_ring.proofs.memory.Steps.{arith, id⊢, ty_array, froom, sem, flt_l, flt_i, RattleType}
+use Rattle.lhm_ring.proofs.memory.Steps.{arith, id⊢, ty_array, froom, sem, flt_l, RattleType}
 use Rattle.lhm_ring.proofs.memory.Steps.{in_a_block, one_below, snd∗, via, knows, states_also}
 use Rattle.lhm_ring.proofs.memory.Steps.{tokens, states, runs_with, self_left}
-use Rattle.std.proofs.Common.{Bool}
 use Rattle.lhm_ring.proofs.memory.BlockValues.{block_val, block_Good, BlockType, block_known, pointer_made}
 use Rattle.lhm_ring.proofs.memory.ChunkParts.{chunk_parts, chunk-bytes}
-use Rattle.lhm_ring.proofs.memory.ChunkPlaces.{land_cut, land_glue, Places, Chunks, places_glue, array_cut}
+use Rattle.lhm_ring.proofs.memory.ChunkPlaces.{land_cut, land_glue, Places, places_glue, array_cut}
 use Rattle.lhm_ring.proofs.lists.ForAll.{AllByRecursion-append}
-use Rattle.lhm_ring.proofs.memory.NodeFields.{Three, args, RL, RK, RV, Nr, Pl, Land, Cells, three_rows, two_made, word-pointer}
+use Rattle.lhm_ring.proofs.memory.NodeFields.{Three, RL, RK, RV, Nr, Pl, Land, Cells, three_rows, two_made, word-pointer}
 use Rattle.lhm_ring.proofs.memory.Places.{AreBlocks-row, row-more, nat_lt-near}
 use Rattle.std.proofs.alloc.Calls.{Goes-blank}
 use Rattle.std.specs.contracts.alloc.Global as heap
@@ -35,7 +34,7 @@ use Rattle.lhm_ring.specs.contracts.nodes.Nodes.add_chunk.{ended, clauses}
 use Rattle.lhm_ring.specs.contracts.nodes.Nodes.add_chunk.Key.{name as #self}
 use Rattle.lhm_ring.proofs.nodes.Nodes.add_chunk.Statement.{statement}
 use Rattle.lhm_ring.proofs.nodes.Nodes.add_chunk.Code as code
-use Rattle.lhm_ring.specs.Nodes.{is_block, pointers, row, node_bytes, chunk_token, chunk, Chunk, chunk_units, chunk_type, unit_bytes, parts_own, head_type, head_val, head_owns, IsChunk, IsUnit}
+use Rattle.lhm_ring.specs.Nodes.{is_block, pointers, row, node_bytes, chunk_token, chunk, Chunk, chunk_units, chunk_type, parts_own, head_type, head_owns, IsChunk, IsUnit}
 use Rattle.lhm_ring.specs.contracts.nodes.ChunkUnit.{the_row as unit}
 use Rattle.std.specs.Mem.{type_size}
 use Rattle.lhm_ring.specs.contracts.nodes.Node.{the_row as node}

@@ -1,4 +1,4 @@
-use Rattle.std.proofs.Common.{◌≡◌, ℕ, ◌+◌, ◌<◌, ◌∙◌, length, ap, sym, subst, arith, refl}
+use Rattle.std.proofs.Common.{◌≡◌, ◌+◌, ◌<◌, ◌∙◌, length, ap, sym, subst, arith, refl}
 use Rattle.std.specs.Prelude.{max}
 use Rattle.lhm_ring.proofs.memory.Places.{length-made, IsLaid-grown}
 use Rattle.lhm_ring.proofs.rings.Insides.{counts-seen}
