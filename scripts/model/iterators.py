@@ -158,8 +158,8 @@ def iterate_to_the_end(call, pairs, show, drop=None):
 def clone_rest(call, steps):
     """Returns a clone of an iterator that owns its pairs, or `None` if it is refused."""
     effects = call.effects
-    # The nodes of the clone: a chunk, and a list of chunks before it if they are not two.
-    if steps.left and not (effects.ask() and (steps.left == 2 or effects.ask())):
+    # The nodes of the clone: a chunk.
+    if steps.left and not effects.ask():
         return None
     copies = []
     for pair in steps.rest():

@@ -7,21 +7,16 @@ the heads and the words of all.
 A growth asks, in this order, for
 - a block of buckets, if it needs more than there is room for: it has as much room as there are
   buckets when it is asked for, but room for 4 if these are fewer, and there is none for 0;
-- a longer list of chunks, if all its places are taken: the list has 4 places at first, then 8, 16,
-  and so on. The first four chunks are not in it if they have two nodes each and come before all
-  others;
 - a chunk, if there are fewer nodes than the new capacity. It has the nodes that are missing. A
   growth by one makes it at least two nodes, or from 16 nodes on half as many as there are, at most
   64, and at most as many as there are then buckets beyond the nodes, or with one bucket two.
 
-If one is refused, the growth gives back the buckets, and the capacity stays. A list that was made
-longer stays so, since it belongs to the map and not to the growth. What is made anew (a map with a
-capacity, a clone, the nodes of a shrinking) is given back as a whole.
+If one is refused, the growth gives back the buckets, and the capacity stays. What is made anew (a
+map with a capacity, a clone, the nodes of a shrinking) is given back as a whole.
 
 A shrinking to fewer buckets asks for a new block of these and then, as a new ring does, for one
-chunk of exactly the pairs, and for a list before it if they are not two. With as many buckets it
-asks for nothing, and the nodes stay; without pairs it frees all. No other call asks for memory for
-pairs.
+chunk of exactly the pairs. With as many buckets it asks for nothing, and the nodes stay; without
+pairs it frees all. No other call asks for memory for pairs.
 """
 
 LIMIT = 2**59
@@ -29,9 +24,6 @@ LIMIT = 2**59
 FIRST_AHEAD, ENOUGH = 2, 16
 # It has no more nodes beyond those that are missing.
 MOST_AHEAD = 64
-FIRST_LIST = 4
-# How many chunks of two nodes need no list.
-MOST_INLINE = 4
 # How many buckets the first block has room for, and the bytes of a bucket: a head and a word.
 FIRST_ROOM = 4
 BUCKET = 10
@@ -53,34 +45,21 @@ class Memory:
     """The capacity, the buckets, the nodes and the chunks of a map, and how many nodes rehashes
     have moved since the capacity was lowered."""
 
-    __slots__ = ("capacity", "buckets", "nodes", "inline", "chunks", "places", "rechained")
+    __slots__ = ("capacity", "buckets", "nodes", "chunks", "rechained")
 
     def __init__(self):
         self.free()
 
     def free(self):
         """Frees all."""
-        self.capacity = self.buckets = self.nodes = 0
-        # The chunks that are not in the list, those that are, and the places of the list.
-        self.inline = self.chunks = self.places = 0
-        self.rechained = 0
+        self.capacity = self.buckets = self.nodes = self.chunks = self.rechained = 0
 
     def is_given_chunk(self, nodes, effects):
-        """Asks for a chunk, and for a longer list first if it needs that and it is full."""
-        if nodes == FIRST_AHEAD and self.inline < MOST_INLINE and self.chunks == 0:
-            if not effects.ask():
-                return False
-            self.inline += 1
-            self.nodes += nodes
-            return True
-        if self.chunks == self.places:
-            if not effects.ask():
-                return False
-            self.places = self.places * 2 or FIRST_LIST
+        """Asks for a chunk, and returns whether it is given."""
         if not effects.ask():
             return False
-        self.chunks += 1
         self.nodes += nodes
+        self.chunks += 1
         return True
 
     def is_given_nodes(self, capacity, buckets, effects):

@@ -10,8 +10,8 @@ from memory import BUCKET, FIRST_ROOM, Memory
 from program import SMALL_SIZES
 
 PAGE = "docs/PERFORMANCE.md"
-# The bytes of a node, and of a place in the list of chunks.
-NODE, PLACE = 48, 16
+# The bytes of a node, and of the head of a chunk.
+NODE, HEAD = 48, 16
 # How many maps bench fills, and the most bytes of a request for one of them.
 MAPS, MOST_BYTES = 4_000, 4_096
 
@@ -33,7 +33,7 @@ def by_model(pairs):
     for length in range(pairs):
         memory.has_room(length, effects)
     buckets = max(memory.buckets, FIRST_ROOM)
-    return effects.requests, BUCKET * buckets + NODE * memory.nodes + PLACE * memory.places
+    return effects.requests, BUCKET * buckets + NODE * memory.nodes + HEAD * memory.chunks
 
 
 def rows_of(page):

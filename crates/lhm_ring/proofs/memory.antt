@@ -2,7 +2,9 @@ pub mod BlockPointers
 pub mod BlockValues
 pub mod BodiesChanged
 pub mod BucketParts
+pub mod ChunkParts
 pub mod ChunkPlaces
+pub mod ChunkSizes
 pub mod ContentTaken
 pub mod ContentsSplitOff
 pub mod ElementsLent

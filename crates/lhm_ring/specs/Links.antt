@@ -3,16 +3,14 @@
 -- right after the last.
 use Rattle.std.specs.Prelude.{◌≡◌, ℕ, suc, zero, ◌+◌, ◌≤◌, ◌^◌, Bool, true, false, cond, List, []}
 use Rattle.std.specs.Prelude.{◌∷◌, ◌++◌, length, Option, Some, None, ◌-◌, ◌*◌, ◌/◌, min, max, nat_le, ◌==◌}
-use Rattle.std.specs.Prelude.{if◌then◌else◌, map, take}
+use Rattle.std.specs.Prelude.{if◌then◌else◌}
 use Rattle.std.proofs.Common.{refl}
 use Rattle.std.specs.List.{AllByRecursion}
 use denote.RawPtr.{Ptr, null_ptr}
 use Rattle.lhm_ring.specs.declared.pointer.Link.{Link}
 use Rattle.lhm_ring.specs.declared.ring.Links.{Links}
 use Rattle.lhm_ring.specs.declared.ring.Ends.{Ends}
-use Rattle.lhm_ring.specs.declared.nodes.Chunk.{Chunk}
-use Rattle.lhm_ring.specs.declared.pointer.NodePointer.{NodePointer}
-use Rattle.lhm_ring.specs.Nodes.{Cell, cell, same_ptr, links_at, body_at, with_links, IsApart}
+use Rattle.lhm_ring.specs.Nodes.{Cell, cell, same_ptr, links_at, body_at, with_links, IsApart, is_block, Chunk}
 use Rattle.lhm_ring.specs.Ring.{Held, triples}
 use Rattle.lhm_ring.specs.Pointer.{target}
 
@@ -208,23 +206,20 @@ module _ {B : Type 0} where
     stacked : IsStacked cs s n below links.link;
   }
 
--- where a chunk starts, and how many places it has
-abbrev pub extent : Chunk → Ptr × ℕ
-extent c = (c.first.ptr, c.count)
-
--- where chunks lie, oldest first: n of two nodes each, and then the others
-abbrev pub extents : List NodePointer → ℕ → List Chunk → List (Ptr × ℕ)
-extents inline n others = map (λ p. (p.ptr, 2)) (take n inline) ++ map extent others
+-- the heads lead through all chunks, from p to null
+unfoldable pub IsChain : List Chunk → Ptr → Type 0
+IsChain [] p = p ≡ null_ptr
+IsChain (c ∷ cs) p = (p ≡ c.at) × (is_block c.at ≡ true) × IsChain cs c.next
 
 -- how many places all of them have
-unfoldable pub place_count : List (Ptr × ℕ) → ℕ
+unfoldable pub place_count : List Chunk → ℕ
 place_count [] = 0
-place_count (c ∷ cs) = place_count cs + c.1
+place_count (c ∷ cs) = c.count + place_count cs
 
--- all places are nodes, of which the ring has made this many, and its list has all chunks
-pub record IsLaid (unused : List Ptr) (chunks recorded : List (Ptr × ℕ)) (made : ℕ) : Type 0 where
+-- all places are nodes, of which the ring has made this many, and its chunks are listed from newest
+pub record IsLaid (unused : List Ptr) (chunks : List Chunk) (newest : Ptr) (made : ℕ) : Type 0 where
   pub none_unused : unused ≡ []
-  pub all_recorded : chunks ≡ recorded
+  pub all_listed : IsChain chunks newest
   pub all_made : made ≡ place_count chunks
 
 -- how many nodes there are after a growth to the number needed: if there were fewer, at least

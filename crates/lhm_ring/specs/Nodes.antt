@@ -1,13 +1,14 @@
 -- The nodes that a ring owns, the chunks that they are cut from, and what is owned with them.
 use Rattle.std.specs.Prelude.{◌≡◌, Bool, true, false, ◌&&◌, ◌==◌, cond, nat_lt, ◌^◌, List, [], ◌∷◌}
-use Rattle.std.specs.Prelude.{map, Option, Some, None, ℕ, zero, suc, ◌*◌, ◌++◌, ◌+◌}
+use Rattle.std.specs.Prelude.{map, Option, Some, None, ℕ, zero, suc, ◌*◌, ◌++◌, ◌+◌, ◌/◌, ◌<◌}
 use Rattle.std.specs.List.{IsDistinct, IsDistinct-prop, AllByRecursion, AllByRecursion-prop}
 use mathlib.Core.Bool.{Bool-set}
-use denote.RawPtr.{Ptr, block_ptr, null_ptr, room_for, ◌+ₚ◌, lies_at}
+use denote.RawPtr.{Ptr, block_ptr, null_ptr, ptr_val, room_for, ◌+ₚ◌, lies_at}
 use Rattle.std.specs.Allocator.{array_of}
 use Rattle.std.specs.Mem.{type_size}
-use mir.Syntax.{Ty, ty_array, ty_struct, tcons, tnil}
-use base.Fml.{Fml, fsep, flt, Lft, ftrue, feq, fwand}
+use mir.Syntax.{Ty, ty_array, ty_struct, tcons, tnil, w64}
+use mir.Val.{Val, vstruct, vcons, vnil, vint}
+use base.Fml.{Fml, fsep, flt, Lft, ftrue, ffalse, feq, fat, fex, fwand}
 use denote.RattleType.{RattleType}
 use base.Fraction.{full_share}
 use mir.Raw.{raw}
@@ -16,6 +17,9 @@ use denote.Memory.{lone}
 use denote.Sharing.{nothing, beside}
 use denote.Struct.Lending.{lent_at}
 use Rattle.std.specs.contracts.impls.GlobalAllocator.TheImpl.{ghosts}
+use Rattle.lhm_ring.specs.contracts.nodes.Node.{the_row as node}
+use Rattle.lhm_ring.specs.contracts.nodes.ChunkHead.{the_row as head}
+use Rattle.lhm_ring.specs.contracts.nodes.ChunkUnit.{the_row as unit}
 
 -- a node: where it lies, its links, and what it holds
 pub record Cell (L B : Type 0) : Type 0 where
@@ -41,6 +45,10 @@ IsApart-prop = IsDistinct-prop same_ptr
 abbrev pub is_block : Ptr → Bool
 is_block (block_ptr b o) = nat_lt o (2 ^ 63)
 is_block null_ptr = false
+
+abbrev pub is_null : Ptr → Bool
+is_null (block_ptr b o) = false
+is_null null_ptr = true
 
 -- the same, or null: p may be compared with null
 abbrev pub is_null_or_block : Ptr → Bool
@@ -122,11 +130,19 @@ unfoldable pub row : Ptr → ℕ → ℕ → List Ptr
 row p s zero = []
 row p s (suc n) = p ∷ row (p +ₚ s) s n
 
--- where the places of all chunks lie, those of the last chunk first: c.0 is where a chunk starts,
--- c.1 how many places it has
-unfoldable pub places : ℕ → List (Ptr × ℕ) → List Ptr
+-- a chunk: where its head lies, where the chunk before it lies, and how many places it has
+pub record Chunk : Type 0 where
+  pub at : Ptr
+  pub next : Ptr
+  pub count : ℕ
+
+abbrev pub chunk : Ptr → Ptr → ℕ → Chunk
+chunk p q n = record { at = p; next = q; count = n }
+
+-- where the places of all chunks lie, behind the heads
+unfoldable pub places : ℕ → List Chunk → List Ptr
 places s [] = []
-places s (c ∷ cs) = places s cs ++ row c.0 s c.1
+places s (c ∷ cs) = row (c.at +ₚ 16) s c.count ++ places s cs
 
 -- a block for n values of R, with nothing in it, and the right to free it: they take fewer than
 -- 2 ^ 63 bytes
@@ -138,6 +154,17 @@ block_owns R token p n =
 -- the right to free a block that `Global` gave, whatever its handle
 abbrev pub chunk_token : Ty → Ptr → Fml
 chunk_token = ghosts.dealloc_token (record { memory = record { seal = tt } })
+
+-- the head of a chunk, as the machine sees it: where the chunk before lies, and the number of places
+abbrev pub head_type : Ty
+head_type = lone head.mir
+
+abbrev pub head_val : Ptr → ℕ → Val
+head_val q n = vstruct (vcons (vstruct (vcons (ptr_val q) vnil)) (vcons (vint w64 n) vnil))
+
+abbrev pub head_owns : Ptr → Ptr → ℕ → Fml
+head_owns (block_ptr b o) q n = fat full_share head_type b o (head_val q n)
+head_owns null_ptr q n = ffalse
 
 module _ (L K V : RattleType) where
   -- the type of `Node`, as the machine sees it
@@ -182,18 +209,47 @@ module _ (L K V : RattleType) where
   places_own [] = ftrue
   places_own (p ∷ ps) = fsep (room_for node_type p) (places_own ps)
 
-  -- the right to free the chunk of c.1 places at c.0
-  abbrev pub chunk_owns : Ptr × ℕ → Fml
-  chunk_owns c =
-      fsep (flt (c.1 * node_bytes) (2 ^ 63))
-      (fsep (feq Bool (is_block c.0) true) (chunk_token (ty_array node_type c.1) c.0))
+  -- the size of what the block of a chunk is measured in
+  abbrev pub unit_bytes : ℕ
+  unit_bytes = type_size (unit L K V)
 
-  abbrev pub chunks_own : List (Ptr × ℕ) → Fml
+  -- how many units a chunk of n nodes takes
+  abbrev pub chunk_units : ℕ → ℕ
+  chunk_units n = 16 / unit_bytes + n * (type_size (node L K V) / unit_bytes)
+
+  -- a chunk may have n places: a head and a node take some units each, with no byte left, and its
+  -- block has fewer than 2 ^ 63 bytes
+  abbrev pub IsChunk : ℕ → Type 0
+  IsChunk n =
+      (0 < n) × (16 / unit_bytes * unit_bytes ≡ 16)
+      × (type_size (node L K V) / unit_bytes * unit_bytes ≡ type_size (node L K V))
+      × (chunk_units n * unit_bytes < 2 ^ 63)
+
+  -- U is as large and as aligned as what the block of a chunk is measured in
+  abbrev pub IsUnit : RattleType → Type 0
+  IsUnit U = raw (lone U.mir) ≡ raw (lone (unit L K V).mir)
+
+  -- the type of the block of such a chunk
+  abbrev pub chunk_type : ℕ → Ty
+  chunk_type n = array_of (unit L K V) (chunk_units n)
+
+  -- its memory, uninitialised: that of the head, and that of the places
+  abbrev pub parts_own : ℕ → Ptr → Fml
+  parts_own n p = fsep (room_for (raw head_type) p) (room_for (ty_array node_type n) (p +ₚ 16))
+
+  -- the head of a chunk, the right to free its block, and that its parts make the block
+  abbrev pub chunk_owns : Chunk → Fml
+  chunk_owns c = fex (IsChunk c.count × (c.count < 2 ^ 64)) (λ _.
+      fsep (head_owns c.at c.next c.count)
+      (fsep (chunk_token (chunk_type c.count) c.at)
+      (fwand (parts_own c.count c.at) (room_for (chunk_type c.count) c.at))))
+
+  abbrev pub chunks_own : List Chunk → Fml
   chunks_own [] = ftrue
   chunks_own (c ∷ cs) = fsep (chunk_owns c) (chunks_own cs)
 
   -- what is owned beside the nodes, which take s bytes each: the unused places, and the chunks
-  abbrev pub land_owns : ℕ → List Ptr → List (Ptr × ℕ) → Fml
+  abbrev pub land_owns : ℕ → List Ptr → List Chunk → Fml
   land_owns s us cs = fsep (feq ℕ s node_bytes) (fsep (places_own us) (chunks_own cs))
 
   -- a key and a value, or the memory for both, uninitialised

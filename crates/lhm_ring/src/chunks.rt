@@ -1,117 +1,83 @@
-//! The chunks of a ring: where each lies, and how many nodes it has.
-ghost use Rattle.std.specs.Prelude.{◌≡◌, ◌<◌, ◌^◌, [], ◌∷◌, ◌++◌, IfOk, OnOk, OnErr, IfSome, IfNone};
-ghost use Rattle.lhm_ring.specs.Nodes.{row};
-ghost use Rattle.lhm_ring.specs.Links.{extent};
+//! Allocates nodes in chunks, and frees all chunks. The heads of the chunks make a list.
+ghost use Rattle.std.specs.Prelude.{◌≡◌, ◌<◌, ◌/◌, ◌*◌, ◌^◌, [], ◌∷◌, true, IfOk, OnOk, OnErr, IsTrue};
+ghost use Rattle.lhm_ring.specs.Nodes.{row, chunk, chunk_units, is_block, IsChunk};
+ghost use Rattle.lhm_ring.specs.Links.{IsChain};
 
-use crate::grow::new_chunk;
-use crate::nodes::{Chunk, Nodes};
-use crate::pointer::{Link, NodePointer};
+use crate::nodes::{ChunkHead, ChunkUnit, Node, Nodes, allocate, deallocate, size};
+use crate::pointer::NodePointer;
 use crate::ring::Links;
 use std::alloc::{AllocError, Global};
-use std::marker::Model;
 
-/// How many chunks of two nodes lie in the value itself.
-const INLINE: usize = 4;
-
-/// The chunks of a ring, oldest first. The first four, if each has two nodes, lie in the value
-/// itself; for the others it allocates a list.
-///
-/// It is not `Drop`: only `destroy_empty` ends it.
-pub(crate) struct Chunks {
-    // Where the first chunks lie, `count` of them. Each has two nodes.
-    inline: [NodePointer; INLINE],
-    count: usize,
-    others: Vec<Chunk, Global>,
+/// Returns whether so many bytes are some units with no byte left.
+fn divides(unit: usize, bytes: usize) -> bool
+    ensures { IsTrue result → bytes / unit * unit ≡ bytes }
+{
+    unit != 0 && bytes % unit == 0
 }
 
-impl Model for Chunks {
-    ghost use Rattle.std.specs.Prelude.{ℕ, List as Seq, ◌≤◌};
-    ghost use denote.RawPtr.{Ptr};
-    ghost use Rattle.lhm_ring.specs.Links.{extents};
-
-    ghost Value = { Seq (Ptr × ℕ) };
-
-    ghost view = { λ c. extents c.inline c.count c.others.items };
-
-    ghost invariant = { λ c. c.count ≤ 4 };
+/// Returns whether a chunk may have `count` nodes. None may that are aligned to more than 16 bytes.
+fn fits<L, K, V>(count: usize) -> bool
+    requires { 0 < count }
+    ensures { IsTrue result → IsChunk L.row K.row V.row count }
+{
+    let head = size::<ChunkHead>();
+    let node = size::<Node<L, K, V>>();
+    let unit = size::<ChunkUnit<L, K, V>>();
+    if !divides(unit, head) || !divides(unit, node) {
+        return false;
+    }
+    match count.checked_mul(node) {
+        Some(bytes) => bytes <= isize::MAX as usize - head,
+        None => false,
+    }
 }
 
-impl Chunks {
-    /// Creates an empty list. It allocates nothing.
-    pub(crate) fn new(alloc: Global) -> Chunks
-        ensures { result ≡ [] }
-    {
-        Chunks {
-            inline: [Link::none().address(); INLINE],
-            count: 0,
-            others: Vec::new(alloc),
-        }
-    }
+/// Returns how many units a chunk of `count` nodes takes.
+fn units<L, K, V>(count: usize) -> usize
+    requires { IsChunk L.row K.row V.row count }
+    ensures { result ≡ chunk_units L.row K.row V.row count }
+{
+    let unit = size::<ChunkUnit<L, K, V>>();
+    size::<ChunkHead>() / unit + count * (size::<Node<L, K, V>>() / unit)
+}
 
-    /// Allocates a chunk of `places` unused places, adds it, and returns the first place. If that
-    /// fails, the chunks stay as they were.
-    pub(crate) fn allocate<K, V>(
-        &mut self,
-        nodes: &mut Nodes<Links, K, V>,
-        alloc: &Global,
-        places: usize,
-    ) -> Result<NodePointer, AllocError>
-        requires some { 0 < places }
-        requires none_unused { nodes.old.unused ≡ [] }
-        ensures cells { nodes.new.cells ≡ nodes.old.cells }
-        ensures small { OnOk result (nodes.new.node_bytes < 2 ^ 63) }
-        ensures unused { IfOk result (λ first.
-            nodes.new.unused ≡ row first.ptr nodes.new.node_bytes places) }
-        ensures chunks { IfOk result (λ first.
-            nodes.new.chunks ≡ nodes.old.chunks ++ (first.ptr, places) ∷ []) }
-        ensures recorded { IfOk result (λ first. self.new ≡ self.old ++ (first.ptr, places) ∷ []) }
-        ensures refused { OnErr result
-            ((nodes.new.unused ≡ nodes.old.unused) × (nodes.new.chunks ≡ nodes.old.chunks)) }
-        ensures refused_recorded { OnErr result (self.new ≡ self.old) }
-    {
-        if places == 2 && self.count < INLINE && self.others.is_empty() {
-            let first = new_chunk(nodes, alloc, places)?;
-            self.inline[self.count] = first;
-            self.count += 1;
-            return Ok(first);
-        }
-        self.others.reserve(1)?;
-        let first = new_chunk(nodes, alloc, places)?;
-        self.others.push_reserved(Chunk {
-            first,
-            count: places,
-        });
-        Ok(first)
+/// Allocates a chunk of `places` unused places in front of `next`, and returns where it and its
+/// first place lie.
+pub(crate) fn new_chunk<K, V>(
+    nodes: &mut Nodes<Links, K, V>,
+    alloc: &Global,
+    next: NodePointer,
+    places: usize,
+) -> Result<(NodePointer, NodePointer), AllocError>
+    requires some { 0 < places }
+    requires none_unused { nodes.old.unused ≡ [] }
+    ensures cells { nodes.new.cells ≡ nodes.old.cells }
+    ensures small { OnOk result (nodes.new.node_bytes < 2 ^ 63) }
+    ensures unused { IfOk result (λ p. nodes.new.unused ≡ row p.1.ptr nodes.new.node_bytes places) }
+    ensures chunks { IfOk result (λ p.
+        nodes.new.chunks ≡ chunk p.0.ptr next.ptr places ∷ nodes.old.chunks) }
+    ensures block { IfOk result (λ p. is_block p.0.ptr ≡ true) }
+    ensures refused { OnErr result
+        ((nodes.new.unused ≡ nodes.old.unused) × (nodes.new.chunks ≡ nodes.old.chunks)) }
+{
+    if !fits::<Links, K, V>(places) {
+        return Err(AllocError);
     }
+    let block = allocate::<ChunkUnit<Links, K, V>, Global>(alloc, units::<Links, K, V>(places))?;
+    Ok(nodes.add_chunk(block, next, places))
+}
 
-    /// Removes and returns the newest chunk, if any.
-    pub(crate) fn pop(&mut self) -> Option<Chunk>
-        ensures some { IfSome result (λ chunk. self.old ≡ self.new ++ extent chunk ∷ []) }
-        ensures none { IfNone result (self.old ≡ []) }
-        ensures empty { IfNone result (self.new ≡ []) }
-    {
-        if let Some(chunk) = self.others.pop() {
-            return Some(chunk);
-        }
-        if self.count == 0 {
-            return None;
-        }
-        self.count -= 1;
-        Some(Chunk {
-            first: self.inline[self.count],
-            count: 2,
-        })
-    }
-
-    /// Ends an empty list.
-    pub(crate) fn destroy_empty(self)
-        requires { self ≡ [] }
-    {
-        let Chunks {
-            inline: _,
-            count: _,
-            others,
-        } = self;
-        others.destroy_empty();
+/// Frees all chunks, and forgets what the nodes hold.
+pub(crate) fn free_chunks<K, V>(nodes: &mut Nodes<Links, K, V>, alloc: &Global, newest: NodePointer)
+    requires { IsChain nodes.old.chunks newest.ptr }
+    ensures cells { nodes.new.cells ≡ [] }
+    ensures chunks { nodes.new.chunks ≡ [] }
+{
+    nodes.clear();
+    let mut newest = newest;
+    'each: while !newest.is_null() {
+        let (block, next, count) = nodes.pop_chunk::<ChunkUnit<Links, K, V>>(newest);
+        deallocate(alloc, block, units::<Links, K, V>(count));
+        newest = next;
     }
 }

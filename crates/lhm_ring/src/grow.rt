@@ -1,28 +1,16 @@
-//! Allocates nodes in chunks, and frees all chunks.
-ghost use Rattle.std.specs.Prelude.{◌≡◌, ◌+◌, ◌-◌, ◌<◌, ◌≤◌, ◌^◌, [], ◌∷◌, ◌++◌, None, Some, min, max, length, IfOk, OnOk, OnErr, IsTrue, true};
-ghost use Rattle.std.specs.Allocator.{FitsBlock};
+//! Makes nodes spare, in new chunks if need be.
+ghost use Rattle.std.specs.Prelude.{◌≡◌, ◌+◌, ◌-◌, ◌<◌, ◌≤◌, ◌^◌, [], None, Some, min, max, length, OnOk, OnErr};
 ghost use Rattle.lhm_ring.specs.Nodes.{row};
 ghost use Rattle.lhm_ring.specs.Links.{nodes_grown, next_chunk, least_more, IsStacked};
 
-use crate::chunks::Chunks;
-use crate::nodes::{Node, Nodes, allocate, deallocate, size};
+use crate::chunks::new_chunk;
+use crate::nodes::Nodes;
 use crate::pointer::{Link, NodePointer};
 use crate::ring::{Links, Ring};
-use std::alloc::{AllocError, Global};
+use std::alloc::AllocError;
 
 /// The most nodes of a ring. At 32 bytes or more, no machine has so many.
 const MOST_NODES: usize = 1 << 59;
-
-/// Returns whether a block for `count` values may be allocated.
-fn fits<T>(count: usize) -> bool
-    requires { 0 < count }
-    ensures { IsTrue result → FitsBlock T.row count }
-{
-    match count.checked_mul(size::<T>()) {
-        Some(bytes) => bytes <= isize::MAX as usize,
-        None => false,
-    }
-}
 
 /// Returns how many nodes the next chunk has, if one is missing: two, or from 16 nodes on half as
 /// many as are `made`.
@@ -73,44 +61,6 @@ fn make_spares<K, V>(
     first
 }
 
-/// Allocates a chunk of `places` unused places, and returns the first.
-pub(crate) fn new_chunk<K, V>(
-    nodes: &mut Nodes<Links, K, V>,
-    alloc: &Global,
-    places: usize,
-) -> Result<NodePointer, AllocError>
-    requires some { 0 < places }
-    requires none_unused { nodes.old.unused ≡ [] }
-    ensures cells { nodes.new.cells ≡ nodes.old.cells }
-    ensures small { OnOk result (nodes.new.node_bytes < 2 ^ 63) }
-    ensures unused { IfOk result (λ first.
-        nodes.new.unused ≡ row first.ptr nodes.new.node_bytes places) }
-    ensures chunks { IfOk result (λ first.
-        nodes.new.chunks ≡ nodes.old.chunks ++ (first.ptr, places) ∷ []) }
-    ensures refused { OnErr result
-        ((nodes.new.unused ≡ nodes.old.unused) × (nodes.new.chunks ≡ nodes.old.chunks)) }
-{
-    if !fits::<Node<Links, K, V>>(places) {
-        return Err(AllocError);
-    }
-    let block = allocate(alloc, places)?;
-    Ok(nodes.add_chunk(block))
-}
-
-/// Frees all chunks, and forgets what the nodes hold.
-pub(crate) fn free_chunks<K, V>(nodes: &mut Nodes<Links, K, V>, alloc: &Global, mut chunks: Chunks)
-    requires { nodes.old.chunks ≡ chunks }
-    ensures cells { nodes.new.cells ≡ [] }
-    ensures chunks { nodes.new.chunks ≡ [] }
-{
-    nodes.clear();
-    'each: while let Some(chunk) = chunks.pop() {
-        let block = nodes.pop_chunk(chunk.first, chunk.count);
-        deallocate(alloc, block, chunk.count);
-    }
-    chunks.destroy_empty();
-}
-
 impl<K, V> Ring<K, V> {
     /// Makes `count` more nodes spare than the chunks have, allocating what is missing as one chunk
     /// of at least `least`.
@@ -132,8 +82,9 @@ impl<K, V> Ring<K, V> {
         }
         let missing = self.len + self.spares + count - self.made;
         let places = missing.max(least);
-        let at = self.chunks.allocate(&mut self.nodes, &self.alloc, places)?;
-        self.spare = make_spares(&mut self.nodes, at, self.spare, places);
+        let (chunk, first) = new_chunk(&mut self.nodes, &self.alloc, self.chunks, places)?;
+        self.chunks = chunk;
+        self.spare = make_spares(&mut self.nodes, first, self.spare, places);
         self.spares += count;
         self.made += places;
         Ok(())

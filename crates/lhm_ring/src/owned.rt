@@ -6,8 +6,7 @@ ghost use Rattle.std.specs.List.{AllZip};
 ghost use Rattle.lhm_ring.specs.Ring.{triples, IsTripleClone};
 ghost use Rattle.lhm_ring.specs.Drain.{HandsOutFirst, HandsOutLast};
 
-use crate::chunks::Chunks;
-use crate::grow::free_chunks;
+use crate::chunks::free_chunks;
 use crate::nodes::Nodes;
 use crate::pointer::NodePointer;
 use crate::ring::{Links, Ring};
@@ -111,7 +110,8 @@ impl<K: Clone, V: Clone> Clone for IntoIter<K, V> {
 pub struct OwnedPairs<K, V> {
     pub(crate) nodes: Nodes<Links, K, V>,
     pub(crate) alloc: Global,
-    pub(crate) chunks: Chunks,
+    // The newest chunk, or null.
+    pub(crate) chunks: NodePointer,
     // The front node of the `left` that still hold a pair.
     pub(crate) first: NodePointer,
     pub(crate) left: usize,
@@ -120,7 +120,7 @@ pub struct OwnedPairs<K, V> {
 impl<K, V> Model for OwnedPairs<K, V> {
     ghost use Rattle.std.specs.Prelude.{◌≡◌, List, ℕ};
     ghost use denote.RawPtr.{Ptr};
-    ghost use Rattle.lhm_ring.specs.Links.{IsSpan, span_triples};
+    ghost use Rattle.lhm_ring.specs.Links.{IsChain, IsSpan, span_triples};
 
     ghost Value = { List (ℕ × (K × V)) };
 
@@ -129,7 +129,7 @@ impl<K, V> Model for OwnedPairs<K, V> {
     ghost invariant = { λ p. record {
       last : Ptr;
       span : IsSpan p.nodes.cells p.first.ptr last p.left;
-      all_recorded : p.nodes.chunks ≡ p.chunks;
+      all_listed : IsChain p.nodes.chunks p.chunks.ptr;
     } };
 }
 

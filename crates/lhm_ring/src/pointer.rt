@@ -2,16 +2,29 @@
 ghost use Rattle.std.specs.Prelude.{◌≡◌, None, Some, true, ⊤};
 ghost use Rattle.std.specs.Option.{IsSome};
 ghost use mathlib.Core.Bool.{Bool-set};
-ghost use Rattle.lhm_ring.specs.Nodes.{is_block, is_null_or_block};
+ghost use Rattle.lhm_ring.specs.Nodes.{is_block, is_null, is_null_or_block};
 
 use std::alloc::AllocError;
 use std::marker::PhantomData;
 use std::ptr::{NonNull, null};
 
-/// The address of a node. It owns nothing.
+/// The address of a node or a chunk. It owns nothing.
 #[derive(Clone, Copy)]
 pub struct NodePointer {
     pub(crate) ptr: *const u8,
+}
+
+impl NodePointer {
+    /// Returns whether it is null.
+    pub(crate) fn is_null(self) -> bool
+        requires { is_null_or_block self.ptr ≡ true }
+        ensures { result ≡ is_null self.ptr }
+    {
+        match NonNull::new(self.ptr.cast_mut()) {
+            Some(_) => false,
+            None => true,
+        }
+    }
 }
 
 /// The pointer of a node, or null if it leads nowhere.

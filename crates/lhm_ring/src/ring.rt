@@ -5,9 +5,8 @@ ghost use Rattle.lhm_ring.specs.Ring.{triples, IsHeld, AtHeld, BeforeHeld, Chang
 ghost use Rattle.lhm_ring.specs.Nodes.{IsApart, AreBlocks, IsAt};
 ghost use Rattle.lhm_ring.specs.Links.{ring_cells, IsJoined, LeadsOn, LeadsBack, ChainsTo, is_there, next_at, prev_at};
 
-use crate::chunks::Chunks;
+use crate::chunks::free_chunks;
 pub use crate::drain::Drain;
-use crate::grow::free_chunks;
 pub use crate::iter::{Iter, IterMut, Lent};
 use crate::nodes::{Node, Nodes};
 use crate::owned::OwnedPairs;
@@ -25,7 +24,8 @@ use std::mem::size_of;
 pub struct Ring<K, V> {
     pub(crate) nodes: Nodes<Links, K, V>,
     pub(crate) alloc: Global,
-    pub(crate) chunks: Chunks,
+    // The newest chunk, or null.
+    pub(crate) chunks: NodePointer,
     // How many nodes the chunks have.
     pub(crate) made: usize,
     pub(crate) ends: Ends,
@@ -46,7 +46,7 @@ impl<K, V> Model for Ring<K, V> {
 
     ghost invariant = { λ r. record {
       ring : IsOwned (ring_cells r.ends r.nodes.cells) r.spare r.len r.spares;
-      laid : IsLaid r.nodes.unused r.nodes.chunks r.chunks r.made;
+      laid : IsLaid r.nodes.unused r.nodes.chunks r.chunks.ptr r.made;
     } };
 }
 
@@ -60,7 +60,7 @@ impl<K, V> Ring<K, V> {
         Ring {
             nodes: Nodes::new(),
             alloc,
-            chunks: Chunks::new(alloc),
+            chunks: Link::none().address(),
             made: 0,
             ends: Ends {
                 first: Link::none(),

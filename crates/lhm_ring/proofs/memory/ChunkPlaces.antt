@@ -7,7 +7,7 @@ use Rattle.lhm_ring.proofs.memory.Steps.{as_raw}
 use Rattle.std.proofs.Common.{zero, suc}
 use Rattle.lhm_ring.proofs.memory.PlaceCut.{block, block_glue}
 use Rattle.lhm_ring.proofs.memory.NodeFields.{Three, RL, RK, RV, lo, ko, vo, Node, One, Cells, uninit_left, body_uninit}
-use Rattle.lhm_ring.specs.Nodes.{pointers, row, links_address, body_owns, deed_owns, node_bytes, places_own, chunk_owns, chunks_own}
+use Rattle.lhm_ring.specs.Nodes.{pointers, row, links_address, body_owns, deed_owns, node_bytes, places_own, chunks_own, Chunk}
 
 module _ {M : Type 1} {𝓤 : Ura M} (𝓛 : Logic 𝓤) (E : Three) where
   pub land_cut : (Z : Fml) (cs : List (Node E)) → ent 𝓤 (sem 𝓛 (Cells E Z cs)) (sep 𝓤 (sem 𝓛 Z) (sem 𝓛 (Cells E ftrue cs)))
@@ -25,11 +25,8 @@ module _ {M : Type 1} {𝓤 : Ura M} (𝓛 : Logic 𝓤) (E : Three) where
   abbrev pub Places : List Ptr → Fml
   Places = places_own (RL E) (RK E) (RV E)
 
-  abbrev pub Chunks : List (Ptr × ℕ) → Fml
+  abbrev pub Chunks : List Chunk → Fml
   Chunks = chunks_own (RL E) (RK E) (RV E)
-
-  abbrev One_chunk : Ptr × ℕ → Fml
-  One_chunk = chunk_owns (RL E) (RK E) (RV E)
 
   abbrev pub bytes : ℕ
   bytes = node_bytes (RL E) (RK E) (RV E)
@@ -45,20 +42,6 @@ module _ {M : Type 1} {𝓤 : Ura M} (𝓛 : Logic 𝓤) (E : Three) where
   places_glue (p ∷ ps) qs = qed 𝓛 (‵ (Places (p ∷ ps)) ∷ ‵ (Places qs) ∷ []) ∵ fsplit ! $ move !
       (1 ∷ 2 ∷ []) $ use2 𝓛 (‵ (Places (ps ++ qs))) (places_glue ps qs) $ move ! (1 ∷ 0 ∷ []) $
       fjoin ! $ done !
-
-  pub chunks_cut : (cs : List (Ptr × ℕ)) (c : Ptr × ℕ) → ent 𝓤 (sem 𝓛 (Chunks (cs ++ c ∷ [])))
-      (sep 𝓤 (sem 𝓛 (One_chunk c)) (sem 𝓛 (Chunks cs)))
-  chunks_cut [] c = qed 𝓛 (‵ (Chunks (c ∷ [])) ∷ []) ∵ fsplit ! $ done !
-  chunks_cut (x ∷ xs) c = qed 𝓛 (‵ (Chunks (x ∷ xs ++ c ∷ [])) ∷ []) ∵ fsplit ! $ move !
-      (1 ∷ []) $ use1 𝓛 (‵ (One_chunk c) ⊛ ‵ (Chunks xs)) (chunks_cut xs c) $ split ! $ move !
-      (2 ∷ 1 ∷ []) $ fjoin ! $ move ! (1 ∷ 0 ∷ []) $ done !
-
-  pub chunks_glue : (cs : List (Ptr × ℕ)) (c : Ptr × ℕ)
-      → ent 𝓤 (sep 𝓤 (sem 𝓛 (One_chunk c)) (sem 𝓛 (Chunks cs))) (sem 𝓛 (Chunks (cs ++ c ∷ [])))
-  chunks_glue [] c = qed 𝓛 (‵ (One_chunk c) ∷ ‵ ftrue ∷ []) ∵ fjoin ! $ done !
-  chunks_glue (x ∷ xs) c = qed 𝓛 (‵ (One_chunk c) ∷ ‵ (Chunks (x ∷ xs)) ∷ []) ∵ move !
-      (1 ∷ []) $ fsplit ! $ move ! (2 ∷ 1 ∷ []) $ use2 𝓛 (‵ (Chunks (xs ++ c ∷ [])))
-      (chunks_glue xs c) $ move ! (1 ∷ 0 ∷ []) $ fjoin ! $ done !
 
   pub array_cut : (n b o : ℕ) → ent 𝓤 (sem 𝓛 (froom (ty_array (block E) n) b o)) (sem 𝓛 (Places (row (block_ptr b o) bytes n)))
   unfolding row

@@ -1,15 +1,16 @@
 -- Where the places of chunks lie.
-use Rattle.std.proofs.Common.{◌≡◌, ℕ, zero, suc, ◌+◌, ◌-◌, ◌*◌, ◌<◌, ◌^◌, List, [], ◌∷◌, ◌++◌, length, length-append, true, refl, sym, ap}
+use Rattle.std.proofs.Common.{◌≡◌, ℕ, zero, suc, ◌+◌, ◌-◌, ◌*◌, ◌<◌, ◌^◌, List, [], ◌∷◌, ◌++◌, length, length-append, true, false, refl, sym, ap, None}
 use Rattle.std.proofs.Common.{◌∙◌, subst, arith, lt→ltb}
-use Rattle.std.proofs.lemmas.List.{append-nil, append_assoc}
+use Rattle.std.proofs.lemmas.List.{append_assoc}
 use Rattle.std.specs.Prelude.{nat_lt}
 use Rattle.std.proofs.Flags.{T_true}
 use Rattle.std.proofs.ptr.Rows.{one_more, next}
-use denote.RawPtr.{Ptr, block_ptr, null_ptr, ◌+ₚ◌}
+use denote.RawPtr.{Ptr, block_ptr, null_ptr, ◌+ₚ◌, InBlock}
 use lib.ListN.{length-map}
 use Rattle.lhm_ring.proofs.lists.ForAll.{AllByRecursion-left, AllByRecursion-right}
-use Rattle.lhm_ring.specs.Nodes.{Cell, pointers, is_block, AreBlocks, row, places}
-use Rattle.lhm_ring.specs.Links.{place_count, IsLaid}
+use Rattle.lhm_ring.specs.Nodes.{Cell, pointers, is_block, is_null, is_null_or_block, AreBlocks, row, places, Chunk, chunk}
+use Rattle.lhm_ring.specs.Links.{place_count, IsLaid, IsChain}
+use Rattle.lhm_ring.specs.Pointer.{led_to}
 
 pub places-none : (s : ℕ) → [] ≡ places s []
 unfolding places
@@ -44,10 +45,9 @@ unfolding row
 length-row p s zero = refl
 length-row p s (suc n) = ap (λ (k : ℕ). suc k) (length-row (p +ₚ s) s n)
 
-pub places-last : (s : ℕ) (cs : List (Ptr × ℕ)) (c : Ptr × ℕ) → places s (cs ++ c ∷ []) ≡ row c.0 s c.1 ++ places s cs
+pub places-head : (s : ℕ) (c : Chunk) (cs : List Chunk) → places s (c ∷ cs) ≡ row (c.at +ₚ 16) s c.count ++ places s cs
 unfolding places
-places-last s [] c = sym (append-nil (row c.0 s c.1))
-places-last s (x ∷ xs) c = ap (λ ps. ps ++ row x.0 s x.1) (places-last s xs c) ∙ append_assoc (row c.0 s c.1) (places s xs) (row x.0 s x.1)
+places-head s c cs = refl
 
 pub nat_lt-near : (o : ℕ) → o < 2 ^ 63 → nat_lt o (2 ^ 63) ≡ true
 nat_lt-near o h = T_true (nat_lt o (2 ^ 63)) (lt→ltb o (2 ^ 63) h)
@@ -81,42 +81,104 @@ module _ (p : Ptr) (s n : ℕ) (us : List Ptr) (e : us ≡ row p s (n + 1)) wher
   row-next ps ls h = sym (append_assoc (row p s n) ((p +ₚ (n * s)) ∷ []) ps) ∙ ap (λ qs. qs ++ ps) (sym last_too) ∙ h
 
 -- a chunk more
-pub row-more : (p : Ptr) (s n : ℕ) (us ps : List Ptr) (cs : List (Ptr × ℕ)) → us ++ ps ≡ places s cs
-    → (row p s n ++ us) ++ ps ≡ places s (cs ++ (p, n) ∷ [])
-row-more p s n us ps cs h = append_assoc (row p s n) us ps ∙ ap (λ qs. row p s n ++ qs) h ∙ sym (places-last s cs (p, n))
+pub row-more : (s : ℕ) (c : Chunk) (us ps : List Ptr) (cs : List Chunk) → us ++ ps ≡ places s cs
+    → (row (c.at +ₚ 16) s c.count ++ us) ++ ps ≡ places s (c ∷ cs)
+row-more s c us ps cs h = append_assoc (row (c.at +ₚ 16) s c.count) us ps ∙ ap (λ qs. row (c.at +ₚ 16) s c.count ++ qs) h ∙ sym (places-head s c cs)
 
-pub length-places : (s : ℕ) (cs : List (Ptr × ℕ)) → length (places s cs) ≡ place_count cs
+pub length-places : (s : ℕ) (cs : List Chunk) → length (places s cs) ≡ place_count cs
 unfolding places place_count
 length-places s [] = refl
 length-places s (c ∷ cs) = grind (arith, length-append, length-row, length-places s cs)
-
-pub place_count-last : (cs : List (Ptr × ℕ)) (c : Ptr × ℕ) → place_count (cs ++ c ∷ []) ≡ place_count cs + c.1
-unfolding place_count
-place_count-last [] c = refl
-place_count-last (x ∷ cs) c = let a = place_count-last cs c in omega arith
 
 pub block_ptr-in_block : (p : Ptr) → is_block p ≡ true → (at : ℕ × ℕ) × (p ≡ block_ptr at.0 at.1)
 block_ptr-in_block (block_ptr b o) e = ((b, o), refl)
 block_ptr-in_block null_ptr e = cc
 
 -- a ring's chunks stay if its nodes keep theirs
-pub IsLaid-same : {us vs : List Ptr} {cs ds recorded : List (Ptr × ℕ)} {made : ℕ}
-    → IsLaid us cs recorded made → vs ≡ us → ds ≡ cs → IsLaid vs ds recorded made
-IsLaid-same l e f = grind arith
+pub IsLaid-same : {us vs : List Ptr} {cs ds : List Chunk} {newest : Ptr} {made : ℕ}
+    → IsLaid us cs newest made → vs ≡ us → ds ≡ cs → IsLaid vs ds newest made
+IsLaid-same {newest = p} l e f = record {
+  none_unused = e ∙ l.none_unused;
+  all_listed = subst (λ zs. IsChain zs p) (sym f) l.all_listed;
+  all_made = l.all_made ∙ ap place_count (sym f);
+}
 
-pub IsLaid-none : {us : List Ptr} {cs recorded : List (Ptr × ℕ)} → us ≡ [] → cs ≡ [] → recorded ≡ [] → IsLaid us cs recorded 0
+pub IsChain-none : {cs : List Chunk} {p : Ptr} → cs ≡ [] → p ≡ null_ptr → IsChain cs p
+unfolding IsChain
+IsChain-none {p = p} e n = subst (λ zs. IsChain zs p) (sym e) n
+
+pub IsLaid-none : {us : List Ptr} {cs : List Chunk} {p : Ptr} → us ≡ [] → cs ≡ [] → p ≡ null_ptr → IsLaid us cs p 0
 unfolding place_count
-IsLaid-none e f k = record { none_unused = e; all_recorded = f ∙ sym k; all_made = sym (ap place_count f) }
+IsLaid-none e f n = record { none_unused = e; all_listed = IsChain-none f n; all_made = sym (ap place_count f) }
 
 pub row-less : (p : Ptr) (s n : ℕ) → 0 < n → row p s n ≡ row p s (n - 1 + 1)
 row-less p s n some = let same : n ≡ n - 1 + 1 = omega arith in ap (row p s) same
 
 -- if no place is unused, there are as many nodes as places
 pub length-made : {L B : Type 0} (ns : List (Cell L B)) (us : List Ptr) (s : ℕ)
-    (cs : List (Ptr × ℕ)) → us ++ pointers ns ≡ places s cs → us ≡ [] → length ns ≡ place_count cs
+    (cs : List Chunk) → us ++ pointers ns ≡ places s cs → us ≡ [] → length ns ≡ place_count cs
 length-made ns us s cs h e = sym (length-map ns (λ n. n.at)) ∙ ap length (ap (λ qs. qs ++ pointers ns) (sym e) ∙ h) ∙ length-places s cs
 
 -- a chunk more
-pub IsLaid-grown : {us vs : List Ptr} {cs ds ks js : List (Ptr × ℕ)} {made : ℕ} (c : Ptr × ℕ) → IsLaid us cs ks made → vs ≡ []
-    → ds ≡ cs ++ c ∷ [] → js ≡ ks ++ c ∷ [] → IsLaid vs ds js (made + c.1)
-IsLaid-grown c l e f k = grind (arith, place_count-last)
+pub IsLaid-grown : {us vs : List Ptr} {cs ds : List Chunk} {p : Ptr} {made : ℕ} (c : Chunk) → IsLaid us cs p made → vs ≡ []
+    → ds ≡ c ∷ cs → c.next ≡ p → is_block c.at ≡ true → IsLaid vs ds c.at (made + c.count)
+unfolding IsChain place_count
+IsLaid-grown {cs = cs} {p = p} {made = made} c l e f n b = record {
+  none_unused = e;
+  all_listed = subst (λ zs. IsChain zs c.at) (sym f) (refl, b, subst (IsChain cs) (sym n) l.all_listed);
+  all_made = let m = l.all_made in let one : made + c.count ≡ c.count + place_count cs = omega (arith, m) in one ∙ ap place_count (sym f);
+}
+
+-- a chain from what is not null has a chunk
+pub record FirstChunk (cs : List Chunk) (p : Ptr) : Type 0 where
+  pub next : Ptr
+  pub count : ℕ
+  pub rest : List Chunk
+  pub is : cs ≡ chunk p next count ∷ rest
+
+pub IsChain-comparable : (cs : List Chunk) (p : Ptr) → IsChain cs p → is_null_or_block p ≡ true
+unfolding IsChain
+IsChain-comparable [] p e = ap is_null_or_block e
+IsChain-comparable (c ∷ cs) p k = ap is_null_or_block k.0 ∙ is_block-comparable c.at k.1
+  where
+    is_block-comparable : (q : Ptr) → is_block q ≡ true → is_null_or_block q ≡ true
+    is_block-comparable (block_ptr b o) e = e
+    is_block-comparable null_ptr e = refl
+
+pub IsChain-null : (cs : List Chunk) (p : Ptr) → IsChain cs p → is_null p ≡ true → cs ≡ []
+unfolding IsChain
+IsChain-null [] p k e = refl
+IsChain-null (c ∷ cs) p k e = absurd (null-no_block c.at (ap is_null (sym k.0) ∙ e) k.1)
+  where
+    null-no_block : (q : Ptr) → is_null q ≡ true → is_block q ≡ true → ⊥
+    null-no_block (block_ptr b o) e f = cc
+    null-no_block null_ptr e f = cc
+
+pub IsChain-first : (cs : List Chunk) (p : Ptr) → IsChain cs p → is_null p ≡ false → FirstChunk cs p
+unfolding IsChain
+IsChain-first [] p k e = absurd (no_null p k e)
+  where
+    no_null : (q : Ptr) → q ≡ null_ptr → is_null q ≡ false → ⊥
+    no_null (block_ptr b o) n e = cc
+    no_null null_ptr n e = cc
+IsChain-first (c ∷ cs) p k e = record {
+  next = c.next;
+  count = c.count;
+  rest = cs;
+  is = ap (λ q. chunk q c.next c.count ∷ cs) (sym k.0);
+}
+
+pub IsChain-rest : (cs : List Chunk) (p : Ptr) (c : Chunk) (ds : List Chunk) → IsChain cs p → cs ≡ c ∷ ds → IsChain ds c.next
+unfolding IsChain
+IsChain-rest cs p c ds k e = (subst (λ zs. IsChain zs p) e k).2
+
+pub is_null-in_block : (p : Ptr) → InBlock p → is_null p ≡ false
+is_null-in_block (block_ptr b o) t = refl
+is_null-in_block null_ptr t = absurd t
+
+pub led_to-nowhere : (p : Ptr) → led_to p ≡ None → p ≡ null_ptr
+led_to-nowhere (block_ptr b o) e = cc
+led_to-nowhere null_ptr e = refl
+
+pub IsChain-same : {cs ds : List Chunk} (p : Ptr) → IsChain cs p → ds ≡ cs → IsChain ds p
+IsChain-same p k e = subst (λ zs. IsChain zs p) (sym e) k

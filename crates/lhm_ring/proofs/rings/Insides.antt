@@ -18,7 +18,7 @@ use Rattle.lhm_ring.specs.Ring.{State, state, IsHeld, AtHeld, change_at, pair, r
 abbrev pub IsWhole : {K V : Type 0} → Inside K V → Type 0
 IsWhole i = record {
   ring : IsOwned (ring_cells i.ends i.nodes.cells) i.spare i.len i.spares;
-  laid : IsLaid i.nodes.unused i.nodes.chunks i.chunks i.made;
+  laid : IsLaid i.nodes.unused i.nodes.chunks i.chunks.ptr i.made;
 }
 
 abbrev pub seen_of : {K V : Type 0} → Inside K V → State (K × V)

@@ -17,11 +17,11 @@ fn refused_growth_leaves_an_empty_ring(rt: HostRuntime) {
 }
 
 fn grow_empty(rt: &(impl Abort + Print + AllocGlobal), mut ring: Ring<char, u64>) {
-    // The growths: a list of chunks and a chunk.
+    // The growth: a chunk.
     match ring.grow(3) {
         Ok(()) => {
             check!(rt; is_ring(&ring, &[], 3));
-            say_if_given(rt, true, 3);
+            say_if_given(rt, true, 2);
         }
         Err(AllocError) => check!(rt; is_ring(&ring, &[], 0)),
     }
@@ -33,7 +33,7 @@ fn refused_growth_leaves_what_is_held(rt: HostRuntime) {
 }
 
 fn grow_twice(rt: &(impl Abort + Print + AllocGlobal), mut ring: Ring<char, u64>) {
-    // The growth: a chunk of two nodes, which needs no list.
+    // The growth: a chunk.
     if let Ok(()) = ring.grow(2) {
         ring.put_back(7, 'a', 1);
         grow_held(rt, ring);
@@ -41,11 +41,11 @@ fn grow_twice(rt: &(impl Abort + Print + AllocGlobal), mut ring: Ring<char, u64>
 }
 
 fn grow_held(rt: &(impl Abort + Print + AllocGlobal), mut ring: Ring<char, u64>) {
-    // The growths: a list of chunks and a chunk.
+    // The growth: another chunk.
     match ring.grow(3) {
         Ok(()) => {
             check!(rt; is_ring(&ring, &[(7, 'a', 1)], 4));
-            say_if_given(rt, true, 4);
+            say_if_given(rt, true, 3);
         }
         Err(AllocError) => check!(rt; is_ring(&ring, &[(7, 'a', 1)], 1)),
     }
@@ -53,18 +53,17 @@ fn grow_held(rt: &(impl Abort + Print + AllocGlobal), mut ring: Ring<char, u64>)
 
 #[test]
 fn refused_growth_by_one_is_asked_for_again(rt: HostRuntime) {
-    // The growths: a list of chunks and a chunk.
+    // The growth: a chunk.
     grow_by_one(&rt, Ring::with_spares(rt.alloc(), 3));
 }
 
 fn grow_by_one(rt: &(impl Abort + Print + AllocGlobal), made: Result<Ring<char, u64>, AllocError>) {
     if let Ok(mut ring) = made {
-        // The growths: a chunk of two nodes for the fourth, a chunk of one for the sixth, the
-        // seventh, the eighth and the ninth, and a list of chunks for the eighth, whose chunk is
-        // the fifth.
+        // The growths: a chunk of two nodes for the fourth, and a chunk of one for the sixth, the
+        // seventh, the eighth and the ninth.
         let given = grow_six_times(rt, &mut ring);
         check!(rt; is_ring(&ring, &[], 9));
-        say_if_given(rt, given, 9);
+        say_if_given(rt, given, 7);
     }
 }
 
@@ -99,10 +98,9 @@ fn grow_or_grow_again(
 #[test]
 fn refused_growth_of_many_chunks_is_asked_for_again(rt: HostRuntime) {
     let mut ring = Ring::new(rt.alloc());
-    // The growths: 66 chunks of one node; a list of chunks for the first, the fifth, the ninth, the
-    // 17th, the 33rd and the 65th.
+    // The growths: 66 chunks of one node.
     let given = grow_one_by_one(&rt, &mut ring);
-    say_if_given(&rt, given, 73);
+    say_if_given(&rt, given, 67);
 }
 
 /// Makes nodes spare one by one, in chunks of one. Tells whether none was refused.
@@ -120,7 +118,7 @@ fn refused_growth_is_not_asked_for_by_nodes_that_were_spare(rt: HostRuntime) {
 }
 
 fn grow_again(rt: &(impl Abort + Print + AllocGlobal), alloc: Global) {
-    // The growths: a list of chunks and a chunk.
+    // The growth: a chunk.
     if let Ok(mut ring) = Ring::with_spares(alloc, 3) {
         ring.put_back(7, 'a', 1);
         ring.free_spares();
@@ -128,7 +126,7 @@ fn grow_again(rt: &(impl Abort + Print + AllocGlobal), alloc: Global) {
         check!(rt; ring.grow(1).is_ok());
         check!(rt; ring.grow_within(1, 4).is_ok());
         check!(rt; is_ring(&ring, &[(7, 'a', 1)], 2));
-        say_if_given(rt, true, 3);
+        say_if_given(rt, true, 2);
     }
 }
 
@@ -138,7 +136,7 @@ fn refused_compaction_leaves_the_ring(rt: HostRuntime) {
 }
 
 fn compact_two(rt: &(impl Abort + Print + AllocGlobal), alloc: Global) {
-    // The growths: a list of chunks and a chunk.
+    // The growth: a chunk.
     if let Ok(mut ring) = Ring::with_spares(alloc, 3) {
         ring.put_back(7, 'a', 1);
         ring.put_back(9, 'b', 2);
@@ -147,11 +145,11 @@ fn compact_two(rt: &(impl Abort + Print + AllocGlobal), alloc: Global) {
 }
 
 fn compact(rt: &(impl Abort + Print + AllocGlobal), mut ring: Ring<char, u64>) {
-    // The growth: a chunk of two nodes, which needs no list.
+    // The growth: another chunk.
     match ring.compact() {
         Ok(()) => {
             check!(rt; is_ring(&ring, &[(7, 'a', 1), (9, 'b', 2)], 0));
-            say_if_given(rt, true, 4);
+            say_if_given(rt, true, 3);
         }
         Err(AllocError) => check!(rt; is_ring(&ring, &[(7, 'a', 1), (9, 'b', 2)], 1)),
     }

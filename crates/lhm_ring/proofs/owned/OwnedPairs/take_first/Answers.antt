@@ -1,3 +1,4 @@
+use Rattle.lhm_ring.proofs.memory.Places.{IsChain-same}
 use Rattle.std.proofs.Common.{◌∙◌, ◌-◌, ◌∷◌, ap, sym, subst}
 use Rattle.lhm_ring.proofs.rings.Spans.{span_triples-none, IsAt-first, Holds-first, IsSpan-rest_of_first, span_triples-first}
 use Rattle.lhm_ring.proofs.owned.OwnedPairs.take_first.Goals as goal
@@ -21,7 +22,7 @@ invariant_of-self g c =
     record {
       last = s.last;
       span = subst (λ zs. IsSpan zs c.address-self-inside.result.ptr s.last (i.left - 1)) (sym out.cells) rest;
-      all_recorded = out.land.1 ∙ s.all_recorded;
+      all_listed = IsChain-same _ s.all_listed out.land.1;
     }
 
 pub returns : goal.returns

@@ -1,11 +1,11 @@
-use Rattle.std.proofs.Common.{◌≡◌, ℕ, ◌+◌, ◌<◌, ◌∙◌, length, ap, sym, subst, arith}
+use Rattle.std.proofs.Common.{◌≡◌, ◌+◌, ◌<◌, ◌∙◌, length, ap, sym, subst, arith, refl}
 use Rattle.std.specs.Prelude.{max}
-use denote.RawPtr.{Ptr}
 use Rattle.lhm_ring.proofs.memory.Places.{length-made, IsLaid-grown}
 use Rattle.lhm_ring.proofs.rings.Insides.{counts-seen}
 use Rattle.lhm_ring.proofs.rings.NodesGrown.{nodes_grown-fewer}
 use Rattle.lhm_ring.proofs.rings.Stacking.{IsOwned-raised, IsOwned-stacked, ring_list-stacked}
 use Rattle.lhm_ring.proofs.ring.Ring.grow_by.Goals as goal
+use Rattle.lhm_ring.specs.Nodes.{Chunk, chunk}
 use Rattle.lhm_ring.specs.Links.{ring_cells, ring_list, IsOwned}
 
 pub overflow_sub-missing : goal.overflow_sub-missing
@@ -13,8 +13,8 @@ overflow_sub-missing g c =
     let seen = counts-seen c.self.inside c.self.invariant c.self.view_is in
     let lacks = c.requires.missing in let few = c.if-self-count.false in let small = c.self.invariant.ring.bounded in omega arith
 
-pub allocate-requires-clause-some : goal.allocate-requires-clause-some
-allocate-requires-clause-some g c =
+pub new_chunk-requires-clause-some : goal.new_chunk-requires-clause-some
+new_chunk-requires-clause-some g c =
     let seen = counts-seen c.self.inside c.self.invariant c.self.view_is in let places = c.max-places.ensures in
     let lacks = c.requires.missing in let few = c.if-self-count.false in let small = c.self.invariant.ring.bounded in omega arith
 
@@ -27,13 +27,13 @@ overflow_add-self-2 g c =
 pub invariant_of-self-2 : goal.invariant_of-self-2
 invariant_of-self-2 g c =
     let i = c.self.inside in let ds = c.make_spares-self-inside.new.nodes in let first = c.make_spares-self-inside.result in
-    let chunk : Ptr × ℕ = (c.in_ok-at.at.ptr, c.max-places.result) in
+    let one : Chunk = chunk c.in_ok-chunk.chunk.ptr i.chunks.ptr c.max-places.result in
     let ok = subst (λ zs. IsOwned (ring_cells i.ends zs) i.spare i.len i.spares)
-    (sym c.allocate.ensures.cells) c.self.invariant.ring in
-    let ring = IsOwned-stacked i.ends c.allocate.new.nodes.cells ds.cells first _ ok
+    (sym c.new_chunk.ensures.cells) c.self.invariant.ring in
+    let ring = IsOwned-stacked i.ends c.new_chunk.new.nodes.cells ds.cells first _ ok
     c.make_spares-self-inside.ensures.stacked ds.apart ds.blocks in
-    let more = c.make_spares-self-inside.ensures.chunks ∙ c.in_ok-at.ensures.chunks in
-    let laid = IsLaid-grown chunk c.self.invariant.laid c.make_spares-self-inside.ensures.unused more c.in_ok-at.ensures.recorded in
+    let more = c.make_spares-self-inside.ensures.chunks ∙ c.in_ok-chunk.ensures.chunks in
+    let laid = IsLaid-grown one c.self.invariant.laid c.make_spares-self-inside.ensures.unused more refl c.in_ok-chunk.ensures.block in
     let made = length-made ds.cells ds.unused ds.node_bytes ds.chunks ds.laid laid.none_unused ∙ sym laid.all_made in
     let few = c.if-self-count.false in let small = c.self.invariant.ring.bounded in let places = c.max-places.ensures in
     record {
@@ -43,11 +43,11 @@ invariant_of-self-2 g c =
 
 pub returns-clause-held : goal.returns-clause-held
 returns-clause-held g c =
-    let i = c.self.inside in let cs = c.allocate.new.nodes.cells in let ds = c.make_spares-self-inside.new.nodes in
+    let i = c.self.inside in let cs = c.new_chunk.new.nodes.cells in let ds = c.make_spares-self-inside.new.nodes in
     let ok = subst (λ zs. IsOwned (ring_cells i.ends zs) i.spare i.len i.spares)
-    (sym c.allocate.ensures.cells) c.self.invariant.ring in
+    (sym c.new_chunk.ensures.cells) c.self.invariant.ring in
     ring_list-stacked i.ends cs ds.cells c.make_spares-self-inside.result _ ok c.make_spares-self-inside.ensures.stacked ds.apart ds.blocks
-    ∙ ap (λ zs. ring_list (ring_cells i.ends zs) i.len) c.allocate.ensures.cells ∙ ap (λ z. z.held) c.self.view_is
+    ∙ ap (λ zs. ring_list (ring_cells i.ends zs) i.len) c.new_chunk.ensures.cells ∙ ap (λ z. z.held) c.self.view_is
 
 pub returns-clause-nodes : goal.returns-clause-nodes
 returns-clause-nodes g c =

@@ -9,7 +9,7 @@ invariant_of-result g c =
     record {
       last = last;
       span = IsSpan-ring i.ends i.nodes.cells c.self.invariant.ring c.address.ensures refl;
-      all_recorded = c.self.invariant.laid.all_recorded;
+      all_listed = c.self.invariant.laid.all_listed;
     }
 
 pub returns : goal.returns

@@ -1,11 +1,12 @@
 use Rattle.std.proofs.Common.{◌≡◌, [], length}
-use Rattle.lhm_ring.proofs.grow.free_chunks.Given as goal
+use Rattle.lhm_ring.proofs.chunks.free_chunks.Given as goal
+use Rattle.lhm_ring.specs.Links.{IsChain}
 
 abbrev pub invariant-each : goal.invariant-each
 invariant-each g l = record {
   cells : l.nodes.cells ≡ [];
-  chunks : l.nodes.chunks ≡ l.chunks;
+  chain : IsChain l.nodes.chunks l.newest.ptr;
 }
 
 abbrev pub decreases-each : goal.decreases-each
-decreases-each g l = length l.chunks
+decreases-each g l = length l.nodes.chunks
