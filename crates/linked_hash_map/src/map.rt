@@ -105,7 +105,7 @@ pub struct LinkedHashMap<K: Eq + Hash, V, S: BuildHasher = DefaultHashBuilder> {
 }
 
 // What a map takes beside its pairs.
-const _: () = prove!(size_of::<LinkedHashMap<u64, u64>>() == 120);
+const _: () = prove!(size_of::<LinkedHashMap<u64, u64>>() == 128);
 
 /// Drops the pairs and the hasher, and frees all memory, in O(capacity).
 impl<K: Eq + Hash + Drop, V: Drop, S: BuildHasher + Drop> Drop for LinkedHashMap<K, V, S> {
