@@ -1,4 +1,4 @@
-//! Allocates nodes in chunks, and frees all chunks. The heads of the chunks make a list.
+//! Allocates chunks, and frees all. Their heads make a list, newest first.
 ghost use Rattle.std.specs.Prelude.{◌≡◌, ◌<◌, ◌/◌, ◌*◌, ◌^◌, [], ◌∷◌, true, IfOk, OnOk, OnErr, IsTrue};
 ghost use Rattle.lhm_ring.specs.Nodes.{row, chunk, chunk_units, is_block, IsChunk};
 ghost use Rattle.lhm_ring.specs.Links.{IsChain};
@@ -8,7 +8,7 @@ use crate::pointer::NodePointer;
 use crate::ring::Links;
 use std::alloc::{AllocError, Global};
 
-/// Returns whether so many bytes are some units with no byte left.
+/// Returns whether so many bytes are whole units.
 fn divides(unit: usize, bytes: usize) -> bool
     ensures { IsTrue result → bytes / unit * unit ≡ bytes }
 {
@@ -53,7 +53,8 @@ pub(crate) fn new_chunk<K, V>(
     requires none_unused { nodes.old.unused ≡ [] }
     ensures cells { nodes.new.cells ≡ nodes.old.cells }
     ensures small { OnOk result (nodes.new.node_bytes < 2 ^ 63) }
-    ensures unused { IfOk result (λ p. nodes.new.unused ≡ row p.1.ptr nodes.new.node_bytes places) }
+    ensures unused { IfOk result (λ p.
+        nodes.new.unused ≡ row p.1.ptr nodes.new.node_bytes places) }
     ensures chunks { IfOk result (λ p.
         nodes.new.chunks ≡ chunk p.0.ptr next.ptr places ∷ nodes.old.chunks) }
     ensures block { IfOk result (λ p. is_block p.0.ptr ≡ true) }

@@ -1,6 +1,7 @@
 -- The memory of a chunk's block is split into that of its head and that of its nodes. Assumes `Logic`.
-use Rattle.lhm_ring.proofs.memory.Steps.{◌≡◌, ℕ, ◌+◌, ◌*◌, [], ◌∷◌, refl, sym, ap, ◌∙◌, arith, Ura, Ty, ent, sep, SProp, ty_array, ◌∵◌, ‵, raw, ◌⊛◌, ◌$◌}
-use Rattle.lhm_ring.proofs.memory.Steps.{!, qed, move, use1, use2, split, fsplit, fjoin, rewrite, done, Logic, sem, layout, size}
+use Rattle.lhm_ring.proofs.memory.Steps.{◌≡◌, ℕ, ◌+◌, ◌*◌, [], ◌∷◌, refl, sym, ap, ◌∙◌, arith, Ura, Ty, ent, sep, SProp, ty_array, ◌∵◌, ‵}
+use Rattle.lhm_ring.proofs.memory.Steps.{raw, ◌⊛◌, ◌$◌}
+use Rattle.lhm_ring.proofs.memory.Steps.{ !, qed, move, use1, use2, split, fsplit, fjoin, rewrite, done, Logic, sem, layout, size}
 use Rattle.lhm_ring.proofs.memory.Steps.{block_ptr, froom, as_raw}
 use Rattle.std.proofs.Common.{◌/◌, zero, suc}
 use native.Mathlib.Nat.{mul_assoc}

@@ -1,5 +1,6 @@
 -- Where the places of chunks lie.
-use Rattle.std.proofs.Common.{◌≡◌, ℕ, zero, suc, ◌+◌, ◌-◌, ◌*◌, ◌<◌, ◌^◌, List, [], ◌∷◌, ◌++◌, length, length-append, true, false, refl, sym, ap, None}
+use Rattle.std.proofs.Common.{◌≡◌, ℕ, zero, suc, ◌+◌, ◌-◌, ◌*◌, ◌<◌, ◌^◌, List, [], ◌∷◌, ◌++◌, length, length-append, true, false, refl}
+use Rattle.std.proofs.Common.{sym, ap, None}
 use Rattle.std.proofs.Common.{◌∙◌, subst, arith, lt→ltb}
 use Rattle.std.proofs.lemmas.List.{append_assoc}
 use Rattle.std.specs.Prelude.{nat_lt}
@@ -83,7 +84,9 @@ module _ (p : Ptr) (s n : ℕ) (us : List Ptr) (e : us ≡ row p s (n + 1)) wher
 -- a chunk more
 pub row-more : (s : ℕ) (c : Chunk) (us ps : List Ptr) (cs : List Chunk) → us ++ ps ≡ places s cs
     → (row (c.at +ₚ 16) s c.count ++ us) ++ ps ≡ places s (c ∷ cs)
-row-more s c us ps cs h = append_assoc (row (c.at +ₚ 16) s c.count) us ps ∙ ap (λ qs. row (c.at +ₚ 16) s c.count ++ qs) h ∙ sym (places-head s c cs)
+row-more s c us ps cs h =
+    let new : List Ptr = row (c.at +ₚ 16) s c.count in
+    append_assoc new us ps ∙ ap (λ qs. new ++ qs) h ∙ sym (places-head s c cs)
 
 pub length-places : (s : ℕ) (cs : List Chunk) → length (places s cs) ≡ place_count cs
 unfolding places place_count

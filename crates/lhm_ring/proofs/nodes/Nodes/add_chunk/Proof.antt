@@ -11,7 +11,11 @@ use Rattle.lhm_ring.proofs.memory.Steps.{heard, opens, closes, Stays, stay_dropp
 use Rattle.lhm_ring.proofs.memory.Steps.{walk_of, Goes-ref, word, word-Good, proved_at, leaves}
 use Rattle.lhm_ring.proofs.memory.Steps.{arith, id⊢, ty_array, froom, sem, flt_l, RattleType}
 use Rattle.lhm_ring.proofs.memory.Steps.{in_a_block, one_below, snd∗, via, knows, states_also}
-use Rattle.lhm_ring.proofs.memory.Steps.{tokens, states, runs_with, self_left}
+use Rattle.lhm_ring.proofs.memory.Steps.{tokens, states, runs_with, self_left, ◌∙◌, fjoin3, bin}
+use Rattle.lhm_ring.proofs.memory.Steps.{usize, yes, first, blocks, exec, assigns_last, sets_last}
+use Rattle.lhm_ring.proofs.memory.Steps.{through, env, after, at_ret, w64, vint, Goes-dropped}
+use Rattle.lhm_ring.proofs.memory.Steps.{vstruct, vcons, vnil, fpack, Args, a_type, layouts, param}
+use Rattle.lhm_ring.proofs.memory.Steps.{Ty}
 use Rattle.lhm_ring.proofs.memory.BlockValues.{block_val, block_Good, BlockType, block_known, pointer_made}
 use Rattle.lhm_ring.proofs.memory.ChunkParts.{chunk_parts, chunk-bytes}
 use Rattle.lhm_ring.proofs.memory.ChunkPlaces.{land_cut, land_glue, Places, places_glue, array_cut}
@@ -25,7 +29,6 @@ use Rattle.std.specs.Allocator.{array_of}
 use Rattle.std.proofs.GlobalToken.{dealloc_token_start}
 use types.Run.{init, lit}
 use mir.Syntax.{ty_int}
-use Rattle.lhm_ring.proofs.memory.Steps.{◌∙◌, fjoin3, bin, usize, yes, first, blocks, exec, assigns_last, sets_last, through, env, after, at_ret, w64, vint, Goes-dropped}
 use Rattle.std.proofs.RcSteps.{word_ty}
 use denote.Struct.Struct.{as_fields}
 use base.Fml.{fwand}
@@ -34,14 +37,13 @@ use Rattle.lhm_ring.specs.contracts.nodes.Nodes.add_chunk.{ended, clauses}
 use Rattle.lhm_ring.specs.contracts.nodes.Nodes.add_chunk.Key.{name as #self}
 use Rattle.lhm_ring.proofs.nodes.Nodes.add_chunk.Statement.{statement}
 use Rattle.lhm_ring.proofs.nodes.Nodes.add_chunk.Code as code
-use Rattle.lhm_ring.specs.Nodes.{is_block, pointers, row, node_bytes, chunk_token, chunk, Chunk, chunk_units, chunk_type, parts_own, head_type, head_owns, IsChunk, IsUnit}
+use Rattle.lhm_ring.specs.Nodes.{is_block, pointers, row, node_bytes, chunk_token, chunk, Chunk, chunk_units, chunk_type, parts_own}
+use Rattle.lhm_ring.specs.Nodes.{head_type, head_owns, IsChunk, IsUnit}
 use Rattle.lhm_ring.specs.contracts.nodes.ChunkUnit.{the_row as unit}
 use Rattle.std.specs.Mem.{type_size}
 use Rattle.lhm_ring.specs.contracts.nodes.Node.{the_row as node}
 use Rattle.lhm_ring.proofs.memory.PlaceCut.{written}
 use base.Fml.{fsep}
-use Rattle.lhm_ring.proofs.memory.Steps.{vstruct, vcons, vnil, fpack}
-use Rattle.lhm_ring.proofs.memory.Steps.{Args, a_type, layouts, param, Ty}
 
 pub add_chunk_spec : {M : Type 1} → statement M
 add_chunk_spec 𝓤 𝓛 𝓜 𝓡 wired L K V U LL LK LV LU =

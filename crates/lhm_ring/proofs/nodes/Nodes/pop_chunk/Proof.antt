@@ -1,18 +1,20 @@
 -- `pop_chunk` reads the head of a chunk, and makes head and places a block. Assumes `Logic`.
-use Rattle.lhm_ring.proofs.memory.Steps.{◌≡◌, ℕ, ◌+◌, ◌*◌, ◌<◌, ◌^◌, true, List, [], ◌∷◌, ◌++◌, refl}
-use Rattle.lhm_ring.proofs.memory.Steps.{sym, ap, ◌∙◌, subst, Val, vptr, vint, w64, inst_fn, SProp}
-use Rattle.lhm_ring.proofs.memory.Steps.{flft, size, size-raw, ◌∵◌, ‵, raw, ◌⊛◌, ◌$◌, !, qed, by}
-use Rattle.lhm_ring.proofs.memory.Steps.{move, keep, use0, use1, use2, split, join, fsplit, fsplit3}
-use Rattle.lhm_ring.proofs.memory.Steps.{fjoin, fjoin3, rewrite, feq_i, feq_l, stop, fld, of_opd}
-use Rattle.lhm_ring.proofs.memory.Steps.{no_more, and_then, returns, alloc_all, pass_all, free_all}
-use Rattle.lhm_ring.proofs.memory.Steps.{look_at, get, get_in, sets, sets_last, is, sub, whole, agg, tables}
-use Rattle.lhm_ring.proofs.memory.Steps.{fact, usize, yes, owns, types_at, plain, Ptr, block_ptr}
-use Rattle.lhm_ring.proofs.memory.Steps.{ptr_val, heard, opens, closes, Stays, stay_dropped, through}
-use Rattle.lhm_ring.proofs.memory.Steps.{stay_ref, walk_of, Goes-dropped, Goes-ref, word, word-Good}
-use Rattle.lhm_ring.proofs.memory.Steps.{proved_at, leaves, ty_array, froom, flt_i, room_for, in_a_block}
-use Rattle.lhm_ring.proofs.memory.Steps.{RattleType, self_left, states, tokens, runs_with, first, blocks}
-use Rattle.lhm_ring.proofs.memory.Steps.{states_also, exec, after, at_ret, env, fpick, vstruct, vcons, vnil}
-use Rattle.lhm_ring.proofs.memory.Steps.{Args, a_type, layouts, layout, param, Ty, id⊢, sem, as_raw}
+use Rattle.lhm_ring.proofs.memory.Steps.{◌≡◌, ℕ, ◌+◌, ◌*◌, ◌<◌, ◌^◌, true, List, [], ◌∷◌, ◌++◌}
+use Rattle.lhm_ring.proofs.memory.Steps.{refl, sym, ap, ◌∙◌, subst, Val, vptr, vint, w64, inst_fn}
+use Rattle.lhm_ring.proofs.memory.Steps.{SProp, flft, size, size-raw, ◌∵◌, ‵, raw, ◌⊛◌, ◌$◌, !, qed}
+use Rattle.lhm_ring.proofs.memory.Steps.{by, move, keep, use0, use1, use2, split, join, fsplit}
+use Rattle.lhm_ring.proofs.memory.Steps.{fsplit3, fjoin, fjoin3, rewrite, feq_i, feq_l, stop, fld}
+use Rattle.lhm_ring.proofs.memory.Steps.{of_opd, no_more, and_then, returns, alloc_all, pass_all}
+use Rattle.lhm_ring.proofs.memory.Steps.{free_all, look_at, get, get_in, sets, sets_last, is, sub}
+use Rattle.lhm_ring.proofs.memory.Steps.{whole, agg, tables, fact, usize, yes, owns, types_at}
+use Rattle.lhm_ring.proofs.memory.Steps.{plain, Ptr, block_ptr, ptr_val, heard, opens, closes}
+use Rattle.lhm_ring.proofs.memory.Steps.{Stays, stay_dropped, through, stay_ref, walk_of}
+use Rattle.lhm_ring.proofs.memory.Steps.{Goes-dropped, Goes-ref, word, word-Good, proved_at, leaves}
+use Rattle.lhm_ring.proofs.memory.Steps.{ty_array, froom, flt_i, room_for, in_a_block, RattleType}
+use Rattle.lhm_ring.proofs.memory.Steps.{self_left, states, tokens, runs_with, first, blocks}
+use Rattle.lhm_ring.proofs.memory.Steps.{states_also, exec, after, at_ret, env, fpick, vstruct}
+use Rattle.lhm_ring.proofs.memory.Steps.{vcons, vnil, Args, a_type, layouts, layout, param, Ty, id⊢}
+use Rattle.lhm_ring.proofs.memory.Steps.{sem, as_raw}
 use base.Fml.{fwand}
 use base.Logic.{apply∗}
 use denote.RawPtr.{◌+ₚ◌}
@@ -38,7 +40,8 @@ use Rattle.lhm_ring.specs.contracts.nodes.Nodes.pop_chunk.{ended, clauses}
 use Rattle.lhm_ring.specs.contracts.nodes.Nodes.pop_chunk.Key.{name as #self}
 use Rattle.lhm_ring.proofs.nodes.Nodes.pop_chunk.Statement.{statement}
 use Rattle.lhm_ring.proofs.nodes.Nodes.pop_chunk.Code as code
-use Rattle.lhm_ring.specs.Nodes.{is_block, pointers, AreBlocks, row, places, node_bytes, chunk_token, chunk, Chunk, chunk_units, chunk_type, parts_own, head_type, head_val, head_owns, IsChunk, IsUnit}
+use Rattle.lhm_ring.specs.Nodes.{is_block, pointers, AreBlocks, row, places, node_bytes, chunk_token, chunk, Chunk, chunk_units}
+use Rattle.lhm_ring.specs.Nodes.{chunk_type, parts_own, head_type, head_val, head_owns, IsChunk, IsUnit}
 
 pub pop_chunk_spec : {M : Type 1} → statement M
 pop_chunk_spec 𝓤 𝓛 𝓜 𝓡 wired L K V U LL LK LV LU =
@@ -85,7 +88,8 @@ pop_chunk_spec 𝓤 𝓛 𝓜 𝓡 wired L K V U LL LK LV LU =
     sets_last ! (of_opd ! (load ! (through ! refl (fld ! refl (stop !))) (look_in ! 0 (sub ! 0 refl (whole !))))) refl (word-Good [] q) $
     exec ! 𝓣.C 𝓣.Λ Ev (after 2 fn.body) (at_ret Ev Post) $ sets ! (of_opd ! (get ! refl)) refl (word-Good [] q) $
     first ! $ blocks ! $
-    sets_last ! (of_opd ! (load ! (through ! refl (fld ! refl (stop !))) (look_in ! 0 (sub ! 1 refl (whole !))))) refl (tt, record { fits = told.1 }) $
+    sets_last ! (of_opd ! (load ! (through ! refl (fld ! refl (stop !))) (look_in ! 0 (sub ! 1 refl (whole !))))) refl
+    (tt, record { fits = told.1 }) $
     exec ! 𝓣.C 𝓣.Λ Ev (after 4 fn.body) (at_ret Ev Post) $ sets ! (of_opd ! (get ! refl)) refl (tt, record { fits = told.1 }) $
     sets ! (of_opd ! (get ! refl)) refl (tt, tt) $ sets ! (agg ! (no_more !)) refl (tt, tt) $
     sets ! (agg ! (and_then ! (get ! refl) (and_then ! (get ! refl) (no_more !)))) refl (block_Good start) $
