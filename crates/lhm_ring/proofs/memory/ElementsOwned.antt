@@ -1,7 +1,7 @@
 -- What the owner of elements is by value, and where what it owns lies. Assumes `Logic`.
 --     elements_known, elements_made      the owner is its one machine value, and what it owns
 --     in_block-block      a pointer into a block, by its block and its place
-use Rattle.lhm_ring.proofs.memory.Steps.{◌≡◌, ℕ, List, [], ◌∷◌, ◌++◌, refl, ◌∙◌, Val, vstruct, vnil, ent, emp, sem, Ura, Logic}
+use Rattle.lhm_ring.proofs.memory.Steps.{◌≡◌, List, [], ◌∷◌, ◌++◌, refl, ◌∙◌, Val, vstruct, vnil, ent, emp, sem, Ura, Logic}
 use Rattle.lhm_ring.proofs.memory.Steps.{‵, ◌$◌, drop, fsplit, fpick, feq_l, Item, Goal, makes_shadow, shape, Struct}
 use Rattle.lhm_ring.proofs.memory.Steps.{RattleType, Ptr, block_ptr, null_ptr}
 use mir.Val.{of_list}

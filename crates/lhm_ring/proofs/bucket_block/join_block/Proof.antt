@@ -1,5 +1,5 @@
 -- `join_block` takes the memory of heads and words back. Assumes `Logic`.
-use Rattle.lhm_ring.proofs.memory.Steps.{◌≡◌, ℕ, ◌*◌, ◌<◌, ◌^◌, [], ◌∷◌, ◌++◌, refl, ◌∙◌, arith, length, Val}
+use Rattle.lhm_ring.proofs.memory.Steps.{◌≡◌, ℕ, ◌*◌, ◌<◌, ◌^◌, [], ◌∷◌, ◌++◌, refl, arith, length, Val}
 use Rattle.lhm_ring.proofs.memory.Steps.{SProp, ◌∵◌, ‵, raw, ◌⊛◌, ◌$◌, !, qed, by, move, keep}
 use Rattle.lhm_ring.proofs.memory.Steps.{use0, use1, use2, split, fsplit, fsplit3, fjoin, rewrite}
 use Rattle.lhm_ring.proofs.memory.Steps.{no_more, and_then, returns, alloc_all, pass_all, Logic, ent, sem}

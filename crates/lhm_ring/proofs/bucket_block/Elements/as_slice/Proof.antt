@@ -1,8 +1,8 @@
 -- `as_slice` shows the elements that are lent. Assumes `Logic`.
-use Rattle.lhm_ring.proofs.memory.Steps.{◌≡◌, ℕ, ◌+◌, ◌*◌, ◌<◌, ◌^◌, List, [], ◌∷◌, ◌++◌, refl, sym, ap, ◌∙◌, subst, arith, length}
+use Rattle.lhm_ring.proofs.memory.Steps.{◌≡◌, ℕ, ◌*◌, ◌<◌, ◌^◌, List, [], ◌∷◌, ◌++◌, refl, sym, ap, ◌∙◌, subst, arith, length}
 use Rattle.lhm_ring.proofs.memory.Steps.{Val, vptr, vint, w64, inst_fn, SProp, flft, ◌∵◌, ‵, raw, ◌⊛◌, at_ret, ◌$◌, ! }
 use Rattle.lhm_ring.proofs.memory.Steps.{qed, by, move, keep, drop}
-use Rattle.lhm_ring.proofs.memory.Steps.{use1, split, join, fsplit, fjoin, rewrite, feq_i, flt_l, flt_i, bin, of_opd}
+use Rattle.lhm_ring.proofs.memory.Steps.{use1, split, join, fsplit, fjoin, rewrite, feq_i, flt_l, flt_i, of_opd}
 use Rattle.lhm_ring.proofs.memory.Steps.{no_more, and_then, first}
 use Rattle.lhm_ring.proofs.memory.Steps.{blocks, exec, returns, alloc_all, pass_all, free_all, look_at, get, sets}
 use Rattle.lhm_ring.proofs.memory.Steps.{sets_last, env, agg, tables, fact}
@@ -11,9 +11,7 @@ use Rattle.lhm_ring.proofs.memory.Steps.{Stays, stay_dropped, walk_of}
 use Rattle.lhm_ring.proofs.memory.Steps.{Goes-dropped, after, proved_at, leaves, RattleType, Lft, hide, RefOf, Args}
 use Rattle.lhm_ring.proofs.memory.Steps.{a_type, layouts, param}
 use Rattle.lhm_ring.proofs.memory.Steps.{states, all_spent, tokens, runs_with, mem}
-use Rattle.std.proofs.Common.{◌≤◌}
 use base.Fml.{fhide}
-use types.Run.{lit}
 use denote.Opens.{unhide}
 use denote.RawPtr.{InBlock, block_of, count_of}
 use denote.Slice.{slice_val, elements_shared}
@@ -23,7 +21,6 @@ use Rattle.lhm_ring.specs.contracts.bucket_block.Elements.as_slice.{ended, claus
 use Rattle.lhm_ring.specs.contracts.bucket_block.Elements.as_slice.Key.{name as #self}
 use Rattle.lhm_ring.proofs.bucket_block.Elements.as_slice.Statement.{statement}
 use Rattle.lhm_ring.proofs.bucket_block.Elements.as_slice.Code as code
-use Rattle.lhm_ring.specs.BucketBlock.{behind}
 
 pub as_slice_spec : {M : Type 1} → statement M
 as_slice_spec 𝓤 𝓛 𝓜 𝓡 wired X L =

@@ -1,23 +1,20 @@
 -- `into_vec` makes the memory of the elements a vector. Assumes `Logic`.
-use Rattle.lhm_ring.proofs.memory.Steps.{◌≡◌, ℕ, ◌+◌, ◌*◌, ◌<◌, ◌^◌, [], ◌∷◌, ◌++◌, refl, sym, ap, ◌∙◌, subst, arith, length}
+use Rattle.lhm_ring.proofs.memory.Steps.{◌≡◌, ℕ, ◌*◌, ◌<◌, ◌^◌, [], ◌∷◌, ◌++◌, refl, sym, ap, ◌∙◌, subst, arith, length}
 use Rattle.lhm_ring.proofs.memory.Steps.{Val, vptr, vint, w64, inst_fn, SProp, ◌∵◌, ‵, raw, ◌⊛◌, at_ret, ◌$◌, !, qed, by, move, keep}
-use Rattle.lhm_ring.proofs.memory.Steps.{use1, split, fsplit, rewrite, bin, of_opd, no_more, and_then, first, blocks}
+use Rattle.lhm_ring.proofs.memory.Steps.{use1, split, fsplit, rewrite, of_opd, no_more, and_then, first, blocks}
 use Rattle.lhm_ring.proofs.memory.Steps.{exec, returns, alloc_all}
 use Rattle.lhm_ring.proofs.memory.Steps.{pass_all, free_all, look_at, get, sets, env, tables, fact, usize, yes, no}
 use Rattle.lhm_ring.proofs.memory.Steps.{owns, types_at, plain, Ptr}
-use Rattle.lhm_ring.proofs.memory.Steps.{block_ptr, ptr_val, RawPtr, heard, Stays, stay_dropped, walk_of, Goes-dropped}
+use Rattle.lhm_ring.proofs.memory.Steps.{ptr_val, RawPtr, heard, Stays, stay_dropped, walk_of, Goes-dropped}
 use Rattle.lhm_ring.proofs.memory.Steps.{after, proved_at, leaves}
 use Rattle.lhm_ring.proofs.memory.Steps.{RattleType, Args, a_type, layout, layouts, param, T, has_ty, WT, param_laws}
 use Rattle.lhm_ring.proofs.memory.Steps.{states, states_also, all_spent, runs_with, framed}
 use Rattle.lhm_ring.proofs.memory.Steps.{in_a_block, snd∗, never, sem, later, pick, await, some, given, learn}
-use Rattle.std.proofs.Common.{◌≤◌}
 use base.Fml.{flt}
-use denote.RawPtr.{InBlock}
 use denote.Steps.{only}
 use denote.Triple.Call.{calls_at_last}
 use denote.Triple.Entry.{alive}
 use types.ByLocal.{lands_last}
-use types.Run.{lit}
 use Rattle.std.specs.Mem.{type_size}
 use Rattle.std.specs.Vec.Ownership.{lodged}
 use Rattle.std.proofs.alloc.Calls.{Goes-blank}
@@ -32,7 +29,6 @@ use Rattle.lhm_ring.specs.contracts.bucket_block.Elements.into_vec.{ended, claus
 use Rattle.lhm_ring.specs.contracts.bucket_block.Elements.into_vec.Key.{name as #self}
 use Rattle.lhm_ring.proofs.bucket_block.Elements.into_vec.Statement.{statement}
 use Rattle.lhm_ring.proofs.bucket_block.Elements.into_vec.Code as code
-use Rattle.lhm_ring.specs.BucketBlock.{behind}
 
 pub into_vec_spec : {M : Type 1} → statement M
 into_vec_spec 𝓤 𝓛 𝓜 𝓡 wired X L =
