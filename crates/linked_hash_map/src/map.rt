@@ -124,8 +124,8 @@ impl<K: Eq + Hash + Drop, V: Drop, S: BuildHasher + Drop> Drop for LinkedHashMap
     }
 }
 
-/// A contract sees the pairs, front to back, capacity, hasher, mode, `rechained`, how many nodes
-/// there are, and the pairs left to visit.
+/// A contract sees the pairs, front to back, capacity, hasher, mode, `rechained`, and the pairs left
+/// to visit.
 impl<K: Eq + Hash, V, S: BuildHasher> Model for LinkedHashMap<K, V, S> {
     ghost use Rattle.linked_hash_map.specs.LinkedMap.{LinkedMap};
     ghost use Rattle.linked_hash_map.specs.Nodes.{IsKept, bare, map_of, beside, visit_of};
