@@ -17,6 +17,7 @@ behind p n = p +ₚ (n * 8)
 abbrev pub elements_own : (R : RattleType) → Ptr → List R.Denot → Fml
 elements_own R p xs = lodged R p (length xs) (length xs) xs
 
+-- what a `&` to them lends
 abbrev pub elements_lent : (R : RattleType) → Ptr → List R.Denot → Lft → Fml
 elements_lent R p xs = vec_shares R p (length xs) (length xs) xs
 

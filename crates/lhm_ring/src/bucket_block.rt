@@ -30,7 +30,7 @@ pub(crate) struct Word {
 // A bucket takes two bytes of the filter.
 const _: () = prove!(size_of::<Word>() == 2);
 
-/// The elements of a vector without spare room, whose pointer and length the caller knows. It takes
+/// The elements of a vector without spare room, whose pointer and length the index keeps. It takes
 /// no space.
 pub(crate) struct Elements<T> {
     marker: PhantomData<*mut T>,
@@ -66,7 +66,7 @@ impl<T> Elements<T> {
         }
     }
 
-    /// Makes the elements a vector.
+    /// Returns the elements, `len` of them at `ptr`, as a vector.
     pub(crate) fn into_vec(self, ptr: *mut T, len: usize) -> Vec<T, Lodged>
         requires at { self.at ≡ ptr }
         requires len { length self.items ≡ len }
@@ -79,7 +79,7 @@ impl<T> Elements<T> {
         unsafe { lodge(ptr, len, len) }
     }
 
-    /// Returns the elements.
+    /// Returns the elements, `len` of them at `ptr`.
     pub(crate) fn as_slice(&self, ptr: *const T, len: usize) -> &[T]
         requires at { self.now.at ≡ ptr }
         requires len { length self.now.items ≡ len }
@@ -88,7 +88,7 @@ impl<T> Elements<T> {
         unsafe { slice::from_raw_parts(ptr, len) }
     }
 
-    /// Takes the elements out, as a vector.
+    /// Takes the elements out, `len` of them at `ptr`, and returns them as a vector.
     pub(crate) fn take(&mut self, ptr: *mut T, len: usize) -> Vec<T, Lodged>
         requires at { self.old.at ≡ ptr }
         requires len { length self.old.items ≡ len }

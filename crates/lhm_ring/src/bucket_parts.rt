@@ -1,4 +1,4 @@
-//! The heads and the filter words of an index's buckets, as two vectors in one block of memory.
+//! The heads and the filter words of an index's buckets, as vectors: they are filled and cleared.
 ghost use Rattle.std.specs.Prelude.{◌≡◌, ◌*◌, ◌^◌, ◌<◌, ◌≤◌, map, ℕ, None, slice_index_or, vec_len, vec_capacity};
 ghost use Rattle.std.specs.Vec.{vec_ptr};
 ghost use Rattle.lhm_ring.specs.BucketBlock.{block_heads};
