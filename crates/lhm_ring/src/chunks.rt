@@ -15,7 +15,8 @@ fn divides(unit: usize, bytes: usize) -> bool
     unit != 0 && bytes % unit == 0
 }
 
-/// Returns whether a chunk may have `count` nodes. None may that are aligned to more than 16 bytes.
+/// Returns whether a chunk may have `count` nodes: not if they are aligned to more than 16 bytes, as
+/// no type is.
 fn fits<L, K, V>(count: usize) -> bool
     requires { 0 < count }
     ensures { IsTrue result → IsChunk L.row K.row V.row count }
