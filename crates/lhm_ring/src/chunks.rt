@@ -15,8 +15,8 @@ fn divides(unit: usize, bytes: usize) -> bool
     unit != 0 && bytes % unit == 0
 }
 
-/// Returns whether a chunk may have `count` nodes: not if they are aligned to more than 16 bytes, as
-/// no type is.
+/// Returns whether a chunk may have `count` nodes: not if they are aligned to more than 16 bytes,
+/// for which `Global` has no memory.
 fn fits<L, K, V>(count: usize) -> bool
     requires { 0 < count }
     ensures { IsTrue result → IsChunk L.row K.row V.row count }
