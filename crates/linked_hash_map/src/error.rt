@@ -48,7 +48,7 @@ pub enum ReserveError {
     NoRoom = 2,
 }
 
-/// The error of `shrink_to_fit`: an allocation failed.
+/// The error of `shrink_to_fit` and `sort_by_cached_key`: an allocation failed.
 ///
 /// # Examples
 ///

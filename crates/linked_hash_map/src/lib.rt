@@ -74,9 +74,9 @@
 //! Lookups, insertions and removals are O(1) on average, and O(n) if all keys hash alike. Below the
 //! capacity no insertion allocates or fails, except `append`; a refused one hands back its pair,
 //! and a refused `append` moves none. A call that allocates returns a `Result`, and an error
-//! changes nothing, except that an extension keeps what it inserted before. By `?` an error becomes
-//! an `io::Error` or an `AllocError` too, except [`PutRefused`](sessions::PutRefused), which may
-//! not be for want of memory. Nothing panics. [`LinkedHashMap`] says more.
+//! changes nothing, except that an extension keeps what it inserted before. By `?` an error type
+//! becomes an `io::Error` or an `AllocError` too, except [`PutRefused`](sessions::PutRefused), which
+//! may not be for want of memory. Nothing panics. [`LinkedHashMap`] says more.
 //!
 //! `docs/PROMISES.md` says what is proved, and `docs/PROVING.md` how callers use contracts.
 #![tactic(auto)]
