@@ -9,7 +9,7 @@ from effects import Effects
 from memory import BUCKET, FIRST_ROOM, Memory
 from program import SMALL_SIZES
 
-PAGE = "docs/PERFORMANCE.md"
+PAGE = "docs/speed.txt"
 # The bytes of a node, and of the head of a chunk.
 NODE, HEAD = 48, 16
 # How many maps bench fills, and the most bytes of a request for one of them.
