@@ -80,8 +80,8 @@ module _ {K V : Type 0} where
     pairs_back_from-before apart None e = ap (λ zs. reverse (take (length zs) (pairs_of hs))) (sym (none-last_at xs e))
     pairs_back_from-before apart (Some p) e =
         let h = IsHeld-before e in let at = index_of-at hs _ (IsAt-split h.before h.node h.after h.is h.at_is) apart in
-        let long = ap length (sym is ∙ h.is) in
-        ap (λ k. reverse (take k (pairs_of hs))) (omega (arith, at, long, length-append xs (t ∷ ys), length-append h.before (h.node ∷ h.after)))
+        let long = sym (length-append xs (t ∷ ys)) ∙ ap length (sym is ∙ h.is) ∙ length-append h.before (h.node ∷ h.after) in
+        ap (λ k. reverse (take k (pairs_of hs))) (omega (arith, at, long))
 
   pub pairs_back_from-step : (hs : List (Held (K × V))) → IsApart (map (λ t. t.at) hs) → {p : Ptr} (o : Option Ptr) {pair : K × V}
       → IsAt hs p (index_of p hs) → slice_get (pairs_of hs) (index_of p hs) ≡ Some pair → AtHeld hs p (λ xs t ys. o ≡ last_at xs)
