@@ -147,8 +147,8 @@ impl<K, V> Table<K, V> {
     /// Returns the position of the next pair, if any.
     pub fn next(&self, at: Position<K, V>) -> Option<Position<K, V>>
         requires { IsHeld self.now.held (pointer_of at) }
-        ensures next { AtHeld self.now.held (pointer_of at) (λ xs t ys.
-            pointer_of_some result ≡ first_at ys) }
+        ensures next { (index : ℕ) → IsAt self.now.held (pointer_of at) index →
+            PlaceAt self.now.held (pointer_of_some result) (index + 1) }
         ensures apart { IsApart (map (λ t. t.at) self.now.held) }
     {
         self.ring.next(at)

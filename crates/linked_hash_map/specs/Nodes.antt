@@ -1,5 +1,5 @@
 -- How a map keeps its pairs: in a table, each with the hash of its key.
-use Rattle.std.specs.Prelude.{◌≡◌, ℕ, ◌+◌, ◌<◌, ◌≤◌, Bool, cond, List, [], map, length, Option, Some, None, ⊤}
+use Rattle.std.specs.Prelude.{◌≡◌, ℕ, ◌+◌, ◌<◌, ◌≤◌, Bool, cond, List, [], map, length, take, drop, reverse, Option, Some, None, ⊤}
 use Rattle.std.specs.List.{IsDistinct, AllByRecursion}
 use denote.RawPtr.{Ptr}
 use Rattle.linked_hash_map.specs.LinkedMap.{LinkedMap, CursorState, linked_map, cursor_state, nowhere}
@@ -8,8 +8,7 @@ use Rattle.linked_hash_map.specs.declared.map.TheConstants.{LIMIT}
 use Rattle.linked_hash_map.specs.declared.map.cursor.State.{State}
 use Rattle.linked_hash_map.specs.declared.map.LinkedHashMap.TheInside.{Inside}
 use Rattle.lhm_ring.specs.Pointer.{target}
-use Rattle.linked_hash_map.specs.Pairs.{find, from_first}
-use Rattle.lhm_ring.specs.Nodes.{same_ptr}
+use Rattle.linked_hash_map.specs.Pairs.{find}
 use Rattle.lhm_ring.specs.Positions.{index_of}
 use Rattle.lhm_ring.specs.Ring.{Held, held}
 use Rattle.lhm_ring.specs.Search.{HasKey}
@@ -71,10 +70,15 @@ module _ {K V : Type 0} where
   abbrev pub pairs_of : List (Held (K × V)) → List (K × V)
   pairs_of = map (λ t. t.pair)
 
-  -- the pairs in the nodes from the one at a pointer on, nothing if there is no pointer
+  -- the pairs in the nodes from the one at a pointer on, to the back or to the front, nothing if
+  -- there is no pointer
   abbrev pub pairs_from : Option Ptr → List (Held (K × V)) → List (K × V)
   pairs_from None hs = []
-  pairs_from (Some p) hs = pairs_of (from_first (λ t. same_ptr p t.at) hs)
+  pairs_from (Some p) hs = drop (index_of p hs) (pairs_of hs)
+
+  abbrev pub pairs_back_from : Option Ptr → List (Held (K × V)) → List (K × V)
+  pairs_back_from None hs = []
+  pairs_back_from (Some p) hs = reverse (take (index_of p hs + 1) (pairs_of hs))
 
   -- a node without its link and its value
   abbrev pub bare_node : Held (K × V) → Held K

@@ -31,6 +31,9 @@ module _ {B : Type 0} where
   pub none-first_at : (hs : List (Held B)) → None ≡ first_at hs → hs ≡ []
   none-first_at hs h = grind arith
 
+  pub none-last_at : (hs : List (Held B)) → None ≡ last_at hs → hs ≡ []
+  none-last_at hs h = grind arith
+
   -- the node, cut out of what is held
   module _ {hs : List (Held B)} {p : Ptr} where
     abbrev pub first_held : First hs p → IsHeld hs p

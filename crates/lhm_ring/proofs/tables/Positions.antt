@@ -1,21 +1,24 @@
 -- Positions and indexes: what lies at an index, and where a position is once a triple moved.
 use Rattle.std.proofs.Common.{◌≡◌, ℕ, zero, suc, ◌+◌, ◌-◌, ◌<◌, ◌≤◌, ◌≢◌, Bool, true, false, cond, List, [], ◌∷◌, ◌++◌}
-use Rattle.std.proofs.Common.{map, length, drop}
+use Rattle.std.proofs.Common.{map, length, take, drop}
 use Rattle.std.proofs.Common.{remove, slice_get, Option, Some, None, option_map, refl, sym, ap, ◌∙◌, subst, arith}
 use Rattle.std.proofs.Common.{length-append, append-nil}
 use Rattle.std.specs.Prelude.{IfSome, nat_lt}
-use Rattle.std.specs.Option.{option_to_list}
+use Rattle.std.specs.Option.{IsSome, option_to_list}
 use Rattle.std.specs.List.Sorted.{IsPermutation}
 use Rattle.std.proofs.lemmas.Bool.{ltb-true, ltb-false}
-use Rattle.std.proofs.lemmas.List.{map-append, length-map, take-append-drop, take-map, drop-map}
+use Rattle.std.proofs.lemmas.List.{map-append, length-map, take-append-drop, take-map, drop-map, drop_more, take_more}
 use Rattle.std.proofs.lemmas.List.Sorted.{IsPermutation-refl, IsPermutation-cons, IsPermutation-trans, IsPermutation-append_comm}
-use Rattle.std.proofs.lemmas.Option.{slice_get-map, slice_get_within}
+use Rattle.std.proofs.lemmas.Option.{slice_get-map, slice_get_within, slice_get_cases, get_or_from_slice_get}
+use Rattle.std.proofs.Math.Seq.{drop-append-add}
 use denote.RawPtr.{Ptr}
 use Rattle.lhm_ring.proofs.lists.Apart.{IsFresh, same_ptr-equal, same_ptr-reflexive, same_ptr-symmetric, IsFresh-middle}
 use Rattle.lhm_ring.proofs.lists.Options.{Some-injective, none_some}
 use Rattle.lhm_ring.proofs.indexes.Entries.{pointers-entries}
 use Rattle.lhm_ring.specs.Index.{entries}
+use Rattle.lhm_ring.specs.declared.pointer.Position.{Position}
 use Rattle.lhm_ring.specs.Nodes.{same_ptr, IsApart}
+use Rattle.lhm_ring.specs.Pointer.{pointer_of_some}
 use Rattle.lhm_ring.specs.Positions.{IsAt, PlaceAt, index_of, insert_at, to_back_at, to_front_at, to_before_at}
 use Rattle.lhm_ring.specs.Ring.{Held, IsHeld, AtHeld, BeforeHeld, first_at, last_at, last_of}
 
@@ -27,6 +30,14 @@ slice_get-append (y ∷ xs) x ys = slice_get-append xs x ys
 pub remove-append : {X : Type 0} (xs : List X) (x : X) (ys : List X) → remove (xs ++ x ∷ ys) (length xs) ≡ xs ++ ys
 remove-append [] x ys = refl
 remove-append (y ∷ xs) x ys = ap (λ l. y ∷ l) (remove-append xs x ys)
+
+-- up to an element and from it on
+module _ {X : Type 0} (xs : List X) (i : ℕ) {x : X} (there : slice_get xs i ≡ Some x) where
+  pub drop-from : drop i xs ≡ x ∷ drop (i + 1) xs
+  drop-from = drop_more xs i x (slice_get_within xs i x there) ∙ ap (λ y. y ∷ drop (i + 1) xs) (get_or_from_slice_get xs i x x there)
+
+  pub take-through : take (i + 1) xs ≡ take i xs ++ x ∷ []
+  take-through = take_more xs i x (slice_get_within xs i x there) ∙ ap (λ y. take i xs ++ y ∷ []) (get_or_from_slice_get xs i x x there)
 
 -- before the first element is at the front
 pub to_before_at-first : {X : Type 0} (xs : List X) (i : ℕ) → to_before_at xs i 0 ≡ to_front_at xs i
@@ -137,6 +148,9 @@ module _ {B : Type 0} where
   IsAt-within hs i at =
       let h = slice_get_within (map (λ t. t.at) hs) i _ at in let long = length-map hs (λ t. t.at) in omega (arith, h, long)
 
+  pub PlaceAt-within : (hs : List (Held B)) (i : ℕ) → i < length hs → PlaceAt hs None i → ⊥
+  PlaceAt-within hs i below none = let long = length-map hs (λ t. t.at) in grind (arith, slice_get_cases)
+
   -- at the ends
   pub PlaceAt-first_at : (hs : List (Held B)) → PlaceAt hs (first_at hs) 0
   PlaceAt-first_at [] = refl
@@ -164,11 +178,21 @@ module _ {B : Type 0} where
   pub index_of-held : {hs : List (Held B)} {p : Ptr} → IsHeld hs p → index_of p hs < length hs
   index_of-held h = grind (arith, index_of-within)
 
-  first_at-drop : (hs : List (Held B)) (k : ℕ) → first_at (drop k hs) ≡ slice_get (map (λ t. t.at) hs) k
+  pub first_at-drop : (hs : List (Held B)) (k : ℕ) → first_at (drop k hs) ≡ slice_get (map (λ t. t.at) hs) k
   first_at-drop [] zero = refl
   first_at-drop [] (suc k) = refl
   first_at-drop (t ∷ hs) zero = refl
   first_at-drop (t ∷ hs) (suc k) = first_at-drop hs k
+
+  -- behind a triple is the next index
+  pub slice_get-behind : {hs : List (Held B)} (xs : List (Held B)) (t : Held B) (ys : List (Held B)) → hs ≡ xs ++ t ∷ ys
+      → slice_get (map (λ u. u.at) hs) (length xs + 1) ≡ first_at ys
+  slice_get-behind {hs} xs t ys is = sym (first_at-drop hs (length xs + 1)) ∙ ap (λ zs. first_at (drop (length xs + 1) zs)) is
+      ∙ ap first_at (drop-append-add xs (t ∷ ys) 1)
+
+  pub AtHeld-next : {hs : List (Held B)} {p : Ptr} {o : Option Ptr} → ((i : ℕ) → IsAt hs p i → PlaceAt hs o (i + 1))
+      → AtHeld hs p (λ xs t ys. o ≡ first_at ys)
+  AtHeld-next next xs t ys is at = sym (next (length xs) (IsAt-split xs t ys is at)) ∙ slice_get-behind xs t ys is
 
   -- what is made of the list at an index of p, by what is made of it at p
   module _ (hs : List (Held B)) {p : Ptr} (i : ℕ) (at : IsAt hs p i) where
@@ -180,6 +204,9 @@ module _ {B : Type 0} where
 
     pub slice_get-pair : {b : B} → AtHeld hs p (λ xs t ys. b ≡ t.pair) → slice_get (map (λ t. t.pair) hs) i ≡ Some b
     slice_get-pair is = grind (arith, cut_at, slice_get-map, slice_get-at)
+
+    pub PlaceAt-next : {o : Option Ptr} → AtHeld hs p (λ xs t ys. o ≡ first_at ys) → PlaceAt hs o (i + 1)
+    PlaceAt-next next = grind (arith, cut_at, slice_get-behind)
 
     pub remove-at : {ws : List (Held B)} → AtHeld hs p (λ xs t ys. ws ≡ xs ++ ys) → ws ≡ remove hs i
     remove-at others = grind (arith, cut_at, remove-append)
@@ -312,6 +339,12 @@ module _ {B : Type 0} where
           | true ↦ λ k. refl
           | false ↦ λ k. ap (λ n. n + 1) (index_of-earlier hs i (omega (arith, k)))
         ]) h
+
+-- at an index of a triple there is a position
+pub IsSome-place : {K V : Type 0} (hs : List (Held (K × V))) (o : Option (Position K V)) (i : ℕ) → i < length hs
+    → PlaceAt hs (pointer_of_some o) i → IsSome o
+IsSome-place hs None i below place = absurd (PlaceAt-within hs i below place)
+IsSome-place hs (Some at) i below place = refl
 
 -- without chain links
 module _ {K V : Type 0} where

@@ -1,68 +1,57 @@
 -- The nodes of a table, of which the first ones are reversed.
-use Rattle.std.proofs.Common.{◌≡◌, ℕ, ◌+◌, ◌<◌, List, [], ◌∷◌, ◌++◌, length, reverse, Option, Some}
-use Rattle.std.proofs.Common.{refl, sym, ap, ap₂, ◌∙◌, arith, append-nil, append_assoc, length-append}
+use Rattle.std.proofs.Common.{◌≡◌, ℕ, ◌+◌, List, [], ◌∷◌, ◌++◌, length, take, drop, reverse, slice_get, Option, Some}
+use Rattle.std.proofs.Common.{refl, sym, ap, ap₂, ◌∙◌, append-nil}
 use Rattle.std.specs.Option.{option_to_list}
 use Rattle.std.proofs.lemmas.List.{reverse-append}
+use Rattle.std.proofs.Math.Seq.{take-length, drop-length}
 use denote.RawPtr.{Ptr}
-use Rattle.lhm_ring.proofs.lists.Options.{Some-injective}
-use Rattle.lhm_ring.proofs.tables.MergedRuns.{Headed, headed}
-use Rattle.lhm_ring.proofs.tables.Positions.{IsAt-split, slice_get-append, remove-append}
-use Rattle.lhm_ring.specs.Positions.{IsAt, to_front_at}
-use Rattle.lhm_ring.specs.Ring.{Held, IsHeld, AtHeld, first_at}
-
-nothing : {X : Type 0} (xs : List X) → length xs ≡ 0 → xs ≡ []
-nothing [] e = refl
-nothing (x ∷ xs) e = absurd (omega (arith, e))
+use Rattle.lhm_ring.proofs.tables.Positions.{CutAt, cut_at, slice_get-at, take-through, drop-from, PlaceAt-first_at, first_at-drop}
+use Rattle.lhm_ring.proofs.tables.Positions.{IsAt-split, slice_get-append, slice_get-behind, remove-append}
+use Rattle.lhm_ring.specs.Positions.{IsAt, PlaceAt, to_front_at}
+use Rattle.lhm_ring.specs.Ring.{Held, IsHeld, first_at}
 
 module _ {B : Type 0} (hs : List (Held B)) where
   -- the first n of hs are reversed, and the others are behind them, from the pointer on
   pub record IsReversing (now : List (Held B)) (o : Option Ptr) (n : ℕ) : Type 0 where
-    pub done : List (Held B)
-    pub rest : List (Held B)
-    pub is : hs ≡ done ++ rest
-    pub count : n ≡ length done
-    pub now_is : now ≡ reverse done ++ rest
-    pub at_is : o ≡ first_at rest
+    pub now_is : now ≡ reverse (take n hs) ++ drop n hs
+    pub at_is : PlaceAt hs o n
 
   pub IsReversing-start : {o : Option Ptr} → o ≡ first_at hs → IsReversing hs o 0
-  IsReversing-start e = record { done = []; rest = hs; is = refl; count = refl; now_is = refl; at_is = e }
+  IsReversing-start e = record { now_is = refl; at_is = PlaceAt-first_at hs ∙ sym e }
 
   module _ {now : List (Held B)} {o : Option Ptr} {n : ℕ} (s : IsReversing now o n) where
-    long : length hs ≡ n + length s.rest
-    long = ap length s.is ∙ omega (arith, length-append s.done s.rest, s.count)
-
     pub reversed-all : n ≡ length hs → now ≡ reverse hs
-    reversed-all all = grind (arith, nothing, long, append-nil)
+    reversed-all all = s.now_is ∙ (λ i. reverse (take (all i) hs) ++ drop (all i) hs)
+        ∙ (λ i. reverse (take-length hs i) ++ drop-length hs i) ∙ append-nil (reverse hs)
 
     -- the next one
-    module _ (below : n < length hs) where
-      pub next_left : Headed s.rest
-      next_left = headed s.rest (omega (arith, long, below))
+    module _ {p : Ptr} (found : o ≡ Some p) where
+      abbrev next : CutAt hs p n
+      next = cut_at hs n (s.at_is ∙ found)
 
-      pub next_at : o ≡ Some next_left.head.at
-      next_at = s.at_is ∙ ap first_at next_left.is
+      there : slice_get hs n ≡ Some next.held.node
+      there = slice_get-at hs n (s.at_is ∙ found)
 
-      cut : now ≡ reverse s.done ++ next_left.head ∷ next_left.tail
-      cut = s.now_is ∙ ap (λ zs. reverse s.done ++ zs) next_left.is
+      cut : now ≡ reverse (take n hs) ++ next.held.node ∷ drop (n + 1) hs
+      cut = s.now_is ∙ ap (λ zs. reverse (take n hs) ++ zs) (drop-from hs n there)
 
-      module _ {p : Ptr} (found : o ≡ Some p) where
-        lies_at : next_left.head.at ≡ p
-        lies_at = Some-injective next_left.head.at p (sym next_at ∙ found)
+      pub IsHeld-next : IsHeld now p
+      IsHeld-next = record {
+        before = reverse (take n hs);
+        node = next.held.node;
+        after = drop (n + 1) hs;
+        is = cut;
+        at_is = next.held.at_is;
+      }
 
-        pub IsHeld-next : IsHeld now p
-        IsHeld-next = record { before = reverse s.done; node = next_left.head; after = next_left.tail; is = cut; at_is = lies_at }
-
-        -- it goes to the front
-        pub IsReversing-more : {new : List (Held B)} {next : Option Ptr} → ((i : ℕ) → IsAt now p i → new ≡ to_front_at now i)
-            → AtHeld now p (λ xs t ys. next ≡ first_at ys) → IsReversing new next (n + 1)
-        IsReversing-more moved behind =
-            let turned = reverse s.done in let t = next_left.head in let rest = next_left.tail in record {
-              done = s.done ++ t ∷ [];
-              rest = rest;
-              is = s.is ∙ ap (λ zs. s.done ++ zs) next_left.is ∙ sym (append_assoc s.done (t ∷ []) rest);
-              count = omega (arith, s.count, length-append s.done (t ∷ []));
-              now_is = moved (length turned) (IsAt-split turned t rest cut lies_at) ∙ ap (λ zs. to_front_at zs (length turned)) cut
-                  ∙ ap₂ (λ o ys. option_to_list o ++ ys) (slice_get-append turned t rest) (remove-append turned t rest)
-                  ∙ ap (λ zs. zs ++ rest) (sym (reverse-append s.done (t ∷ [])));
-              at_is = behind turned t rest cut lies_at;
-            }
+      -- it goes to the front
+      pub IsReversing-more : {new : List (Held B)} {behind : Option Ptr} → ((i : ℕ) → IsAt now p i → new ≡ to_front_at now i)
+          → ((i : ℕ) → IsAt now p i → PlaceAt now behind (i + 1)) → IsReversing new behind (n + 1)
+      IsReversing-more moved follows =
+          let turned = reverse (take n hs) in let t = next.held.node in let rest = drop (n + 1) hs in let k = length turned in
+          let at = IsAt-split turned t rest cut next.held.at_is in record {
+            now_is = moved k at ∙ ap (λ zs. to_front_at zs k) cut
+                ∙ ap₂ (λ o ys. option_to_list o ++ ys) (slice_get-append turned t rest) (remove-append turned t rest)
+                ∙ ap (λ zs. zs ++ rest) (sym (ap reverse (take-through hs n there) ∙ reverse-append (take n hs) (t ∷ [])));
+            at_is = sym (first_at-drop hs (n + 1)) ∙ sym (slice_get-behind turned t rest cut) ∙ follows k at;
+          }

@@ -6,7 +6,7 @@ use Rattle.std.proofs.lemmas.Bool.{eq-eqb, ne_eqb}
 use Rattle.std.proofs.lemmas.List.{length-map}
 use denote.RawPtr.{Ptr}
 use Rattle.lhm_ring.proofs.indexes.BucketCounts.{buckets-raised, buckets-below, buckets-at_least, rechained-within, made_raised-higher}
-use Rattle.lhm_ring.proofs.indexes.Entries.{AtHeld-entries, IsHeld-entries, entries-append, entries-change_at, first_at-entries}
+use Rattle.lhm_ring.proofs.indexes.Entries.{AtHeld-entries, IsHeld-entries, entries-append, entries-change_at}
 use Rattle.lhm_ring.proofs.indexes.Entries.{last_at-entries, length-entries, length-same_entries, pointers-entries, triples-entries}
 use Rattle.lhm_ring.proofs.indexes.IndexMoves.{spots-value, spots-rekeyed}
 use Rattle.lhm_ring.proofs.indexes.Spots.{PutsIn-spots}
@@ -15,7 +15,7 @@ use Rattle.lhm_ring.proofs.tables.Positions.{MovedTo, length-moved_to}
 use Rattle.lhm_ring.specs.declared.pointer.Position.{Position}
 use Rattle.lhm_ring.specs.Nodes.{IsApart}
 use Rattle.lhm_ring.specs.Pointer.{pointer_of}
-use Rattle.lhm_ring.specs.Ring.{Held, State, state, IsHeld, AtHeld, ChangesOnly, linked_to, first_at, last_at}
+use Rattle.lhm_ring.specs.Ring.{Held, State, state, IsHeld, AtHeld, ChangesOnly, linked_to, last_at}
 use Rattle.lhm_ring.specs.Ring.{change_at, triples, revalued, rekeyed}
 use Rattle.lhm_ring.specs.RingAfterLoan.{with_value}
 use Rattle.lhm_ring.specs.Index.{Indexes, PutsIn, spot, spots, entries, ChangesLinks, HoldsOthers}
@@ -43,10 +43,6 @@ module _ {K V : Type 0} (s : State (K × V)) (r : ℕ) {m : TableState (K × V)}
   pub AtHeld-table : (p : Ptr) (P : List (Held (K × V)) → Held (K × V) → List (Held (K × V)) → Type 0)
       → AtHeld s.held p (λ xs t ys. P (entries xs) (linked_to None t) (entries ys)) → AtHeld m.held p P
   AtHeld-table p P h = AtHeld-same_entries s.held refl p P h
-
-  pub AtHeld-table_next : (p : Ptr) (o : Option Ptr) → AtHeld s.held p (λ xs t ys. o ≡ first_at ys)
-      → AtHeld m.held p (λ xs t ys. o ≡ first_at ys)
-  AtHeld-table_next p o next = AtHeld-table p (λ xs t ys. o ≡ first_at ys) (λ xs t ys e at. next xs t ys e at ∙ sym (first_at-entries ys))
 
   pub AtHeld-table_previous : (p : Ptr) (o : Option Ptr) → AtHeld s.held p (λ xs t ys. o ≡ last_at xs)
       → AtHeld m.held p (λ xs t ys. o ≡ last_at xs)

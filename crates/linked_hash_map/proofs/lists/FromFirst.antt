@@ -1,5 +1,5 @@
 -- A list from its first element that passes a test on.
-use Rattle.std.proofs.Common.{◌≡◌, ◌≤◌, Bool, true, false, cond, List, [], ◌∷◌, ◌++◌, map, length, reverse}
+use Rattle.std.proofs.Common.{◌≡◌, Bool, true, false, cond, List, [], ◌∷◌, ◌++◌, map, reverse}
 use Rattle.std.proofs.Common.{refl, sym, ap, ◌∙◌, subst, arith, append_assoc}
 use Rattle.std.specs.List.{IsDistinct, AllByRecursion}
 use Rattle.std.proofs.lemmas.List.{map-append, reverse-append}
@@ -7,49 +7,6 @@ use Rattle.std.proofs.lemmas.List.Sorted.{IsPermutation-map, IsPermutation-rever
 use Rattle.std.proofs.lemmas.Map.Keys.{IsDistinct-head, IsDistinct-tail, IsDistinct-IsPermutation}
 use Rattle.lhm_ring.proofs.lists.ForAll.{AllByRecursion-right}
 use Rattle.linked_hash_map.specs.Pairs.{from_first}
-
--- the list, cut at that element
-pub record FirstPasses {X : Type 0} (test : X → Bool) (xs : List X) : Type 0 where
-  pub before : List X
-  pub node : X
-  pub after : List X
-  pub is : xs ≡ before ++ node ∷ after
-  pub passes : test node ≡ true
-  pub from : from_first test xs ≡ node ∷ after
-
-module _ {X : Type 0} (test : X → Bool) where
-  pub FirstPasses-append : (xs : List X) (x : X) (ys : List X) → test x ≡ true → FirstPasses test (xs ++ x ∷ ys)
-  FirstPasses-append [] x ys passes = record {
-    before = [];
-    node = x;
-    after = ys;
-    is = refl;
-    passes = passes;
-    from = ap (λ b. cond b (x ∷ ys) (from_first test ys)) passes;
-  }
-  FirstPasses-append (z ∷ xs) x ys passes = by_test (test z) refl (FirstPasses-append xs x ys passes)
-    where
-      by_test : (b : Bool) → test z ≡ b → FirstPasses test (xs ++ x ∷ ys) → FirstPasses test (z ∷ xs ++ x ∷ ys)
-      by_test true is rest = record {
-        before = [];
-        node = z;
-        after = xs ++ x ∷ ys;
-        is = refl;
-        passes = is;
-        from = ap (λ b. cond b (z ∷ xs ++ x ∷ ys) (from_first test (xs ++ x ∷ ys))) is;
-      }
-      by_test false is rest = record {
-        before = z ∷ rest.before;
-        node = rest.node;
-        after = rest.after;
-        is = ap (λ zs. z ∷ zs) rest.is;
-        passes = rest.passes;
-        from = ap (λ b. cond b (z ∷ xs ++ x ∷ ys) (from_first test (xs ++ x ∷ ys))) is ∙ rest.from;
-      }
-
-  pub length-from_first : (xs : List X) → length (from_first test xs) ≤ length xs
-  length-from_first [] = omega arith
-  length-from_first (x ∷ xs) = grind (arith, length-from_first xs)
 
 -- an element that differs from all others in what f has of it
 module _ {X K : Type 0} {eq : K → K → Bool} (reflexive : (k : K) → eq k k ≡ true) (symmetric : (k q : K) → eq k q ≡ eq q k)

@@ -3,18 +3,15 @@
 use Rattle.std.proofs.Common.{◌≡◌, ℕ, zero, suc, ◌+◌, ◌-◌, ◌<◌, ◌≤◌, ◌⊎◌, inl, inr, List, [], ◌∷◌}
 use Rattle.std.proofs.Common.{◌++◌, length, take, drop, remove, slice_get, Some, refl, sym, ap, ◌∙◌, arith}
 use Rattle.std.specs.Prelude.{slice_set}
-use Rattle.std.proofs.lemmas.List.{drop_more, length-drop, length-take, take-append-drop, drop-append-le, take-append-le}
+use Rattle.std.proofs.lemmas.List.{length-drop, length-take, take-append-drop, drop-append-le, take-append-le}
 use Rattle.std.proofs.lemmas.List.{drop-set-lt, drop-set-add, take-set-le}
-use Rattle.std.proofs.lemmas.Option.{slice_get_within, get_or_from_slice_get}
+use Rattle.lhm_ring.proofs.tables.Positions.{drop-from}
 
 -- it begins with the element at its index
 pub stretch-step : {X : Type 0} (xs : List X) (index n : ℕ) (x : X) → slice_get xs index ≡ Some x
     → 0 < n → take n (drop index xs) ≡ x ∷ take (n - 1) (drop (index + 1) xs)
 stretch-step xs index zero x there h = absurd (omega arith)
-stretch-step xs index (suc n) x there h =
-    let first = drop_more xs index x (slice_get_within xs index x there)
-    ∙ ap (λ y. y ∷ drop (index + 1) xs) (get_or_from_slice_get xs index x x there) in
-    grind arith
+stretch-step xs index (suc n) x there h = let first = drop-from xs index there in grind arith
 
 module _ {X : Type 0} where
   pub take-none : (xs : List X) → take 0 xs ≡ []

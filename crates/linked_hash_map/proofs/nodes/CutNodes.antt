@@ -75,3 +75,9 @@ module _ {K V : Type 0} where
   index_of-append (x ∷ xs) t ys d =
       let on = index_of-append xs t ys (IsApart-tail x.at (map (λ u. u.at) (xs ++ t ∷ ys)) d) in
       grind (arith, same_ptr-fresh, IsFresh-head)
+
+  pub index_of-at : (hs : List (Held (K × V))) {p : Ptr} (i : ℕ) → IsAt hs p i → IsApart (map (λ u. u.at) hs) → index_of p hs ≡ i
+  index_of-at hs i at apart =
+      let cut = cut_at hs i at in let h = cut.held in
+      (λ j. index_of (sym h.at_is j) (h.is j))
+      ∙ index_of-append h.before h.node h.after (subst (λ (us : List (Held (K × V))). IsApart (map (λ u. u.at) us)) h.is apart) ∙ cut.long

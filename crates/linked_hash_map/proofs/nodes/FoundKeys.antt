@@ -10,16 +10,6 @@ use Rattle.lhm_ring.proofs.tables.Positions.{index_of-held}
 use Rattle.lhm_ring.specs.Ring.{Held}
 use Rattle.lhm_ring.specs.Search.{HasKey}
 
-pub IsIndex-HasKey : {K V : Type 0} {eq : K → K → Bool} {hash : ℕ} {k : K}
-    {hs : List (Held (K × V))} {p : Ptr} (h : HasKey (eq k) hash hs p)
-    → IsIndex eq (pairs_of hs) k (length h.held.before)
-IsIndex-HasKey h = let held = h.held in
-    record {
-      pair = held.node.pair;
-      there = slice_get-held held;
-      same = h.key_is held.before held.node held.after held.is held.at_is;
-    }
-
 module _ {K V : Type 0} {is_key : K → Bool} {hash : ℕ} {hs : List (Held (K × V))} {p : Ptr} (h : HasKey is_key hash hs p) where
   pub index_of-HasKey : index_of p hs < length hs
   index_of-HasKey = index_of-held h.held

@@ -1,5 +1,5 @@
 -- A node that is moved before another, or behind all.
-use Rattle.std.proofs.Common.{◌≡◌, ℕ, ◌+◌, ◌-◌, Bool, cond, List, [], ◌∷◌, ◌++◌, map, filter, not, length, take, drop, remove, slice_get}
+use Rattle.std.proofs.Common.{◌≡◌, ℕ, ◌+◌, ◌-◌, Bool, cond, List, ◌++◌, filter, not, length, take, drop, remove, slice_get}
 use Rattle.std.proofs.Common.{Option, Some, None, IsTrue, option_to_list, sym, ap, ◌∙◌, subst, arith}
 use Rattle.std.specs.Prelude.{nat_lt, IfSome}
 use Rattle.std.specs.Cmp.{IsEquivalence}
@@ -10,8 +10,8 @@ use Rattle.std.proofs.lemmas.List.{take-append-drop, append_assoc}
 use Rattle.std.proofs.lemmas.List.Sorted.{length_permutation, IsPermutation-trans, IsPermutation-append_comm, IsPermutation-append_left}
 use denote.RawPtr.{Ptr}
 use Rattle.lhm_ring.proofs.tables.Positions.{CutAt-IsAt, IsPermutation-to_front_at, map-to_before_at}
-use Rattle.lhm_ring.specs.Positions.{PlaceAt, IsAt, index_of, to_front_at, to_before_at}
-use Rattle.lhm_ring.specs.Ring.{Held, IsHeld, AtHeld, first_at}
+use Rattle.lhm_ring.specs.Positions.{PlaceAt, index_of, to_front_at, to_before_at}
+use Rattle.lhm_ring.specs.Ring.{Held, IsHeld}
 use Rattle.lhm_ring.specs.Search.{HasKey}
 use Rattle.lhm_ring.specs.Pointer.{pointer_of, pointer_of_some}
 use Rattle.lhm_ring.specs.declared.pointer.Position.{Position}
@@ -67,20 +67,6 @@ module _ {K V : Type 0} {eq : K → K → Bool} (laws : IsEquivalence eq) {is_ke
       ++ (option_to_list (lookup_entry test (pairs_of hs)) ++ filter (λ pair. not (test pair.0)) (drop n (pairs_of hs))))
       (eq-stored laws respects h))
       ∙ to_behind-index laws distinct (IsIndex-index_of (HasKey-stored laws respects h)) n
-
--- what comes after a node has the next index
-module _ {B : Type 0} where
-  first-at : (hs : List (Held B)) → slice_get (map (λ t. t.at) hs) 0 ≡ first_at hs
-  first-at hs = grind arith
-
-  next-at : (xs : List (Held B)) (t : Held B) (ys : List (Held B))
-      → slice_get (map (λ u. u.at) (xs ++ t ∷ ys)) (length xs + 1) ≡ first_at ys
-  next-at [] t ys = first-at ys
-  next-at (x ∷ xs) t ys = grind (arith, next-at xs t ys)
-
-  pub PlaceAt-next : {hs : List (Held B)} {p : Ptr} (i : ℕ) → IsAt hs p i → {o : Option Ptr} → AtHeld hs p (λ xs t ys. o ≡ first_at ys)
-      → PlaceAt hs o (i + 1)
-  PlaceAt-next {hs} {p} i at next = let cut = CutAt-IsAt hs p i at in grind (arith, next-at)
 
 -- where a position is the place of an index, a node lies there
 pub IsHeld-PlaceAt : {K V : Type 0} (hs : List (Held (K × V))) (i : ℕ) (o : Option (Position K V)) → PlaceAt hs (pointer_of_some o) i

@@ -1,16 +1,16 @@
 -- A key that a lookup finds: what looks it up finds what the stored key finds.
 use Rattle.std.proofs.Common.{◌≡◌, ℕ, ◌+◌, ◌-◌, Bool, cond, not, filter, map, List, [], ◌∷◌, ◌++◌, length, Option, Some, None}
-use Rattle.std.proofs.Common.{option_map, IsTrue, slice_get, length-append, refl, sym, ap, ◌∙◌, subst, arith}
+use Rattle.std.proofs.Common.{option_map, is_some, IsTrue, slice_get, length-append, refl, sym, ap, ◌∙◌, subst, arith}
 use Rattle.std.specs.Cmp.{IsEquivalence}
 use Rattle.std.specs.List.{IsDistinct}
 use Rattle.std.specs.Map.{keys_of, lookup_entry}
 use denote.RawPtr.{Ptr}
 use Rattle.linked_hash_map.specs.declared.map.Mode.TheVariants.{Touch}
 use Rattle.linked_hash_map.specs.Cursor.{without_cursor}
-use Rattle.linked_hash_map.specs.Indexes.{IsIndex, set_value_at}
+use Rattle.linked_hash_map.specs.Indexes.{set_value_at}
 use Rattle.linked_hash_map.specs.LinkedMap.{LinkedMap}
 use Rattle.linked_hash_map.specs.Nodes.{pairs_of}
-use Rattle.linked_hash_map.specs.Pairs.{with_value, without, to_back, last}
+use Rattle.linked_hash_map.specs.Pairs.{find, with_value, without, to_back, last}
 use Rattle.linked_hash_map.specs.Updates.{UpdatesBy}
 use Rattle.linked_hash_map.specs.Validity.{IsValid}
 use Rattle.linked_hash_map.proofs.Callers.Keys.{length-to_back_present, length-without_present}
@@ -18,7 +18,7 @@ use Rattle.linked_hash_map.proofs.Callers.Updates.{Updates-put, Updates-set_valu
 use Rattle.linked_hash_map.proofs.nodes.CutNodes.{slice_get-held}
 use Rattle.linked_hash_map.proofs.nodes.FoundKeys.{index_of-HasKey, IsIndex-index_of}
 use Rattle.linked_hash_map.proofs.nodes.TakenNode.{pairs-removed}
-use Rattle.linked_hash_map.proofs.pairs.Indexes.{find-index, without-index, set_value-index, is_some-index, slice_get-last}
+use Rattle.linked_hash_map.proofs.pairs.Indexes.{find-own, without-index, set_value-own_at, slice_get-last}
 use Rattle.linked_hash_map.proofs.pairs.Inserts.{distinct-to_back}
 use Rattle.lhm_ring.proofs.tables.Positions.{IsAt-index_of, remove-at}
 use Rattle.lhm_ring.specs.Ring.{Held, AtHeld}
@@ -45,18 +45,13 @@ module _ {K V : Type 0} {eq : K → K → Bool} (laws : IsEquivalence eq) {is_ke
   pub HasKey-stored : HasKey (eq stored) hash hs p
   HasKey-stored = subst (λ (test : K → Bool). HasKey test hash hs p) (sym eq-stored) h
 
-  IsIndex-stored : IsIndex eq (pairs_of hs) stored (length h.held.before)
-  IsIndex-stored = record {
-    pair = h.held.node.pair;
-    there = slice_get-held h.held;
-    same = laws.refl stored;
-  }
-
   module _ (distinct : IsDistinct eq (keys_of (pairs_of hs))) where
+    find-own_key : find eq (pairs_of hs) stored ≡ Some h.held.node.pair
+    find-own_key = find-own laws (pairs_of hs) distinct (length h.held.before) h.held.node.pair (slice_get-held h.held)
+
     pub find-stored : lookup_entry is_key (pairs_of hs) ≡ Some h.held.node.pair
     find-stored =
-        sym (ap (λ (test : K → Bool). lookup_entry test (pairs_of hs)) eq-stored)
-        ∙ find-index laws distinct IsIndex-stored (slice_get-held h.held)
+        sym (ap (λ (test : K → Bool). lookup_entry test (pairs_of hs)) eq-stored) ∙ find-own_key
 
     -- without its pair
     module _ {ws : List (Held (K × V))} (others : AtHeld hs p (λ xs x ys. ws ≡ xs ++ ys)) where
@@ -74,21 +69,21 @@ module _ {K V : Type 0} {eq : K → K → Bool} (laws : IsEquivalence eq) {is_ke
 
       pub length-without_stored : length (pairs_of ws) + 1 ≡ length (pairs_of hs)
       length-without_stored = ap (λ ps. length ps + 1) is_without
-          ∙ length-without_present laws (pairs_of hs) stored distinct (is_some-index laws distinct IsIndex-stored)
+          ∙ length-without_present laws (pairs_of hs) stored distinct (ap is_some find-own_key)
 
     -- with a value written in its place
     pub set_value-stored : (v : V) → map (λ pair. cond (is_key pair.0) (pair.0, v) pair) (pairs_of hs)
         ≡ set_value_at (pairs_of hs) (length h.held.before) v
     set_value-stored v =
         sym (ap (λ (test : K → Bool). map (λ pair. cond (test pair.0) (pair.0, v) pair) (pairs_of hs)) eq-stored)
-        ∙ set_value-index laws distinct IsIndex-stored v
+        ∙ set_value-own_at laws (pairs_of hs) distinct (length h.held.before) h.held.node.pair (slice_get-held h.held) v
 
     pub UpdatesBy-set_value : (v : V) → UpdatesBy eq (pairs_of hs)
         (map (λ pair. cond (is_key pair.0) (pair.0, v) pair) (pairs_of hs)) is_key (Some v)
     UpdatesBy-set_value v =
         subst (λ (test : K → Bool). UpdatesBy eq (pairs_of hs)
         (map (λ pair. cond (test pair.0) (pair.0, v) pair) (pairs_of hs)) test (Some v)) eq-stored
-        (Updates-set_value laws (pairs_of hs) _ stored (is_some-index laws distinct IsIndex-stored) v refl)
+        (Updates-set_value laws (pairs_of hs) _ stored (ap is_some find-own_key) v refl)
 
     -- and with its pair at the back
     module _ (as_key : Option K) (v : V) where
@@ -100,7 +95,7 @@ module _ {K V : Type 0} {eq : K → K → Bool} (laws : IsEquivalence eq) {is_ke
       moved-pushed = grind (arith, eq-stored, find-stored, with_value-found)
 
       pub to_back_by-stored : moved ≡ to_back eq (pairs_of hs) stored v
-      to_back_by-stored = grind (arith, moved-pushed, find-index, IsIndex-stored, slice_get-held)
+      to_back_by-stored = grind (arith, moved-pushed, find-own_key)
 
       pub UpdatesBy-to_back_by : UpdatesBy eq (pairs_of hs) moved is_key (Some v)
       UpdatesBy-to_back_by =
@@ -112,7 +107,7 @@ module _ {K V : Type 0} {eq : K → K → Bool} (laws : IsEquivalence eq) {is_ke
 
       pub length-to_back_by : length moved ≡ length (pairs_of hs)
       length-to_back_by = ap length to_back_by-stored
-          ∙ length-to_back_present laws (pairs_of hs) stored v distinct (is_some-index laws distinct IsIndex-stored)
+          ∙ length-to_back_present laws (pairs_of hs) stored v distinct (ap is_some find-own_key)
 
       pub IsValid-refreshed : {S : Type 0} {m : LinkedMap K V S} → IsValid eq m
           → m.pairs ≡ pairs_of hs → IsValid eq (record (without_cursor m) { pairs = moved })

@@ -1,8 +1,8 @@
 //! The iterators over the pairs from that of a key on.
-ghost use Rattle.std.specs.Prelude.{◌≡◌, Some, length, reverse, ⊤};
+ghost use Rattle.std.specs.Prelude.{◌≡◌, Some, length, ⊤};
 ghost use Rattle.std.specs.Iterator.{at_most};
 ghost use Rattle.std.specs.Map.Iter.{TakesFirst, deref_pair};
-ghost use Rattle.linked_hash_map.specs.Nodes.{pairs_from};
+ghost use Rattle.linked_hash_map.specs.Nodes.{pairs_from, pairs_back_from};
 ghost use Rattle.lhm_ring.specs.Pointer.{pointer_of};
 ghost use Rattle.lhm_ring.specs.Ring.{IsHeld};
 
@@ -98,13 +98,13 @@ pub struct IterBackFrom<'a, K, V> {
 }
 
 impl<'a, K, V> Model for IterBackFrom<'a, K, V> {
-    ghost use Rattle.std.specs.Prelude.{List, reverse};
-    ghost use Rattle.linked_hash_map.specs.Nodes.{Lies, pairs_from};
+    ghost use Rattle.std.specs.Prelude.{List};
+    ghost use Rattle.linked_hash_map.specs.Nodes.{Lies, pairs_back_from};
     ghost use Rattle.lhm_ring.specs.Pointer.{pointer_of_some};
 
     ghost Value = { List (K × V) };
 
-    ghost view = { λ a. pairs_from (pointer_of_some a.next) (reverse a.table.now.held) };
+    ghost view = { λ a. pairs_back_from (pointer_of_some a.next) a.table.now.held };
 
     ghost invariant = { λ a. Lies (pointer_of_some a.next) a.table.now.held };
 }
@@ -113,7 +113,7 @@ impl<'a, K, V> IterBackFrom<'a, K, V> {
     /// Returns an iterator over the pairs from the one at a position to the front.
     pub(crate) fn new(table: &'a Table<K, V>, at: Position<K, V>) -> Self
         requires { IsHeld table.now.held (pointer_of at) }
-        ensures { result ≡ pairs_from (Some (pointer_of at)) (reverse table.now.held) }
+        ensures { result ≡ pairs_back_from (Some (pointer_of at)) table.now.held }
     {
         IterBackFrom {
             table,

@@ -1,5 +1,5 @@
 //! Where a cursor or an entry stands. Contracts speak of indexes into the list of pairs.
-ghost use Rattle.std.specs.Prelude.{◌≡◌, ◌<◌, [], length, option_map, None, ◌∷◌, map, remove, slice_get, Some, IsTrue, IsFalse};
+ghost use Rattle.std.specs.Prelude.{◌≡◌, ℕ, ◌+◌, ◌<◌, [], length, option_map, None, ◌∷◌, map, remove, slice_get, Some, IsTrue, IsFalse};
 ghost use Rattle.std.specs.Map.{keys_of};
 ghost use Rattle.std.specs.Borrow.{sem};
 ghost use Rattle.linked_hash_map.specs.Pairs.{find, put, set_key, to_back_as_is, to_front};
@@ -11,7 +11,8 @@ ghost use Rattle.linked_hash_map.specs.Indexes.{IsIndex};
 ghost use Rattle.linked_hash_map.specs.Nodes.{bookmark_of, unvisited_of, current_of};
 ghost use Rattle.lhm_ring.specs.Nodes.{IsApart};
 ghost use Rattle.lhm_ring.specs.Pointer.{pointer_of, pointer_of_some, target};
-ghost use Rattle.lhm_ring.specs.Ring.{IsHeld, AtHeld, first_at};
+ghost use Rattle.lhm_ring.specs.Positions.{IsAt, PlaceAt};
+ghost use Rattle.lhm_ring.specs.Ring.{IsHeld};
 
 use super::get::locate;
 use super::insert::touch;
@@ -134,8 +135,8 @@ fn bookmark_behind<K, V>(
 ) -> Option<Position<K, V>>
     requires { IsHeld table.now.held (pointer_of at) }
     ensures none { unvisited ≡ 0 → result ≡ None }
-    ensures next { 0 < unvisited
-        → AtHeld table.now.held (pointer_of at) (λ xs t ys. pointer_of_some result ≡ first_at ys) }
+    ensures next { 0 < unvisited → (index : ℕ) → IsAt table.now.held (pointer_of at) index →
+        PlaceAt table.now.held (pointer_of_some result) (index + 1) }
     ensures apart { 0 < unvisited → IsApart (map (λ t. t.at) table.now.held) }
 {
     if unvisited == 0 {

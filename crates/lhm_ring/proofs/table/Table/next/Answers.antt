@@ -1,13 +1,18 @@
-use Rattle.lhm_ring.proofs.tables.Tables.{IsHeld-table, AtHeld-table_next, IsApart-table}
+use Rattle.std.proofs.Common.{◌+◌, slice_get, refl, ap, ◌∙◌}
+use Rattle.lhm_ring.proofs.indexes.Entries.{pointers-entries}
+use Rattle.lhm_ring.proofs.tables.Positions.{PlaceAt-next, IsAt-entries}
+use Rattle.lhm_ring.proofs.tables.Tables.{IsHeld-table, IsApart-table}
 use Rattle.lhm_ring.proofs.table.Table.next.Goals as goal
-use Rattle.lhm_ring.specs.Pointer.{pointer_of, pointer_of_some}
+use Rattle.lhm_ring.specs.Pointer.{pointer_of}
 
 pub next-requires : goal.next-requires
 next-requires g c = IsHeld-table c.self.inside.ring c.self.inside.rechained c.self.view_is (pointer_of c.args.at) c.requires
 
 pub returns-clause-next : goal.returns-clause-next
-returns-clause-next g c = AtHeld-table_next c.self.inside.ring c.self.inside.rechained
-    c.self.view_is (pointer_of c.args.at) (pointer_of_some c.next.result) c.next.ensures.next
+returns-clause-next g c =
+    let hs = c.self.inside.ring.held in
+    rw (← c.self.view_is) (λ i at. ap (λ ps. slice_get ps (i + 1)) (pointers-entries hs)
+    ∙ PlaceAt-next hs i (IsAt-entries hs i refl at) c.next.ensures.next)
 
 pub returns-clause-apart : goal.returns-clause-apart
 returns-clause-apart g c = IsApart-table c.self.inside.ring c.self.inside.rechained c.self.view_is c.next.ensures.apart

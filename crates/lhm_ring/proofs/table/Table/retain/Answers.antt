@@ -1,5 +1,6 @@
 use Rattle.std.proofs.Common.{ap, refl, ◌∙◌}
 use Rattle.std.specs.Map.Calls.{CalledAtPair, TakesPair}
+use Rattle.lhm_ring.proofs.tables.Positions.{AtHeld-next}
 use Rattle.lhm_ring.proofs.tables.Retained.{IsRetaining-start, RetainsHeld-end, IsRetaining-step}
 use Rattle.lhm_ring.proofs.tables.Retained.{First-next, next_held, TakesAt-next, left_from-smaller}
 use Rattle.lhm_ring.proofs.table.Table.retain.Goals as goal
@@ -32,7 +33,7 @@ loop-next-preserved g c =
     record {
       retaining = IsRetaining-step (CalledAtPair g.F.FnMut) (TakesPair g.F.FnMut) m
           (First-next (CalledAtPair g.F.FnMut) (TakesPair g.F.FnMut) m
-          (ap pointer_of_some c.in-Some.is)) kept.retained c.next-next.ensures.next;
+          (ap pointer_of_some c.in-Some.is)) kept.retained (AtHeld-next c.next-next.ensures.next);
       keeps = record {
         capacity = kept.keeps.capacity ∙ c.loop-next.invariant.keeps.capacity;
         rechained = kept.keeps.rechained ∙ c.loop-next.invariant.keeps.rechained;
@@ -46,7 +47,7 @@ loop-next-smaller g c =
     let some = ap pointer_of_some c.in-Some.is in
     left_from-smaller (CalledAtPair g.F.FnMut) (TakesPair g.F.FnMut) m
     (First-next (CalledAtPair g.F.FnMut) (TakesPair g.F.FnMut) m some) c.retain_at.ensures.retained
-    c.next-next.ensures.next c.next-next.ensures.apart
+    (AtHeld-next c.next-next.ensures.next) c.next-next.ensures.apart
 
 pub returns-clause-retained : goal.returns-clause-retained
 returns-clause-retained g c = RetainsHeld-end (CalledAtPair g.F.FnMut) (TakesPair g.F.FnMut)

@@ -1,6 +1,6 @@
-use Rattle.std.proofs.Common.{◌<◌, length, refl, ap, ◌∙◌, arith}
-use Rattle.lhm_ring.proofs.tables.Reversed.{IsReversing-start, reversed-all, next_at, IsHeld-next, IsReversing-more}
-use Rattle.lhm_ring.proofs.tables.Rotated.{IsSome-pointer}
+use Rattle.std.proofs.Common.{refl, ap, ◌∙◌, arith}
+use Rattle.lhm_ring.proofs.tables.Positions.{IsSome-place}
+use Rattle.lhm_ring.proofs.tables.Reversed.{IsReversing-start, reversed-all, IsHeld-next, IsReversing-more}
 use Rattle.lhm_ring.proofs.table.Table.reverse.Goals as goal
 use Rattle.lhm_ring.specs.Pointer.{pointer_of_some}
 
@@ -11,29 +11,20 @@ loop-moved-init g c = record {
 }
 
 pub unwrap-at-requires : goal.unwrap-at-requires
-unwrap-at-requires g c =
-    let hs = c.args.self.now.held in
-    let below : c.loop-moved._moved < length hs = omega (arith, c.loop-moved-test.true, c.len-len.ensures.value) in
-    IsSome-pointer c.loop-moved.next (next_at hs c.loop-moved.invariant.reversing below)
+unwrap-at-requires g c = IsSome-place c.args.self.now.held c.loop-moved.next _
+    (omega (arith, c.loop-moved-test.true, c.len-len.ensures.value)) c.loop-moved.invariant.reversing.at_is
 
 pub next-next-requires : goal.next-next-requires
-next-next-requires g c =
-    let hs = c.args.self.now.held in
-    let below : c.loop-moved._moved < length hs = omega (arith, c.loop-moved-test.true, c.len-len.ensures.value) in
-    IsHeld-next hs c.loop-moved.invariant.reversing below (ap pointer_of_some c.unwrap-at.ensures)
+next-next-requires g c = IsHeld-next c.args.self.now.held c.loop-moved.invariant.reversing (ap pointer_of_some c.unwrap-at.ensures)
 
 pub move_to_front-requires : goal.move_to_front-requires
-move_to_front-requires g c =
-    let hs = c.args.self.now.held in
-    let below : c.loop-moved._moved < length hs = omega (arith, c.loop-moved-test.true, c.len-len.ensures.value) in
-    IsHeld-next hs c.loop-moved.invariant.reversing below (ap pointer_of_some c.unwrap-at.ensures)
+move_to_front-requires g c = IsHeld-next c.args.self.now.held c.loop-moved.invariant.reversing (ap pointer_of_some c.unwrap-at.ensures)
 
 pub loop-moved-preserved : goal.loop-moved-preserved
 loop-moved-preserved g c =
-    let hs = c.args.self.now.held in let inv = c.loop-moved.invariant in let moved = c.move_to_front.ensures in
-    let below : c.loop-moved._moved < length hs = omega (arith, c.loop-moved-test.true, c.len-len.ensures.value) in
-    record {
-      reversing = IsReversing-more hs inv.reversing below (ap pointer_of_some c.unwrap-at.ensures) moved.held c.next-next.ensures.next;
+    let inv = c.loop-moved.invariant in let moved = c.move_to_front.ensures in record {
+      reversing = IsReversing-more c.args.self.now.held inv.reversing (ap pointer_of_some c.unwrap-at.ensures) moved.held
+          c.next-next.ensures.next;
       keeps = record {
         capacity = moved.keeps.capacity ∙ inv.keeps.capacity;
         rechained = moved.keeps.rechained ∙ inv.keeps.rechained;

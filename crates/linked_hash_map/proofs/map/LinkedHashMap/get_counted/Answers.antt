@@ -1,22 +1,23 @@
-use Rattle.std.proofs.Common.{◌≤◌, Some, option_map, refl, sym, ap, ◌∙◌, subst}
+use Rattle.std.proofs.Common.{◌≤◌, option_map, refl, sym, ap, ◌∙◌, subst}
 use Rattle.linked_hash_map.proofs.nodes.LookupCounts.{count_with_hash-spots, count_in_bucket-spots}
-use Rattle.linked_hash_map.proofs.pairs.Indexes.{value_at-index}
+use Rattle.linked_hash_map.proofs.pairs.Indexes.{value_at-slice_get}
 use Rattle.linked_hash_map.proofs.lists.Options.{of-Some, of-None, of-OnSome}
-use Rattle.linked_hash_map.proofs.nodes.FoundKeys.{IsIndex-HasKey}
-use Rattle.linked_hash_map.proofs.nodes.CutNodes.{slice_get-held}
+use Rattle.linked_hash_map.proofs.nodes.FoundKeys.{index_of-HasKey, IsIndex-index_of}
+use Rattle.linked_hash_map.proofs.nodes.CutNodes.{part-at}
 use Rattle.linked_hash_map.proofs.nodes.Kept.{distinct_keys, IsValid-view}
 use Rattle.linked_hash_map.proofs.nodes.AbsentKeys.{hash_by-respects, find-LacksKey}
 use Rattle.linked_hash_map.proofs.map.LinkedHashMap.get_counted.Goals as goal
+use Rattle.lhm_ring.proofs.tables.Positions.{IsAt-index_of}
 
 pub returns-in-Some : goal.returns-in-Some
 returns-in-Some g c =
-    let hs = c.self.inside.table.held in let h = of-Some _ c.in-Some.is c.find-found.ensures.found in let at = h.held in
+    let hs = c.self.inside.table.held in let h = of-Some _ c.in-Some.is c.find-found.ensures.found in
     let counts = of-OnSome c.in-Some.is c.find-found.ensures.counts_found in
     let with_hash = count_with_hash-spots hs c.self.invariant c.args.key.now c.hash_one-hash.ensures in
     let in_bucket = count_in_bucket-spots hs c.self.invariant c.args.key.now c.hash_one-hash.ensures in
     rw (← c.self.view_is) (record {
-      value = ap Some (c.value.ensures at.before at.node at.after at.is at.at_is)
-          ∙ value_at-index g.met.K.Eq.laws (distinct_keys hs c.self.invariant) (IsIndex-HasKey h) (slice_get-held at);
+      value = sym (value_at-slice_get g.met.K.Eq.laws (distinct_keys hs c.self.invariant) (IsIndex-index_of h)
+          ∙ part-at hs _ (IsAt-index_of _ hs (index_of-HasKey h)) (λ pair. pair.1) c.value.ensures);
       valid = IsValid-view c.self.inside refl c.self.invariant;
       compared = tt;
       visited = tt;

@@ -4,7 +4,7 @@ use Rattle.std.specs.Map.Iter.{deref_pair}
 use Rattle.linked_hash_map.specs.Pairs.{from}
 use Rattle.linked_hash_map.proofs.lists.Options.{of-Some}
 use Rattle.linked_hash_map.proofs.nodes.HeldPairs.{keys-bare}
-use Rattle.linked_hash_map.proofs.nodes.NodesFrom.{pairs_from-key_reverse}
+use Rattle.linked_hash_map.proofs.nodes.NodesFrom.{pairs_back_from-key}
 use Rattle.linked_hash_map.proofs.pairs.IteratorLaws.{shows_in_order}
 use Rattle.linked_hash_map.proofs.map.LinkedHashMap.iter_back_from.Goals as goal
 
@@ -16,7 +16,7 @@ returns-clause-pairs g c =
     let hs = c.self.inside.table.held in
     let has = (of-Some _ c.in_ok-found.was c.locate-found.ensures.found).has in
     let distinct = subst (IsDistinct g.K.PartialEq.eq) (keys-bare hs) c.self.invariant.distinct in
-    c.new.ensures ∙ pairs_from-key_reverse g.met.K.Eq.laws (g.met.Q.Equivalent.respects_eq c.args.key) has.held has.key_is distinct
+    c.new.ensures ∙ pairs_back_from-key g.met.K.Eq.laws (g.met.Q.Equivalent.respects_eq c.args.key) has distinct
     ∙ ap (λ m. from g.Q.Equivalent.equivalent (reverse m.pairs) c.args.key) c.self.view_is
 
 pub returns-clause-runs : goal.returns-clause-runs

@@ -16,7 +16,7 @@ returns-clause-pairs g c =
     let hs = c.self.inside.table.held in
     let has = (of-Some _ c.in_ok-found.was c.locate-found.ensures.found).has in
     let distinct = subst (IsDistinct g.K.PartialEq.eq) (keys-bare hs) c.self.invariant.distinct in
-    c.new.ensures ∙ pairs_from-key g.met.K.Eq.laws (g.met.Q.Equivalent.respects_eq c.args.key) has.held has.key_is distinct
+    c.new.ensures ∙ pairs_from-key g.met.K.Eq.laws (g.met.Q.Equivalent.respects_eq c.args.key) has distinct
     ∙ ap (λ m. from g.Q.Equivalent.equivalent m.pairs c.args.key) c.self.view_is
 
 pub returns-clause-runs : goal.returns-clause-runs

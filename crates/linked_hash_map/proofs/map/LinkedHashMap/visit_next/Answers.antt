@@ -1,6 +1,7 @@
 use Rattle.std.proofs.Common.{refl, sym, ap, ◌∙◌, ◌-◌, Some}
 use Rattle.linked_hash_map.specs.Nodes.{visit_of}
-use Rattle.linked_hash_map.proofs.nodes.BookmarkMoves.{Goes, bookmarked_cut, outside_on, kept_on, to_visit_on}
+use Rattle.linked_hash_map.proofs.nodes.CutNodes.{held-at}
+use Rattle.linked_hash_map.proofs.nodes.BookmarkMoves.{Goes, IsAt-bookmark, outside_on, kept_on, to_visit_on}
 use Rattle.linked_hash_map.proofs.map.LinkedHashMap.visit_next.Goals as goal
 use Rattle.lhm_ring.specs.Pointer.{pointer_of, pointer_of_some}
 
@@ -24,8 +25,8 @@ goes g c =
     }
 
 pub bookmark_behind-next-requires : goal.bookmark_behind-next-requires
-bookmark_behind-next-requires g c = (bookmarked_cut c.self.inside.table.held c.self.invariant
-    (sym c.bookmark.ensures ∙ ap pointer_of_some c.in-Some.is)).held
+bookmark_behind-next-requires g c =
+    held-at _ _ (IsAt-bookmark c.self.inside.table.held c.self.invariant (sym c.bookmark.ensures ∙ ap pointer_of_some c.in-Some.is))
 
 pub invariant_of-self : goal.invariant_of-self
 invariant_of-self g c =

@@ -2,19 +2,19 @@ use Rattle.std.proofs.Common.{◌+◌, cond, Some, subst, sym}
 use Rattle.lhm_ring.proofs.tables.Positions.{IsAt-split}
 use Rattle.lhm_ring.specs.Pointer.{pointer_of, pointer_of_some}
 use Rattle.lhm_ring.specs.Positions.{PlaceAt}
-use Rattle.linked_hash_map.proofs.nodes.MovedBeside.{PlaceAt-next, IsHeld-PlaceAt}
+use Rattle.linked_hash_map.proofs.nodes.MovedBeside.{IsHeld-PlaceAt}
 use Rattle.linked_hash_map.proofs.map.beside.place_beside.Goals as goal
 
 pub returns-then-after-clause-place : goal.returns-then-after-clause-place
 returns-then-after-clause-place g c i at =
     subst (λ b. PlaceAt c.args.table.now.held (pointer_of_some c.next.result) (cond b (i + 1) i)) (sym c.if-after.true)
-    (PlaceAt-next i at c.next.ensures.next)
+    (c.next.ensures.next i at)
 
 pub returns-then-after-clause-held : goal.returns-then-after-clause-held
 returns-then-after-clause-held g c =
     let h = c.requires in
     IsHeld-PlaceAt c.args.table.now.held _ c.next.result
-    (PlaceAt-next _ (IsAt-split h.before h.node h.after h.is h.at_is) c.next.ensures.next)
+    (c.next.ensures.next _ (IsAt-split h.before h.node h.after h.is h.at_is))
 
 pub returns-else-after-clause-place : goal.returns-else-after-clause-place
 returns-else-after-clause-place g c i at =

@@ -1,33 +1,30 @@
-use Rattle.std.proofs.Common.{◌≡◌, ap, ap₂, sym, ◌∙◌, arith, length, reverse}
+use Rattle.std.proofs.Common.{ap, sym, ◌∙◌, arith, length}
 use Rattle.lhm_ring.specs.Pointer.{pointer_of_some}
-use Rattle.linked_hash_map.specs.Nodes.{pairs_from}
-use Rattle.linked_hash_map.proofs.nodes.NodesFrom.{IsHeld-some, Lies-step, Lies-unreversed, pairs_from-step, IsHeld-reverse}
-use Rattle.linked_hash_map.proofs.nodes.NodesFrom.{AtHeld-reverse, AtHeld-previous_reverse, IsApart-reverse}
+use Rattle.linked_hash_map.specs.Nodes.{pairs_back_from}
+use Rattle.linked_hash_map.proofs.nodes.CutNodes.{held-at, pair-at}
+use Rattle.linked_hash_map.proofs.nodes.NodesFrom.{IsAt-some, Lies-before, pairs_back_from-step}
 use Rattle.linked_hash_map.proofs.iter.iter_from.IterBackFromIterator.next.Goals as goal
 
 pub previous-self-inside-requires : goal.previous-self-inside-requires
-previous-self-inside-requires g c = IsHeld-some c.self.inside.table.now.held c.in-Some.is c.self.invariant
+previous-self-inside-requires g c = held-at _ _ (IsAt-some c.self.inside.table.now.held c.in-Some.is c.self.invariant)
 
 pub key-requires : goal.key-requires
-key-requires g c = IsHeld-some c.self.inside.table.now.held c.in-Some.is c.self.invariant
+key-requires g c = held-at _ _ (IsAt-some c.self.inside.table.now.held c.in-Some.is c.self.invariant)
 
 pub value-requires : goal.value-requires
-value-requires g c = IsHeld-some c.self.inside.table.now.held c.in-Some.is c.self.invariant
+value-requires g c = held-at _ _ (IsAt-some c.self.inside.table.now.held c.in-Some.is c.self.invariant)
 
 pub invariant_of-self : goal.invariant_of-self
-invariant_of-self g c = Lies-unreversed c.self.inside.table.now.held (pointer_of_some c.previous-self-inside.result)
-    (Lies-step (IsHeld-reverse (IsHeld-some c.self.inside.table.now.held c.in-Some.is c.self.invariant))
-    (AtHeld-previous_reverse c.previous-self-inside.ensures.previous))
+invariant_of-self g c =
+    let hs = c.self.inside.table.now.held in let h = held-at hs _ (IsAt-some hs c.in-Some.is c.self.invariant) in
+    Lies-before hs h.before h.node h.after h.is _ (c.previous-self-inside.ensures.previous h.before h.node h.after h.is h.at_is)
 
 pub returns-in-Some-clause-steps : goal.returns-in-Some-clause-steps
 returns-in-Some-clause-steps g c =
-    let hs = c.self.inside.table.now.held in
-    sym c.self.view_is ∙ (λ i. pairs_from (pointer_of_some (c.in-Some.is i)) (reverse hs))
-    ∙ pairs_from-step (IsHeld-reverse (IsHeld-some c.self.inside.table.now.held c.in-Some.is c.self.invariant))
-    (AtHeld-previous_reverse c.previous-self-inside.ensures.previous)
-    (AtHeld-reverse (λ xs t ys. (c.key.result.now, c.value.result.now) ≡ t.pair)
-    (λ xs t ys is at. ap₂ (λ k v. (k, v)) (c.key.ensures xs t ys is at) (c.value.ensures xs t ys is at)))
-    (IsApart-reverse hs c.previous-self-inside.ensures.apart)
+    let hs = c.self.inside.table.now.held in let at = IsAt-some hs c.in-Some.is c.self.invariant in
+    let previous = c.previous-self-inside.ensures in
+    sym c.self.view_is ∙ (λ i. pairs_back_from (pointer_of_some (c.in-Some.is i)) hs)
+    ∙ pairs_back_from-step hs previous.apart _ at (pair-at hs _ at c.key.ensures c.value.ensures) previous.previous
 
 pub returns-in-Some-clause-goes : goal.returns-in-Some-clause-goes
 returns-in-Some-clause-goes g c =

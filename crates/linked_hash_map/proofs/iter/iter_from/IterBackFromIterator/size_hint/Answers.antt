@@ -1,21 +1,19 @@
-use Rattle.std.proofs.Common.{ap, arith, length, reverse}
-use Rattle.std.proofs.lemmas.List.{length-reverse}
+use Rattle.std.proofs.Common.{ap, arith, length}
 use Rattle.lhm_ring.specs.Pointer.{pointer_of_some}
-use Rattle.linked_hash_map.specs.Nodes.{pairs_from}
-use Rattle.linked_hash_map.proofs.nodes.NodesFrom.{IsHeld-some, IsHeld-reverse, length-pairs_from, length-pairs_from_held}
+use Rattle.linked_hash_map.specs.Nodes.{pairs_back_from}
+use Rattle.linked_hash_map.proofs.nodes.NodesFrom.{IsAt-some, length-pairs_back_from, some-pairs_back_from}
 use Rattle.linked_hash_map.proofs.iter.iter_from.IterBackFromIterator.size_hint.Goals as goal
 
 pub returns-in-Some-clause-lower : goal.returns-in-Some-clause-lower
 returns-in-Some-clause-lower g c _ =
     let hs = c.self.inside.table.now.held in
-    let some = length-pairs_from_held (IsHeld-reverse (IsHeld-some hs c.in-Some.is c.self.invariant)) in
-    let there = ap (λ o. length (pairs_from (pointer_of_some o) (reverse hs))) c.in-Some.is in
+    let some = some-pairs_back_from hs (IsAt-some hs c.in-Some.is c.self.invariant) in
+    let there = ap (λ o. length (pairs_back_from (pointer_of_some o) hs)) c.in-Some.is in
     let same = ap length c.self.view_is in
     omega (arith, some, there, same)
 
 pub returns-in-Some-clause-upper : goal.returns-in-Some-clause-upper
 returns-in-Some-clause-upper g c =
-    let hs = c.self.inside.table.now.held in
-    let few = length-pairs_from (pointer_of_some c.self.inside.next) (reverse hs) in
+    let few = length-pairs_back_from (pointer_of_some c.self.inside.next) c.self.inside.table.now.held in
     let same = ap length c.self.view_is in
-    (tt, omega (arith, few, same, length-reverse hs, c.len.ensures.value))
+    (tt, omega (arith, few, same, c.len.ensures.value))

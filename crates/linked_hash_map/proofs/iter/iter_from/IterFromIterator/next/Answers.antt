@@ -1,26 +1,29 @@
-use Rattle.std.proofs.Common.{ap, ap₂, sym, ◌∙◌, arith, length}
+use Rattle.std.proofs.Common.{ap, sym, ◌∙◌, arith, length}
 use Rattle.lhm_ring.specs.Pointer.{pointer_of_some}
 use Rattle.linked_hash_map.specs.Nodes.{pairs_from}
-use Rattle.linked_hash_map.proofs.nodes.NodesFrom.{IsHeld-some, Lies-step, pairs_from-step}
+use Rattle.linked_hash_map.proofs.nodes.CutNodes.{held-at, pair-at}
+use Rattle.linked_hash_map.proofs.nodes.NodesFrom.{IsAt-some, Lies-place, pairs_from-step}
 use Rattle.linked_hash_map.proofs.iter.iter_from.IterFromIterator.next.Goals as goal
 
 pub next-self-inside-requires : goal.next-self-inside-requires
-next-self-inside-requires g c = IsHeld-some c.self.inside.table.now.held c.in-Some.is c.self.invariant
+next-self-inside-requires g c = held-at _ _ (IsAt-some c.self.inside.table.now.held c.in-Some.is c.self.invariant)
 
 pub key-requires : goal.key-requires
-key-requires g c = IsHeld-some c.self.inside.table.now.held c.in-Some.is c.self.invariant
+key-requires g c = held-at _ _ (IsAt-some c.self.inside.table.now.held c.in-Some.is c.self.invariant)
 
 pub value-requires : goal.value-requires
-value-requires g c = IsHeld-some c.self.inside.table.now.held c.in-Some.is c.self.invariant
+value-requires g c = held-at _ _ (IsAt-some c.self.inside.table.now.held c.in-Some.is c.self.invariant)
 
 pub invariant_of-self : goal.invariant_of-self
-invariant_of-self g c = Lies-step (IsHeld-some c.self.inside.table.now.held c.in-Some.is c.self.invariant) c.next-self-inside.ensures.next
+invariant_of-self g c =
+    let hs = c.self.inside.table.now.held in
+    Lies-place hs _ _ (c.next-self-inside.ensures.next _ (IsAt-some hs c.in-Some.is c.self.invariant))
 
 pub returns-in-Some-clause-steps : goal.returns-in-Some-clause-steps
 returns-in-Some-clause-steps g c =
-    sym c.self.view_is ∙ (λ i. pairs_from (pointer_of_some (c.in-Some.is i)) c.self.inside.table.now.held)
-    ∙ pairs_from-step (IsHeld-some c.self.inside.table.now.held c.in-Some.is c.self.invariant) c.next-self-inside.ensures.next
-    (λ xs t ys is at. ap₂ (λ k v. (k, v)) (c.key.ensures xs t ys is at) (c.value.ensures xs t ys is at)) c.next-self-inside.ensures.apart
+    let hs = c.self.inside.table.now.held in let at = IsAt-some hs c.in-Some.is c.self.invariant in let next = c.next-self-inside.ensures in
+    sym c.self.view_is ∙ (λ i. pairs_from (pointer_of_some (c.in-Some.is i)) hs)
+    ∙ pairs_from-step hs next.apart _ (pair-at hs _ at c.key.ensures c.value.ensures) (next.next _ at)
 
 pub returns-in-Some-clause-goes : goal.returns-in-Some-clause-goes
 returns-in-Some-clause-goes g c =

@@ -1,13 +1,13 @@
 use Rattle.std.proofs.Common.{ap, arith, length}
 use Rattle.lhm_ring.specs.Pointer.{pointer_of_some}
 use Rattle.linked_hash_map.specs.Nodes.{pairs_from}
-use Rattle.linked_hash_map.proofs.nodes.NodesFrom.{IsHeld-some, length-pairs_from, length-pairs_from_held}
+use Rattle.linked_hash_map.proofs.nodes.NodesFrom.{IsAt-some, length-pairs_from, some-pairs_from}
 use Rattle.linked_hash_map.proofs.iter.iter_from.IterFromIterator.size_hint.Goals as goal
 
 pub returns-in-Some-clause-lower : goal.returns-in-Some-clause-lower
 returns-in-Some-clause-lower g c _ =
     let hs = c.self.inside.table.now.held in
-    let some = length-pairs_from_held (IsHeld-some hs c.in-Some.is c.self.invariant) in
+    let some = some-pairs_from hs (IsAt-some hs c.in-Some.is c.self.invariant) in
     let there = ap (λ o. length (pairs_from (pointer_of_some o) hs)) c.in-Some.is in
     let same = ap length c.self.view_is in
     omega (arith, some, there, same)
