@@ -9,7 +9,7 @@ use contract.Fact.{fact_i}
 use contract.Monad.{fact}
 use contract.Running.{tables}
 use mir.MapTy.{inst_fn}
-use mir.Syntax.{Args, Dict, Fn, a_type, dcons, dnil, named}
+use mir.Syntax.{Args, Fn, a_type, dcons, dnil, named}
 use mir.Val.{Val, has_ty, WT}
 use lib.Dec.{T}
 use prog.Wp.{WpFn}
@@ -43,11 +43,6 @@ use Rattle.std.specs.Prelude.{false, unwrap_or, Option, Some, None, Result, Ok, 
 use Rattle.std.specs.contracts.option.Option as option
 use Rattle.std.specs.contracts.result.Result as result
 use Rattle.std.specs.HashMap.Lent.{HashMembers}
-use Rattle.std.specs.declared.cmp.Eq as total
-use Rattle.std.specs.declared.cmp.PartialEq as eq
-use Rattle.std.specs.declared.hash.Hash as hash
-use Rattle.std.specs.declared.hash.Hasher as hasher
-use Rattle.std.specs.declared.hash.BuildHasher as builder
 use Rattle.linked_hash_map.specs.Pairs.{last}
 use Rattle.linked_hash_set.specs.Inserts.{inserted}
 use Rattle.linked_hash_set.specs.Items.{contains, find}
@@ -74,32 +69,20 @@ has_last : {X : Type 0} (e o : Option X) (y : X) → IfNone e (o ≡ Some y) →
 has_last None o y said = subst (λ z. IsSome z) (sym said) refl
 has_last (Some k) o y said = tt
 
-module _ (X S H : RattleType) (b₀ : total.Ghosts X.Denot) (d₀ : Dict) (b₁ : eq.Ghosts X.Denot) (d₁ : Dict) (b₂ : hash.Ghosts X.Denot)
-    (d₂ : Dict) (b₃ : builder.Ghosts S.Denot H.Denot) (d₃ : Dict) (b₄ : hasher.Ghosts H.Denot) (d₄ d₅ d₆ : Dict) where
-  abbrev args : Args
-  args = bounded (a_type ∷ a_type ∷ a_type ∷ []) (X, (S, (H, tt)))
-      (dcons d₀ (dcons d₁ (dcons d₂ (dcons d₃ (dcons d₄ (dcons d₅ (dcons d₆ dnil)))))))
-
-  abbrev Set : RattleType
-  Set = set.the_row (param 0 X) (param 1 S) (param 2 H) b₁ b₂ b₃ b₄
-
-  abbrev ended : Ended
-  ended = f.ended X S H b₀ d₀ b₁ d₁ b₂ d₂ b₃ d₃ b₄ d₄ d₅ d₆
-
-  abbrev stayed : Stays ended.signature.params ended.kept
-  stayed = (stay_dropped (mut_ref_to (0 ∷ []) tt (plain (λ _. Set))) no, (stay_dropped (plain (λ _. param 0 X)) no, tt))
-
 pub get_or_insert_spec : {M : Type 1} → statement M
 get_or_insert_spec 𝓤 𝓛 𝓜 𝓡 wired X S H LX LS LH b₀ d₀ b₁ d₁ b₂ d₂ b₃ d₃ b₄ d₄ d₅ d₆ m₀ m₁ m₂ m₃ m₄ m₅ m₆ =
-    let En : Ended = ended X S H b₀ d₀ b₁ d₁ b₂ d₂ b₃ d₃ b₄ d₄ d₅ d₆ in let hs = stayed X S H b₀ d₀ b₁ d₁ b₂ d₂ b₃ d₃ b₄ d₄ d₅ d₆ in
+    let En : Ended = f.ended X S H b₀ d₀ b₁ d₁ b₂ d₂ b₃ d₃ b₄ d₄ d₅ d₆ in let P : RattleType = param 0 X in
+    let Whole : RattleType = set.the_row P (param 1 S) (param 2 H) b₁ b₂ b₃ b₄ in
+    let hs : Stays En.signature.params En.kept =
+    (stay_dropped (mut_ref_to (0 ∷ []) tt (plain (λ _. Whole))) no, (stay_dropped (plain (λ _. P)) no, tt)) in
     let c = f.clauses X S H b₀ d₀ b₁ d₁ b₂ d₂ b₃ d₃ b₄ d₄ d₅ d₆ 𝓛 𝓜.mem 𝓡.returns in
     let W = walk_of 𝓛 En hs c in let 𝓣 = tables 𝓤 𝓛.H 𝓜 𝓡 𝓡.env in
-    let named_args : Args = args X S H b₀ d₀ b₁ d₁ b₂ d₂ b₃ d₃ b₄ d₄ d₅ d₆ in let fn : Fn = inst_fn named_args code.function in
-    let P : RattleType = param 0 X in let Whole : RattleType = Set X S H b₀ d₀ b₁ d₁ b₂ d₂ b₃ d₃ b₄ d₄ d₅ d₆ in
+    let args : Args = bounded (a_type ∷ a_type ∷ a_type ∷ []) (X, (S, (H, tt)))
+    (dcons d₀ (dcons d₁ (dcons d₂ (dcons d₃ (dcons d₄ (dcons d₅ (dcons d₆ dnil))))))) in let fn : Fn = inst_fn args code.function in
     let members : HashMembers X.Denot = record { eq = b₁.eq; hash_input = b₂.hash_input } in
     proved_at 𝓛 En hs c 𝓜 𝓡
     (Goes-spent_ref 𝓛 4 (0 ∷ []) tt (plain (λ _. Whole)), (Goes-dropped 𝓛 4 (plain (λ _. P)) no (λ κs x w. refl), tt))
-    (f.Key.name named_args) fn (code.unfolded 𝓤 𝓛.H 𝓜 𝓡 wired (X, (S, (H, tt))) d₀ d₁ d₂ d₃ d₄ d₅ d₆) (λ y are.
+    (f.Key.name args) fn (code.unfolded 𝓤 𝓛.H 𝓜 𝓡 wired (X, (S, (H, tt))) d₀ d₁ d₂ d₃ d₄ d₅ d₆) (λ y are.
     let κs = y.0.0 in let qs = y.0.1 in let bounds = y.0.2 in let a = y.0.3 in let vss = y.0.4 in
     let κ = κs.0 in let κX = κs.1.0 in let κS = κs.1.1.0 in let κH = κs.1.1.1.0 in
     let q = qs.0 in let qX = qs.1.0 in let qS = qs.1.1.0 in let qH = qs.1.1.1.0 in

@@ -9,7 +9,7 @@ use contract.Fact.{fact_i}
 use contract.Monad.{fact}
 use contract.Running.{tables}
 use mir.MapTy.{inst_fn}
-use mir.Syntax.{Args, Dict, Fn, a_type, dcons, dnil, named}
+use mir.Syntax.{Args, Fn, a_type, dcons, dnil, named}
 use mir.Val.{Val, has_ty, WT}
 use lib.Dec.{T}
 use prog.Wp.{WpFn}
@@ -43,13 +43,6 @@ use Rattle.std.specs.Prelude.{true, false, unwrap_or, Option, Some, None, Result
 use Rattle.std.specs.contracts.option.Option as option
 use Rattle.std.specs.contracts.result.Result as result
 use Rattle.std.specs.HashMap.Lent.{HashMembers}
-use Rattle.std.specs.declared.cmp.Eq as total
-use Rattle.std.specs.declared.cmp.PartialEq as eq
-use Rattle.std.specs.declared.hash.Hash as hash
-use Rattle.std.specs.declared.hash.Hasher as hasher
-use Rattle.std.specs.declared.hash.BuildHasher as builder
-use Rattle.std.specs.declared.clone.Clone as clone
-use Rattle.linked_hash_map.specs.declared.Equivalent as equivalent
 use Rattle.linked_hash_map.specs.Pairs.{last}
 use Rattle.linked_hash_set.specs.Inserts.{RefreshedOrMade}
 use Rattle.linked_hash_set.specs.Items.{contains, find}
@@ -59,7 +52,6 @@ use Rattle.linked_hash_set.specs.declared.error.Refused.{Refused}
 use Rattle.linked_hash_set.specs.contracts.set.LinkedHashSet as set
 use Rattle.linked_hash_set.specs.contracts.error.Refused as refused
 use Rattle.linked_hash_set.specs.contracts.set.LinkedHashSet.get_or_insert_with as f
-use Rattle.linked_hash_set.specs.contracts.set.LinkedHashSet.get_or_insert_with.F-FnOnce as once
 use Rattle.linked_hash_set.specs.contracts.set.LinkedHashSet.put_with as g
 use Rattle.linked_hash_set.specs.contracts.set.LinkedHashSet.back_or as h
 use Rattle.linked_hash_set.proofs.BackOr.{Lone-is, weaker, shared, Found, Kept, Back, ends_as, is_some, is_stored, is_refused, some-inj}
@@ -80,48 +72,28 @@ is_made None (Ok r) new Absent Makes stored said ok =
 is_made (Some k) (Ok r) new Absent Makes stored said ok = search rules
 is_made e (Err r) new Absent Makes stored said ok = tt
 
-module _ (X S H Q F : RattleType) (b₀ : total.Ghosts X.Denot) (d₀ : Dict) (b₁ : eq.Ghosts X.Denot) (d₁ : Dict) (b₂ : hash.Ghosts X.Denot)
-    (d₂ : Dict) (b₃ : builder.Ghosts S.Denot H.Denot) (d₃ : Dict) (b₄ : hasher.Ghosts H.Denot) (d₄ d₅ : Dict)
-    (b₆ : equivalent.Ghosts Q.Denot X.Denot) (d₆ : Dict) (b₇ : clone.Ghosts Q.Denot) (d₇ : Dict) (b₈ : hash.Ghosts Q.Denot) (d₈ : Dict)
-    (b₉ : total.Ghosts Q.Denot) (d₉ : Dict) (b₁₀ : eq.Ghosts Q.Denot) (d₁₀ : Dict) (b₁₁ : once.Ghosts X S H Q F) (d₁₁ d₁₂ d₁₃ : Dict) where
-  abbrev args : Args
-  args = bounded (a_type ∷ a_type ∷ a_type ∷ a_type ∷ a_type ∷ []) (X, (S, (H, (Q, (F, tt)))))
-      (dcons d₀ (dcons d₁ (dcons d₂ (dcons d₃ (dcons d₄ (dcons d₅ (dcons d₆ (dcons d₇ (dcons d₈ (dcons d₉ (dcons d₁₀
-      (dcons d₁₁ (dcons d₁₂ (dcons d₁₃ dnil))))))))))))))
-
-  abbrev Set : RattleType
-  Set = set.the_row (param 0 X) (param 1 S) (param 2 H) b₁ b₂ b₃ b₄
-
-  abbrev ended : Ended
-  ended = f.ended X S H Q F b₀ d₀ b₁ d₁ b₂ d₂ b₃ d₃ b₄ d₄ d₅ b₆ d₆ b₇ d₇ b₈ d₈ b₉ d₉ b₁₀ d₁₀ b₁₁ d₁₁ d₁₂ d₁₃
-
-  abbrev stayed : Stays ended.signature.params ended.kept
-  stayed = (
-    stay_dropped (mut_ref_to (0 ∷ []) tt (plain (λ _. Set))) no,
-    (
-      stay_dropped (plain (λ _. copied 3 Q)) no,
-      (stay_dropped (plain (λ _. param 4 F)) no, tt),
-    ),
-  )
-
 pub get_or_insert_with_spec : {M : Type 1} → statement M
 get_or_insert_with_spec 𝓤 𝓛 𝓜 𝓡 wired X S H Q F LX LS LH LQ LF CQ
     b₀ d₀ b₁ d₁ b₂ d₂ b₃ d₃ b₄ d₄ d₅ b₆ d₆ b₇ d₇ b₈ d₈ b₉ d₉ b₁₀ d₁₀ b₁₁ d₁₁ d₁₂ d₁₃
     m₀ m₁ m₂ m₃ m₄ m₅ m₆ m₇ m₈ m₉ m₁₀ m₁₁ m₁₂ m₁₃ =
-    let En : Ended = ended X S H Q F b₀ d₀ b₁ d₁ b₂ d₂ b₃ d₃ b₄ d₄ d₅ b₆ d₆ b₇ d₇ b₈ d₈ b₉ d₉ b₁₀ d₁₀ b₁₁ d₁₁ d₁₂ d₁₃ in
-    let hs = stayed X S H Q F b₀ d₀ b₁ d₁ b₂ d₂ b₃ d₃ b₄ d₄ d₅ b₆ d₆ b₇ d₇ b₈ d₈ b₉ d₉ b₁₀ d₁₀ b₁₁ d₁₁ d₁₂ d₁₃ in
+    let En : Ended = f.ended X S H Q F b₀ d₀ b₁ d₁ b₂ d₂ b₃ d₃ b₄ d₄ d₅ b₆ d₆ b₇ d₇ b₈ d₈ b₉ d₉ b₁₀ d₁₀ b₁₁ d₁₁ d₁₂ d₁₃ in
+    let P : RattleType = param 0 X in let Item : RattleType = copied 3 Q in let Make : RattleType = param 4 F in
+    let Whole : RattleType = set.the_row P (param 1 S) (param 2 H) b₁ b₂ b₃ b₄ in
+    let hs : Stays En.signature.params En.kept = (
+      stay_dropped (mut_ref_to (0 ∷ []) tt (plain (λ _. Whole))) no,
+      (stay_dropped (plain (λ _. Item)) no, (stay_dropped (plain (λ _. Make)) no, tt)),
+    ) in
     let c = f.clauses X S H Q F b₀ d₀ b₁ d₁ b₂ d₂ b₃ d₃ b₄ d₄ d₅ b₆ d₆ b₇ d₇ b₈ d₈ b₉ d₉ b₁₀ d₁₀ b₁₁ d₁₁ d₁₂ d₁₃ 𝓛 𝓜.mem 𝓡.returns in
     let W = walk_of 𝓛 En hs c in let 𝓣 = tables 𝓤 𝓛.H 𝓜 𝓡 𝓡.env in
-    let named_args : Args = args X S H Q F b₀ d₀ b₁ d₁ b₂ d₂ b₃ d₃ b₄ d₄ d₅ b₆ d₆ b₇ d₇ b₈ d₈ b₉ d₉ b₁₀ d₁₀ b₁₁ d₁₁ d₁₂ d₁₃ in
-    let fn : Fn = inst_fn named_args code.function in
-    let P : RattleType = param 0 X in let Item : RattleType = copied 3 Q in let Make : RattleType = param 4 F in
-    let Whole : RattleType = Set X S H Q F b₀ d₀ b₁ d₁ b₂ d₂ b₃ d₃ b₄ d₄ d₅ b₆ d₆ b₇ d₇ b₈ d₈ b₉ d₉ b₁₀ d₁₀ b₁₁ d₁₁ d₁₂ d₁₃ in
+    let args : Args = bounded (a_type ∷ a_type ∷ a_type ∷ a_type ∷ a_type ∷ []) (X, (S, (H, (Q, (F, tt)))))
+    (dcons d₀ (dcons d₁ (dcons d₂ (dcons d₃ (dcons d₄ (dcons d₅ (dcons d₆ (dcons d₇ (dcons d₈ (dcons d₉ (dcons d₁₀
+    (dcons d₁₁ (dcons d₁₂ (dcons d₁₃ dnil)))))))))))))) in let fn : Fn = inst_fn args code.function in
     let members : HashMembers X.Denot = record { eq = b₁.eq; hash_input = b₂.hash_input } in
     proved_at 𝓛 En hs c 𝓜 𝓡 (
       Goes-spent_ref 𝓛 6 (0 ∷ []) tt (plain (λ _. Whole)),
       (Goes-dropped 𝓛 6 (plain (λ _. Item)) no (λ κs x w. refl), (Goes-dropped 𝓛 6 (plain (λ _. Make)) no (λ κs x w. refl), tt)),
     )
-    (f.Key.name named_args) fn (code.unfolded 𝓤 𝓛.H 𝓜 𝓡 wired (X, (S, (H, (Q, (F, tt)))))
+    (f.Key.name args) fn (code.unfolded 𝓤 𝓛.H 𝓜 𝓡 wired (X, (S, (H, (Q, (F, tt)))))
     d₀ d₁ d₂ d₃ d₄ d₅ d₆ d₇ d₈ d₉ d₁₀ d₁₁ d₁₂ d₁₃) (λ y are.
     let κs = y.0.0 in let qs = y.0.1 in let bounds = y.0.2 in let a = y.0.3 in let vss = y.0.4 in
     let κ = κs.0 in let κX = κs.1.0 in let κS = κs.1.1.0 in let κH = κs.1.1.1.0 in
