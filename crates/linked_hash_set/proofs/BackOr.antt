@@ -89,6 +89,10 @@ module _ {M : Type 1} {𝓤 : Ura M} (𝓛 : Logic 𝓤) (R : RattleType) (κ : 
 pub some-inj : {X : Type 0} {x y : X} → Some x ≡ Some y → x ≡ y
 some-inj {x = x} e = ap (λ o. unwrap_or o x) e
 
+pub at_none : {X P : Type 0} (e : Option X) → IfNone e P → e ≡ None → P
+at_none None said is = said
+at_none (Some k) said is = search rules
+
 -- what `back_or` says of its result
 abbrev pub Kept : {X : Type 0} → Option X → Result (Bor X) (Refused X) → Type 0
 Kept e x = IfErr x (λ error. e ≡ Some error.item)
@@ -102,10 +106,6 @@ module _ {X S : Type 0} (e : Option X) where
   Back old new Is Absent = IfSome e (λ r. Is r × (new ≡ old) × Absent × (length old.items ≡ old.capacity))
 
 module _ {X S : Type 0} where
-  pub is_some : (e : Option X) (new : LinkedSet X S) → IfNone e (IsSome (last new.items)) → e ≡ None → IsSome (last new.items)
-  is_some None new said is = said
-  is_some (Some k) new said is = search rules
-
   pub is_stored : (P : Option X → Type 0) (e : Option X) (x : Result (Bor X) (Refused X)) (new : LinkedSet X S)
       → IfNone e (P (last new.items)) → Found e x new → IfOk x (λ stored. P (Some stored.now))
   is_stored P None (Ok r) new said ok = subst P ok.1 said

@@ -36,6 +36,7 @@ use denote.Triple.Spec.{triple_of}
 use denote.Triple.Table.{framed}
 use denote.Triple.Walked.{Stays, walk_of, stay_dropped, Goes-dropped, Goes-spent_ref, ends_at}
 use Rattle.std.proofs.Common.{◌≡◌, List, [], ◌∷◌, refl, sym, ap}
+use Rattle.std.proofs.lemmas.Result.{IfOk-weaker}
 use Rattle.std.proofs.option.Option.TheLaws.{the_row_laws as option_laws}
 use Rattle.std.proofs.result.Result.TheLaws.{the_row_laws as result_laws}
 use Rattle.std.proofs.raw_atomic.Walks.{proved_at}
@@ -53,21 +54,13 @@ use Rattle.linked_hash_set.specs.contracts.error.Refused as refused
 use Rattle.linked_hash_set.specs.contracts.set.LinkedHashSet.get_or_insert as f
 use Rattle.linked_hash_set.specs.contracts.set.LinkedHashSet.put as g
 use Rattle.linked_hash_set.specs.contracts.set.LinkedHashSet.back_or as h
-use Rattle.linked_hash_set.proofs.BackOr.{Lone-is, weaker, shared, Found, Kept, Back, ends_as, is_some, is_stored, is_refused, some-inj}
+use Rattle.linked_hash_set.proofs.BackOr.{Lone-is, weaker, shared, Found, Kept, Back, ends_as, at_none, is_stored, is_refused, some-inj}
 use Rattle.linked_hash_set.proofs.error.Refused.TheLaws.{the_row_laws as refused_laws}
 use Rattle.linked_hash_set.proofs.set.LinkedHashSet.TheLaws.{the_row_laws as set_laws, the_within as set_within}
 use Rattle.linked_hash_set.proofs.set.LinkedHashSet.put.Met as put
 use Rattle.linked_hash_set.proofs.set.LinkedHashSet.back_or.Met as back_or
 use Rattle.linked_hash_set.proofs.set.LinkedHashSet.get_or_insert.Statement.{statement}
 use Rattle.linked_hash_set.proofs.set.LinkedHashSet.get_or_insert.Code as code
-
-is_value : {X : Type 0} (x : Result (Bor X) (Refused X)) (y : X) → IfOk x (λ r. Some r.now ≡ Some y) → IfOk x (λ r. r.now ≡ y)
-is_value (Ok r) y said = some-inj said
-is_value (Err r) y said = tt
-
-has_last : {X : Type 0} (e o : Option X) (y : X) → IfNone e (o ≡ Some y) → IfNone e (IsSome o)
-has_last None o y said = subst (λ z. IsSome z) (sym said) refl
-has_last (Some k) o y said = tt
 
 pub get_or_insert_spec : {M : Type 1} → statement M
 get_or_insert_spec 𝓤 𝓛 𝓜 𝓡 wired X S H LX LS LH b₀ d₀ b₁ d₁ b₂ d₂ b₃ d₃ b₄ d₄ d₅ d₆ m₀ m₁ m₂ m₃ m₄ m₅ m₆ =
@@ -144,7 +137,8 @@ get_or_insert_spec 𝓤 𝓛 𝓜 𝓡 wired X S H LX LS LH b₀ d₀ b₁ d₁ 
     let N = triple_of 𝓛 (h.ended X S H b₀ d₀ b₁ d₁ b₂ d₂ b₃ d₃ b₄ d₄ d₅).signature
     (h.spec X S H b₀ d₀ b₁ d₁ b₂ d₂ b₃ d₃ b₄ d₄ d₅ 𝓛 𝓜.mem 𝓡.returns) in
     let z₂ : N.Ghost = ((κs, qs, bounds, (at-n, (e, tt)), (vs, (v ∷ [], tt))), tt) in
-    use0 𝓛 (raw (fact 𝓤 (e ≡ None → IsSome (last n.items)))) (fact_i 𝓤 _ (emp 𝓤) (is_some e n (has_last e (last n.items) stored said))) $
+    use0 𝓛 (raw (fact 𝓤 (e ≡ None → IsSome (last n.items)))) (fact_i 𝓤 _ (emp 𝓤) (λ none.
+    subst (λ o. IsSome o) (sym (at_none e said none)) refl)) $
     use0 𝓛 (raw (fact 𝓤 h-lives)) (fact_i 𝓤 h-lives (emp 𝓤) h-within) $ join ! $
     use0 𝓛 (raw (fact 𝓤 s-lives)) (fact_i 𝓤 s-lives (emp 𝓤) s-within) $ join ! $
     use0 𝓛 (raw (fact 𝓤 x-lives)) (fact_i 𝓤 x-lives (emp 𝓤) x-within) $ join ! $
@@ -173,7 +167,7 @@ get_or_insert_spec 𝓤 𝓛 𝓜 𝓡 wired X S H LX LS LH b₀ d₀ b₁ d₁ 
     nothing ! $ nothing ! $ fjoin ! $ nothing ! $ fjoin ! $ keep ! (3 ∷ 0 ∷ 2 ∷ 1 ∷ []) $ group ! 3 $ frame ! $ frame ! $
     let kept = is_refused e x s.now n Same Absent back err in
     use0 𝓛 (raw (fact 𝓤 (IfOk x (λ r. r.now ≡ stored)))) (fact_i 𝓤 _ (emp 𝓤)
-    (is_value x stored (is_stored (λ o. o ≡ Some stored) e x n said ok))) $ frame ! $
+    (IfOk-weaker x _ _ (λ r. some-inj) (is_stored (λ o. o ≡ Some stored) e x n said ok))) $ frame ! $
     use0 𝓛 (raw (fact 𝓤 (IfErr x (λ refused. Same refused.item)))) (fact_i 𝓤 _ (emp 𝓤) kept.0) $ frame ! $
     use0 𝓛 (raw (fact 𝓤 (OnErr x Absent))) (fact_i 𝓤 _ (emp 𝓤) kept.1) $ frame ! $ by ! (fact_i 𝓤 _ _ kept.2)))))))))))))))))) in
     subst (λ (us : List Val). Goes us vss.1.0) (sym at) (subst (Goes vs) (sym is) walk))

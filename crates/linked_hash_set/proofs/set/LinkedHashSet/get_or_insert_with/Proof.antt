@@ -54,7 +54,7 @@ use Rattle.linked_hash_set.specs.contracts.error.Refused as refused
 use Rattle.linked_hash_set.specs.contracts.set.LinkedHashSet.get_or_insert_with as f
 use Rattle.linked_hash_set.specs.contracts.set.LinkedHashSet.put_with as g
 use Rattle.linked_hash_set.specs.contracts.set.LinkedHashSet.back_or as h
-use Rattle.linked_hash_set.proofs.BackOr.{Lone-is, weaker, shared, Found, Kept, Back, ends_as, is_some, is_stored, is_refused, some-inj}
+use Rattle.linked_hash_set.proofs.BackOr.{Lone-is, weaker, shared, Found, Kept, Back, ends_as, at_none, is_stored, is_refused, some-inj}
 use Rattle.linked_hash_set.proofs.error.Refused.TheLaws.{the_row_laws as refused_laws}
 use Rattle.linked_hash_set.proofs.set.LinkedHashSet.TheLaws.{the_row_laws as set_laws, the_within as set_within}
 use Rattle.linked_hash_set.proofs.set.LinkedHashSet.put_with.Met as put_with
@@ -183,7 +183,7 @@ get_or_insert_with_spec 𝓤 𝓛 𝓜 𝓡 wired X S H Q F LX LS LH LQ LF CQ
       ),
       tt,
     ) in
-    use0 𝓛 (raw (fact 𝓤 (e ≡ None → IsSome (last n.items)))) (fact_i 𝓤 _ (emp 𝓤) (is_some e n some_last)) $
+    use0 𝓛 (raw (fact 𝓤 (e ≡ None → IsSome (last n.items)))) (fact_i 𝓤 _ (emp 𝓤) (at_none e some_last)) $
     use0 𝓛 (raw (fact 𝓤 h-lives)) (fact_i 𝓤 h-lives (emp 𝓤) h-within) $ join ! $
     use0 𝓛 (raw (fact 𝓤 s-lives)) (fact_i 𝓤 s-lives (emp 𝓤) s-within) $ join ! $
     use0 𝓛 (raw (fact 𝓤 x-lives)) (fact_i 𝓤 x-lives (emp 𝓤) x-within) $ join ! $
