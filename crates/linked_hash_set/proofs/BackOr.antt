@@ -26,9 +26,9 @@ use denote.Ref.{Bor, ShrRef}
 use denote.Shares.{Shares}
 use denote.Steps.{only}
 use denote.Struct.Members.{Lone}
-use Rattle.std.proofs.Common.{◌≡◌, ◌∙◌, refl, sym, ap, rules}
+use Rattle.std.proofs.Common.{◌≡◌, refl, sym, ap, rules}
 use Rattle.std.specs.Prelude.{⊤, unwrap_or, OnErr, Option, Some, None, Result}
-use Rattle.std.specs.Prelude.{Ok, Err, IfSome, IfNone, IfOk, IfErr, IsSome, MatchResult, length}
+use Rattle.std.specs.Prelude.{Ok, Err, IfSome, IfNone, IfOk, IfErr, MatchResult, length}
 use Rattle.linked_hash_map.specs.Pairs.{last}
 use Rattle.linked_hash_set.specs.LinkedSet.{LinkedSet}
 use Rattle.linked_hash_set.specs.declared.error.Refused.{Refused}

@@ -2,7 +2,7 @@
 -- checker proves no loan whose result may own memory.
 use mathlib.Core.Path.{subst}
 use mathlib.Core.List.{◌++◌}
-use base.Fml.{Incl-trans, Lft, ftrue, flft, fres}
+use base.Fml.{Incl-trans, ftrue, flft, fres}
 use base.Logic.{ent, emp, id⊢}
 use contract.BorrowLft.{◌⊑◌, meet_⊑_left, meet_⊑_right}
 use contract.Fact.{fact_i}
@@ -35,12 +35,12 @@ use denote.Triple.Entry.{on_entry}
 use denote.Triple.Spec.{triple_of}
 use denote.Triple.Table.{framed}
 use denote.Triple.Walked.{Stays, walk_of, stay_dropped, Goes-dropped, Goes-spent_ref, ends_at}
-use Rattle.std.proofs.Common.{◌≡◌, List, [], ◌∷◌, refl, sym, ap}
+use Rattle.std.proofs.Common.{◌≡◌, List, [], ◌∷◌, refl, sym}
 use Rattle.std.proofs.lemmas.Result.{IfOk-weaker}
 use Rattle.std.proofs.option.Option.TheLaws.{the_row_laws as option_laws}
 use Rattle.std.proofs.result.Result.TheLaws.{the_row_laws as result_laws}
 use Rattle.std.proofs.raw_atomic.Walks.{proved_at}
-use Rattle.std.specs.Prelude.{false, unwrap_or, Option, Some, None, Result, Ok, Err, OnErr, IfNone, IfOk, IfErr, IsSome, MatchResult}
+use Rattle.std.specs.Prelude.{false, unwrap_or, Some, None, OnErr, IfNone, IfOk, IfErr, IsSome, MatchResult}
 use Rattle.std.specs.contracts.option.Option as option
 use Rattle.std.specs.contracts.result.Result as result
 use Rattle.std.specs.HashMap.Lent.{HashMembers}
@@ -48,7 +48,6 @@ use Rattle.linked_hash_map.specs.Pairs.{last}
 use Rattle.linked_hash_set.specs.Inserts.{inserted}
 use Rattle.linked_hash_set.specs.Items.{contains, find}
 use Rattle.linked_hash_set.specs.Lends.{ends_inserted}
-use Rattle.linked_hash_set.specs.declared.error.Refused.{Refused}
 use Rattle.linked_hash_set.specs.contracts.set.LinkedHashSet as set
 use Rattle.linked_hash_set.specs.contracts.error.Refused as refused
 use Rattle.linked_hash_set.specs.contracts.set.LinkedHashSet.get_or_insert as f

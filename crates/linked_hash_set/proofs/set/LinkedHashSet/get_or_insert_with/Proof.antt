@@ -2,7 +2,7 @@
 -- borrow checker proves no loan whose result may own memory.
 use mathlib.Core.Path.{subst}
 use mathlib.Core.List.{◌++◌}
-use base.Fml.{Incl-trans, Lft, ftrue, flft, fres}
+use base.Fml.{Incl-trans, ftrue, flft, fres}
 use base.Logic.{ent, emp, id⊢}
 use contract.BorrowLft.{◌⊑◌, meet_⊑_left, meet_⊑_right}
 use contract.Fact.{fact_i}

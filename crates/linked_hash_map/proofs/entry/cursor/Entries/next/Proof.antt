@@ -4,7 +4,7 @@
 use mathlib.Core.Option as maybe
 use mathlib.Core.Path.{subst}
 use seplogic.Ra.Ura.{Ura}
-use base.Fml.{Fml, Lft, GName, ftrue, flft}
+use base.Fml.{GName, ftrue, flft}
 use base.Logic.{ent, sep, emp, fst∗, id⊢}
 use contract.BorrowLft.{◌⊑◌}
 use contract.Lifetimes.{Lfts}
@@ -34,7 +34,7 @@ use denote.Triple.Entry.{on_entry}
 use denote.Triple.Spec.{triple_of}
 use denote.Triple.Table.{framed}
 use denote.Triple.Walked.{Stays, says, stay_dropped, Goes-spent_ref, ends_at}
-use Rattle.std.proofs.Common.{◌≡◌, [], ◌∷◌, refl, sym, ap, MutBor, rules}
+use Rattle.std.proofs.Common.{◌≡◌, [], ◌∷◌, refl, sym, ap, rules}
 use Rattle.std.proofs.option.Option.TheLaws.{the_row_laws as option_laws}
 use Rattle.std.proofs.raw_atomic.Walks.{proved}
 use Rattle.std.specs.Borrow.{name_if_some}
@@ -53,7 +53,6 @@ use Rattle.linked_hash_map.specs.Pairs.{value_at}
 use Rattle.linked_hash_map.specs.Entry.{occupied_map, occupied_key, occupied_value}
 use Rattle.linked_hash_map.specs.CursorLends.{lends_map, lends_next_entry, with_cursor_map}
 use Rattle.linked_hash_map.specs.declared.entry.OccupiedEntry.{OccupiedEntry}
-use Rattle.linked_hash_map.specs.declared.entry.cursor.Entries.{Entries}
 use Rattle.linked_hash_map.specs.contracts.map.LinkedHashMap as map
 use Rattle.linked_hash_map.specs.contracts.entry.OccupiedEntry as entry
 use Rattle.linked_hash_map.specs.contracts.entry.cursor.Entries as cursor
