@@ -91,8 +91,8 @@ get_or_insert_spec 𝓤 𝓛 𝓜 𝓡 wired X S H LX LS LH b₀ d₀ b₁ d₁ 
     let Now = λ (last : Whole.Denot). last ≡ inserted b₁.eq s.now item in let Same = λ (r : X.Denot). r ≡ item in
     let Absent : Type 0 = contains b₁.eq s.now.items item ≡ false in
     let x-lives = κX ⊑ X.lives in let s-lives = κS ⊑ S.lives in let h-lives = κH ⊑ H.lives in
-    let G = triple_of 𝓛 (g.ended X S H b₀ d₀ b₁ d₁ b₂ d₂ b₃ d₃ b₄ d₄ d₅ d₆).signature
-    (g.spec X S H b₀ d₀ b₁ d₁ b₂ d₂ b₃ d₃ b₄ d₄ d₅ d₆ 𝓛 𝓜.mem 𝓡.returns) in
+    let Put : Ended = g.ended X S H b₀ d₀ b₁ d₁ b₂ d₂ b₃ d₃ b₄ d₄ d₅ d₆ in
+    let G = triple_of 𝓛 Put.signature (g.spec X S H b₀ d₀ b₁ d₁ b₂ d₂ b₃ d₃ b₄ d₄ d₅ d₆ 𝓛 𝓜.mem 𝓡.returns) in
     let z : G.Ghost = ((κs, qs, bounds, a, (vs, (u ∷ [], tt))), tt) in
     let walk : Goes vs (u ∷ []) =
     qed 𝓛 (raw (on_entry 𝓛 En.signature κs qs a (vs, (u ∷ [], tt)))
@@ -110,8 +110,7 @@ get_or_insert_spec 𝓤 𝓛 𝓜 𝓡 wired X S H LX LS LH b₀ d₀ b₁ d₁ 
     let Handed : RattleType = option.the_row P in
     use1 𝓛 (later (some (λ (e : Handed.Denot).
     ((‵ (flft κ q) ⊛ ‵ (flft κX qX) ⊛ ‵ (flft κS qS) ⊛ ‵ (flft κH qH) ⊛ ‵ ftrue) ⊛ ‵ (Handed.own_val e (v ∷ []))) ⊛
-    some (λ (ws : Lasts (g.ended X S H b₀ d₀ b₁ d₁ b₂ d₂ b₃ d₃ b₄ d₄ d₅ d₆) z.0.0 z.0.3).
-    ‵ (lasts (g.ended X S H b₀ d₀ b₁ d₁ b₂ d₂ b₃ d₃ b₄ d₄ d₅ d₆) z.0.0 z.0.3 ws)
+    some (λ (ws : Lasts Put z.0.0 z.0.3). ‵ (lasts Put z.0.0 z.0.3 ws)
     ⊛ (raw (fact 𝓤 (IfNone e (Now ws.0))) ⊛ raw (fact 𝓤 (IfNone e (last ws.0.items ≡ Some stored)))
     ⊛ raw (fact 𝓤 (Back e s.now ws.0 Same Absent))))))) (id⊢ 𝓤 _) $
     await ! tt $ pick ! (λ e. split ! $ split ! $ move ! (1 ∷ []) $ peeks ! Handed (Is Handed) (shows 𝓛 Handed) e (v ∷ []) (λ e-is.
@@ -133,8 +132,8 @@ get_or_insert_spec 𝓤 𝓛 𝓜 𝓡 wired X S H LX LS LH b₀ d₀ b₁ d₁ 
     -- [the tokens of κ and of κH; its final value; the shared reference; the last tokens; those of κS and of κX; ..; the item]
     move ! (1 ∷ 4 ∷ []) $ join ! $ move ! (4 ∷ 0 ∷ []) $ join ! $ move ! (4 ∷ 0 ∷ []) $ join ! $ move ! (1 ∷ 0 ∷ []) $ join ! $
     nothing ! $ move ! (5 ∷ 0 ∷ []) $ join ! $ move ! (3 ∷ 0 ∷ []) $ join ! $ move ! (1 ∷ 0 ∷ []) $ join ! $
-    let N = triple_of 𝓛 (h.ended X S H b₀ d₀ b₁ d₁ b₂ d₂ b₃ d₃ b₄ d₄ d₅).signature
-    (h.spec X S H b₀ d₀ b₁ d₁ b₂ d₂ b₃ d₃ b₄ d₄ d₅ 𝓛 𝓜.mem 𝓡.returns) in
+    let BackOr : Ended = h.ended X S H b₀ d₀ b₁ d₁ b₂ d₂ b₃ d₃ b₄ d₄ d₅ in
+    let N = triple_of 𝓛 BackOr.signature (h.spec X S H b₀ d₀ b₁ d₁ b₂ d₂ b₃ d₃ b₄ d₄ d₅ 𝓛 𝓜.mem 𝓡.returns) in
     let z₂ : N.Ghost = ((κs, qs, bounds, (at-n, (e, tt)), (vs, (v ∷ [], tt))), tt) in
     use0 𝓛 (raw (fact 𝓤 (e ≡ None → IsSome (last n.items)))) (fact_i 𝓤 _ (emp 𝓤) (λ none.
     subst (λ o. IsSome o) (sym (at_none e said none)) refl)) $
@@ -151,8 +150,7 @@ get_or_insert_spec 𝓤 𝓛 𝓜 𝓡 wired X S H LX LS LH b₀ d₀ b₁ d₁ 
     (shr_ref_copy at-κ P tt (param_laws 0 X LX).shr_laws)) in
     let Tokens = ‵ (flft κ q) ⊛ ‵ (flft κX qX) ⊛ ‵ (flft κS qS) ⊛ ‵ (flft κH qH) ⊛ ‵ ftrue in
     use1 𝓛 (later (some (λ (x : Out.Denot). (Tokens ⊛ ‵ (Out.own_val x (t ∷ []))) ⊛
-    some (λ (ws₂ : Lasts (h.ended X S H b₀ d₀ b₁ d₁ b₂ d₂ b₃ d₃ b₄ d₄ d₅) κs (at-n, (e, tt))).
-    ‵ (lasts (h.ended X S H b₀ d₀ b₁ d₁ b₂ d₂ b₃ d₃ b₄ d₄ d₅) κs (at-n, (e, tt)) ws₂)
+    some (λ (ws₂ : Lasts BackOr z₂.0.0 z₂.0.3). ‵ (lasts BackOr z₂.0.0 z₂.0.3 ws₂)
     ⊛ (raw (fact 𝓤 (Found e x n)) ⊛ raw (fact 𝓤 (Kept e x))))))) (id⊢ 𝓤 _) $
     await ! tt $ pick ! (λ x. split ! $ split ! $ move ! (1 ∷ []) $ peeks ! Out (Is Out) (shows 𝓛 Out) x (t ∷ []) (λ x-is.
     lands_as ! refl refl (((result_laws One (refused.the_row P) one-laws (refused_laws P (param_laws 0 X LX))).lawful 𝓛).typed x (t

@@ -119,8 +119,9 @@ get_or_insert_with_spec 𝓤 𝓛 𝓜 𝓡 wired X S H Q F LX LS LH LQ LF CQ
     let Now = RefreshedOrMade eqv b₁.eq Makes item s.now in
     let x-lives = κX ⊑ X.lives in let s-lives = κS ⊑ S.lives in let h-lives = κH ⊑ H.lives in
     let q-lives = κQ ⊑ Q.lives in let f-lives = κF ⊑ F.lives in
-    let G = triple_of 𝓛 (g.ended X S H Q F b₀ d₀ b₁ d₁ b₂ d₂ b₃ d₃ b₄ d₄ d₅ b₆ d₆ b₇ d₇ b₈ d₈ b₉ d₉ b₁₀ d₁₀ b₁₁ d₁₁ d₁₂ d₁₃).signature
-    (g.spec X S H Q F b₀ d₀ b₁ d₁ b₂ d₂ b₃ d₃ b₄ d₄ d₅ b₆ d₆ b₇ d₇ b₈ d₈ b₉ d₉ b₁₀ d₁₀ b₁₁ d₁₁ d₁₂ d₁₃ 𝓛 𝓜.mem 𝓡.returns) in
+    let Put : Ended = g.ended X S H Q F b₀ d₀ b₁ d₁ b₂ d₂ b₃ d₃ b₄ d₄ d₅ b₆ d₆ b₇ d₇ b₈ d₈ b₉ d₉ b₁₀ d₁₀ b₁₁ d₁₁ d₁₂ d₁₃ in
+    let G = triple_of 𝓛 Put.signature (g.spec X S H Q F b₀ d₀ b₁ d₁ b₂ d₂ b₃ d₃ b₄ d₄ d₅ b₆ d₆ b₇ d₇ b₈ d₈ b₉ d₉ b₁₀ d₁₀ b₁₁ d₁₁ d₁₂ d₁₃
+    𝓛 𝓜.mem 𝓡.returns) in
     let z : G.Ghost = ((κs, qs, bounds, a, (vs, (u ∷ [], (t₀ ∷ [], tt)))), tt) in
     let walk : Goes vs (u ∷ []) (t₀ ∷ []) =
     qed 𝓛 (raw (on_entry 𝓛 En.signature κs qs a (vs, (u ∷ [], (t₀ ∷ [], tt))))
@@ -145,8 +146,7 @@ get_or_insert_with_spec 𝓤 𝓛 𝓜 𝓡 wired X S H Q F LX LS LH LQ LF CQ
     use1 𝓛 (later (some (λ (e : Handed.Denot).
     ((‵ (flft κ q) ⊛ ‵ (flft κX qX) ⊛ ‵ (flft κS qS) ⊛ ‵ (flft κH qH) ⊛ ‵ (flft κQ qQ) ⊛ ‵ (flft κF qF) ⊛ ‵ ftrue)
     ⊛ ‵ (Handed.own_val e (v ∷ []))) ⊛
-    some (λ (ws : Lasts (g.ended X S H Q F b₀ d₀ b₁ d₁ b₂ d₂ b₃ d₃ b₄ d₄ d₅ b₆ d₆ b₇ d₇ b₈ d₈ b₉ d₉ b₁₀ d₁₀ b₁₁ d₁₁ d₁₂ d₁₃) z.0.0 z.0.3).
-    ‵ (lasts (g.ended X S H Q F b₀ d₀ b₁ d₁ b₂ d₂ b₃ d₃ b₄ d₄ d₅ b₆ d₆ b₇ d₇ b₈ d₈ b₉ d₉ b₁₀ d₁₀ b₁₁ d₁₁ d₁₂ d₁₃) z.0.0 z.0.3 ws)
+    some (λ (ws : Lasts Put z.0.0 z.0.3). ‵ (lasts Put z.0.0 z.0.3 ws)
     ⊛ (raw (fact 𝓤 (IfNone e (Now ws.0))) ⊛ raw (fact 𝓤 (IfNone e (IsSome (last ws.0.items))))
     ⊛ raw (fact 𝓤 (IfNone e (Present → find eqv s.now.items item ≡ last ws.0.items)))
     ⊛ raw (fact 𝓤 (IfNone e (Absent → (made : X.Denot) × Makes made × (last ws.0.items ≡ Some (stored made)))))
@@ -171,8 +171,8 @@ get_or_insert_with_spec 𝓤 𝓛 𝓜 𝓡 wired X S H Q F LX LS LH LQ LF CQ
     -- [the tokens of κ and of κH; its final value; the shared reference; the tokens of κQ and κF; those of κS and of κX; ..; the item]
     nothing ! $ move ! (2 ∷ 0 ∷ []) $ join ! $ move ! (5 ∷ 0 ∷ []) $ join ! $ move ! (5 ∷ 0 ∷ []) $ join ! $ move ! (1 ∷ 0 ∷ []) $ join ! $
     nothing ! $ move ! (6 ∷ 0 ∷ []) $ join ! $ move ! (3 ∷ 0 ∷ []) $ join ! $ move ! (1 ∷ 0 ∷ []) $ join ! $
-    let N = triple_of 𝓛 (h.ended X S H b₀ d₀ b₁ d₁ b₂ d₂ b₃ d₃ b₄ d₄ d₅).signature
-    (h.spec X S H b₀ d₀ b₁ d₁ b₂ d₂ b₃ d₃ b₄ d₄ d₅ 𝓛 𝓜.mem 𝓡.returns) in
+    let BackOr : Ended = h.ended X S H b₀ d₀ b₁ d₁ b₂ d₂ b₃ d₃ b₄ d₄ d₅ in
+    let N = triple_of 𝓛 BackOr.signature (h.spec X S H b₀ d₀ b₁ d₁ b₂ d₂ b₃ d₃ b₄ d₄ d₅ 𝓛 𝓜.mem 𝓡.returns) in
     let z₂ : N.Ghost = (
       (
         (κ, (κX, (κS, (κH, tt)))),
@@ -197,8 +197,7 @@ get_or_insert_with_spec 𝓤 𝓛 𝓜 𝓡 wired X S H Q F LX LS LH LQ LF CQ
     (shr_ref_copy at-κ P tt (param_laws 0 X LX).shr_laws)) in
     let Tokens = ‵ (flft κ q) ⊛ ‵ (flft κX qX) ⊛ ‵ (flft κS qS) ⊛ ‵ (flft κH qH) ⊛ ‵ ftrue in
     use1 𝓛 (later (some (λ (x : Out.Denot). (Tokens ⊛ ‵ (Out.own_val x (t ∷ []))) ⊛
-    some (λ (ws₂ : Lasts (h.ended X S H b₀ d₀ b₁ d₁ b₂ d₂ b₃ d₃ b₄ d₄ d₅) z₂.0.0 z₂.0.3).
-    ‵ (lasts (h.ended X S H b₀ d₀ b₁ d₁ b₂ d₂ b₃ d₃ b₄ d₄ d₅) z₂.0.0 z₂.0.3 ws₂)
+    some (λ (ws₂ : Lasts BackOr z₂.0.0 z₂.0.3). ‵ (lasts BackOr z₂.0.0 z₂.0.3 ws₂)
     ⊛ (raw (fact 𝓤 (Found e x n)) ⊛ raw (fact 𝓤 (Kept e x))))))) (id⊢ 𝓤 _) $
     await ! tt $ pick ! (λ x. split ! $ split ! $ move ! (1 ∷ []) $ peeks ! Out (Is Out) (shows 𝓛 Out) x (t ∷ []) (λ x-is.
     lands_as ! refl refl (((result_laws One (refused.the_row P) one-laws (refused_laws P (param_laws 0 X LX))).lawful 𝓛).typed x (t
@@ -211,7 +210,8 @@ get_or_insert_with_spec 𝓤 𝓛 𝓜 𝓡 wired X S H Q F LX LS LH LQ LF CQ
     move ! (0 ∷ 7 ∷ []) $ join ! $ move ! (2 ∷ 0 ∷ []) $ join ! $ move ! (2 ∷ 0 ∷ []) $ join ! $ move ! (2 ∷ 0 ∷ []) $ join ! $
     -- [the tokens; nothing; the result; its final value; nothing]
     move ! (3 ∷ []) $ use1 𝓛 (‵ (ends_so P (param 1 S) (param 2 H) members b₃ b₄ s Now x))
-    (weaker 𝓛 Whole γ n (λ last. MatchResult x (λ _. Now last) (λ _. last ≡ s.now)) (ends_as Now e x s.now n did Makes Absent back ok err)) $
+    (weaker 𝓛 Whole γ n (λ last. MatchResult x (λ _. Now last) (λ _. last ≡ s.now))
+    (ends_as Now e x s.now n did Makes Absent back ok err)) $
     nothing ! $ nothing ! $ fjoin ! $ nothing ! $ fjoin ! $ nothing ! $ fjoin ! $
     keep ! (2 ∷ 0 ∷ 4 ∷ 1 ∷ []) $ group ! 3 $ frame ! $ frame ! $
     let kept = is_refused e x s.now n Makes Absent back err in

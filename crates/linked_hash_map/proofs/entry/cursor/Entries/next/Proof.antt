@@ -114,8 +114,10 @@ next_spec 𝓤 𝓛 𝓜 𝓡 wired K V S H LK LV LS LH b₀ d₀ b₁ d₁ b₂
     let Whole = cursor.the_row (record { mir = named 1; lft = [] }) X Y Z W b₁ b₂ b₃ b₄ in
     let Part = map.the_row X Y Z W b₁ b₂ b₃ b₄ in
     let members : HashMembers K.Denot = record { eq = b₁.eq; hash_input = b₂.hash_input } in
-    let En : Ended = f.ended K V S H b₀ d₀ b₁ d₁ b₂ d₂ b₃ d₃ b₄ d₄ d₅ in let Gn : Ended = g.ended K V S H b₀ d₀ b₁ d₁ b₂ d₂ b₃ d₃ b₄ d₄ d₅ in
-    let Hn : Ended = h.ended K V S H b₀ d₀ b₁ d₁ b₂ d₂ b₃ d₃ b₄ d₄ d₅ in let c = f.clauses K V S H b₀ d₀ b₁ d₁ b₂ d₂ b₃ d₃ b₄ d₄ d₅ 𝓛 𝓜.mem 𝓡.returns in
+    let En : Ended = f.ended K V S H b₀ d₀ b₁ d₁ b₂ d₂ b₃ d₃ b₄ d₄ d₅ in
+    let Gn : Ended = g.ended K V S H b₀ d₀ b₁ d₁ b₂ d₂ b₃ d₃ b₄ d₄ d₅ in
+    let Hn : Ended = h.ended K V S H b₀ d₀ b₁ d₁ b₂ d₂ b₃ d₃ b₄ d₄ d₅ in
+    let c = f.clauses K V S H b₀ d₀ b₁ d₁ b₂ d₂ b₃ d₃ b₄ d₄ d₅ 𝓛 𝓜.mem 𝓡.returns in
     let args : Args = bounded (a_type ∷ a_type ∷ a_type ∷ a_type ∷ []) (K, (V, (S, (H, tt))))
     (dcons d₀ (dcons d₁ (dcons d₂ (dcons d₃ (dcons d₄ (dcons d₅ dnil)))))) in
     let hs : Stays En.signature.params En.kept = (stay_dropped (mut_ref_to (0 ∷ []) tt (plain row)) no, tt) in
