@@ -2,4 +2,4 @@ pub mod Callers
 pub mod Compared
 pub mod Drained
 pub mod Kept
-pub mod LentBack
+pub mod BackOr

@@ -1,6 +1,6 @@
 //! Insertion.
 
-ghost use Rattle.std.specs.Prelude.{◌≡◌, ◌+◌, ◌++◌, ◌∷◌, [], length, max, not, true, false, unwrap_or, None, Some, IsSome, IfSome, IfNone, option_copied, IsTrue, IfOk, IfErr, OnOk, OnErr, if◌then◌else◌};
+ghost use Rattle.std.specs.Prelude.{◌≡◌, ◌+◌, ◌++◌, ◌∷◌, [], length, max, not, true, false, unwrap_or, None, Some, IsSome, IfSome, IfNone, IsTrue, IfOk, IfErr, OnOk, OnErr, if◌then◌else◌};
 ghost use Rattle.linked_hash_map.specs.Pairs.{first, last};
 ghost use Rattle.linked_hash_set.specs.Inserts.{inserted, RefreshedOrMade};
 ghost use Rattle.linked_hash_set.specs.Items.{contains, find, to_back, put_front, push_if_absent, set_or_push};
@@ -14,7 +14,7 @@ use std::hash::{BuildHasher, Hash};
 
 impl<T: Eq + Hash, S: BuildHasher> LinkedHashSet<T, S> {
     ghost use Rattle.std.specs.Borrow.{sem};
-    ghost use Rattle.linked_hash_set.specs.Lends.{ends_inserted, ends_so, rests};
+    ghost use Rattle.linked_hash_set.specs.Lends.{ends_inserted, ends_so};
 
     /// Inserts an item at the back, and returns whether it is new. If it is present, the stored
     /// item moves to the back, and `item` is dropped. Hashes the item once.
@@ -227,8 +227,7 @@ impl<T: Eq + Hash, S: BuildHasher> LinkedHashSet<T, S> {
         ensures full { OnErr result (length self.old.items ≡ self.old.capacity) }
     {
         let refused = self.put(item);
-        let back = self.lent_back();
-        found(back, refused)
+        self.back_or(refused)
     }
 
     /// Moves the stored item that is the same as a given one to the back, and returns it. If it is
@@ -266,8 +265,7 @@ impl<T: Eq + Hash, S: BuildHasher> LinkedHashSet<T, S> {
         ensures full { OnErr result (length self.old.items ≡ self.old.capacity) }
     {
         let refused = self.put_with(item, make);
-        let back = self.lent_back();
-        found(back, refused)
+        self.back_or(refused)
     }
 
     /// Moves the stored item that is the same as a given one to the back. If it is absent, an item
@@ -311,29 +309,17 @@ impl<T: Eq + Hash, S: BuildHasher> LinkedHashSet<T, S> {
         }
     }
 
-    /// Returns the back item, lent for as long as the set is.
-    fn lent_back(&mut self) -> Option<&T>
-        ensures* rests { sem 𝓛
-            (rests T.row S.row S.Hasher.row T.Hash S.BuildHasher S.Hasher.Hasher self.entry) }
-        ensures value { option_copied result ≡ last self.old.items }
+    /// Returns the back item, or the item that was refused.
+    fn back_or(&self, refused: Option<T>) -> Result<&T, Refused<T>>
+        requires { refused ≡ None → IsSome (last self.now.items) }
+        ensures ok { IfOk result (λ stored. (refused ≡ None)
+            × (last self.now.items ≡ Some stored.now)) }
+        ensures err { IfErr result (λ error. refused ≡ Some error.item) }
     {
-        match self.map.back() {
-            Some((item, _unit)) => Some(item),
-            None => None,
+        match (self.back(), refused) {
+            (_back, Some(item)) => Err(Refused { item }),
+            (Some(stored), None) => Ok(stored),
+            (None, None) => unreachable!(),
         }
-    }
-}
-
-/// Returns the item at the back, or the one that was refused.
-fn found<T>(back: Option<&T>, refused: Option<T>) -> Result<&T, Refused<T>>
-    requires { refused ≡ None → IsSome back }
-    ensures ok { IfOk result (λ stored. (refused ≡ None)
-        × (option_copied back.entry ≡ Some stored.now)) }
-    ensures err { IfErr result (λ error. refused ≡ Some error.item) }
-{
-    match (back, refused) {
-        (_back, Some(item)) => Err(Refused { item }),
-        (Some(stored), None) => Ok(stored),
-        (None, None) => unreachable!(),
     }
 }

@@ -4,14 +4,15 @@
 use mathlib.Core.Option as maybe
 use mathlib.Core.Path.{subst}
 use seplogic.Ra.Ura.{Ura}
-use base.Fml.{Fml, Lft, GName, ftrue, flft}
+use base.Fml.{GName, ftrue, flft}
 use base.Logic.{ent, sep, emp, fst∗, id⊢}
 use contract.BorrowLft.{◌⊑◌}
+use contract.Lifetimes.{Lfts}
 use contract.Fact.{fact_i}
 use contract.Monad.{fact}
 use contract.Running.{tables}
 use mir.MapTy.{inst_fn}
-use mir.Syntax.{Args, Dict, a_type, dcons, dnil, named}
+use mir.Syntax.{Args, a_type, dcons, dnil, named}
 use mir.Val.{Val}
 use types.Logic.{Logic, sem}
 use types.Kit.{‵, raw, ◌⊛◌, some, later, ◌$◌, ◌∵◌, !, qed, move, drop, use0, use1, use2, split}
@@ -33,14 +34,13 @@ use denote.Triple.Entry.{on_entry}
 use denote.Triple.Spec.{triple_of}
 use denote.Triple.Table.{framed}
 use denote.Triple.Walked.{Stays, says, stay_dropped, Goes-spent_ref, ends_at}
-use Rattle.std.proofs.Common.{◌≡◌, [], ◌∷◌, refl, sym, ap, MutBor, rules}
+use Rattle.std.proofs.Common.{◌≡◌, [], ◌∷◌, refl, sym, ap, rules}
 use Rattle.std.proofs.option.Option.TheLaws.{the_row_laws as option_laws}
 use Rattle.std.proofs.raw_atomic.Walks.{proved}
 use Rattle.std.specs.Borrow.{name_if_some}
 use Rattle.std.specs.HashMap.Lent.{HashMembers}
 use Rattle.std.specs.Prelude.{Bool, Option, Some, None, IfSome, IfNone}
 use Rattle.std.specs.contracts.option.Option as option
-use Rattle.std.specs.declared.cmp.Eq as total
 use Rattle.std.specs.declared.cmp.PartialEq as eq
 use Rattle.std.specs.declared.hash.Hash as hash
 use Rattle.std.specs.declared.hash.Hasher as hasher
@@ -53,7 +53,6 @@ use Rattle.linked_hash_map.specs.Pairs.{value_at}
 use Rattle.linked_hash_map.specs.Entry.{occupied_map, occupied_key, occupied_value}
 use Rattle.linked_hash_map.specs.CursorLends.{lends_map, lends_next_entry, with_cursor_map}
 use Rattle.linked_hash_map.specs.declared.entry.OccupiedEntry.{OccupiedEntry}
-use Rattle.linked_hash_map.specs.declared.entry.cursor.Entries.{Entries}
 use Rattle.linked_hash_map.specs.contracts.map.LinkedHashMap as map
 use Rattle.linked_hash_map.specs.contracts.entry.OccupiedEntry as entry
 use Rattle.linked_hash_map.specs.contracts.entry.cursor.Entries as cursor
@@ -108,101 +107,29 @@ same_name : {K V S H : Type 0} {g : eq.Ghosts K} {h : hash.Ghosts K} {b : builde
 same_name None γ said δ is = search rules
 same_name (Some o) γ said δ is = search rules
 
--- the ghosts of the bounds, and their dictionaries
-record Bounds (K S H : Type 0) : Type 1 where
-  total : total.Ghosts K
-  total-dict : Dict
-  eq : eq.Ghosts K
-  eq-dict : Dict
-  hash : hash.Ghosts K
-  hash-dict : Dict
-  builder : builder.Ghosts S H
-  builder-dict : Dict
-  hasher : hasher.Ghosts H
-  hasher-dict : Dict
-  drops : Dict
-
-module _ (K V S H : RattleType) (B : Bounds K.Denot S.Denot H.Denot) where
-  abbrev args : Args
-  args = bounded (a_type ∷ a_type ∷ a_type ∷ a_type ∷ []) (K, (V, (S, (H, tt))))
-      (dcons B.total-dict (dcons B.eq-dict
-      (dcons B.hash-dict (dcons B.builder-dict (dcons B.hasher-dict (dcons B.drops dnil))))))
-
-  -- the rows of the map, of a cursor and of an entry
-  abbrev Map : RattleType
-  Map = map.the_row (param 0 K) (param 1 V) (param 2 S) (param 3 H) B.eq B.hash B.builder B.hasher
-
-  abbrev Cursor : Lft → RattleType
-  Cursor κ = cursor.the_row (record { mir = named 1; lft = κ }) (param 0 K) (param 1 V) (param 2 S)
-      (param 3 H) B.eq B.hash B.builder B.hasher
-
-  abbrev Entry : Lft → RattleType
-  Entry κ = entry.the_row (record { mir = named 0; lft = κ }) (param 0 K) (param 1 V) (param 2 S) (param 3 H) B.eq B.hash B.builder B.hasher
-
-  -- the loans of `as_map` and of `next_entry`
-  abbrev members : HashMembers K.Denot
-  members = record { eq = B.eq.eq; hash_input = B.hash.hash_input }
-
-  abbrev Lends : MutBor (Entries K.Denot V.Denot S.Denot H.Denot) → MutBor (LinkedMap K.Denot V.Denot S.Denot) → Fml
-  Lends = lends_map (param 0 K) (param 1 V) (param 2 S) (param 3 H) members B.builder B.hasher
-
-  abbrev LendsNext : MutBor (LinkedMap K.Denot V.Denot S.Denot)
-      → Option (OccupiedEntry K.Denot V.Denot S.Denot H.Denot B.eq B.hash B.builder B.hasher) → Fml
-  LendsNext = lends_next_entry (param 0 K) (param 1 V) (param 2 S) (param 3 H) members B.builder B.hasher
-
-  abbrev ended : Ended
-  ended = f.ended K V S H B.total B.total-dict B.eq B.eq-dict B.hash B.hash-dict B.builder B.builder-dict B.hasher B.hasher-dict B.drops
-
-  abbrev map-ended : Ended
-  map-ended = g.ended K V S H B.total B.total-dict B.eq B.eq-dict B.hash B.hash-dict B.builder B.builder-dict B.hasher B.hasher-dict B.drops
-
-  abbrev entry-ended : Ended
-  entry-ended = h.ended K V S H B.total B.total-dict B.eq B.eq-dict B.hash B.hash-dict B.builder
-      B.builder-dict B.hasher B.hasher-dict B.drops
-
-  abbrev stayed : Stays ended.signature.params ended.kept
-  stayed = (
-    stay_dropped (mut_ref_to (0 ∷ []) tt (plain (λ κs. cursor.the_row (named_lft 6 1 tt κs)
-        (param 0 K) (param 1 V) (param 2 S) (param 3 H) B.eq B.hash B.builder B.hasher))) no,
-    tt,
-  )
-
 pub next_spec : {M : Type 1} → statement M
 next_spec 𝓤 𝓛 𝓜 𝓡 wired K V S H LK LV LS LH b₀ d₀ b₁ d₁ b₂ d₂ b₃ d₃ b₄ d₄ d₅ m₀ m₁ m₂ m₃ m₄ m₅ =
-    let B : Bounds K.Denot S.Denot H.Denot =
-    record {
-      total = b₀;
-      total-dict = d₀;
-      eq = b₁;
-      eq-dict = d₁;
-      hash = b₂;
-      hash-dict = d₂;
-      builder = b₃;
-      builder-dict = d₃;
-      hasher = b₄;
-      hasher-dict = d₄;
-      drops = d₅;
-    } in
+    let X = param 0 K in let Y = param 1 V in let Z = param 2 S in let W = param 3 H in
+    let row : Lfts 6 → RattleType = λ κs. cursor.the_row (named_lft 6 1 tt κs) X Y Z W b₁ b₂ b₃ b₄ in
+    let Whole = cursor.the_row (record { mir = named 1; lft = [] }) X Y Z W b₁ b₂ b₃ b₄ in
+    let Part = map.the_row X Y Z W b₁ b₂ b₃ b₄ in
+    let members : HashMembers K.Denot = record { eq = b₁.eq; hash_input = b₂.hash_input } in
+    let En : Ended = f.ended K V S H b₀ d₀ b₁ d₁ b₂ d₂ b₃ d₃ b₄ d₄ d₅ in
+    let Gn : Ended = g.ended K V S H b₀ d₀ b₁ d₁ b₂ d₂ b₃ d₃ b₄ d₄ d₅ in
+    let Hn : Ended = h.ended K V S H b₀ d₀ b₁ d₁ b₂ d₂ b₃ d₃ b₄ d₄ d₅ in
     let c = f.clauses K V S H b₀ d₀ b₁ d₁ b₂ d₂ b₃ d₃ b₄ d₄ d₅ 𝓛 𝓜.mem 𝓡.returns in
-    let Whole = Cursor K V S H B [] in let Part = Map K V S H B in
-    proved 𝓛 (ended K V S H B) (stayed K V S H B) c 𝓜 𝓡 (
-      Goes-spent_ref 𝓛 6 (0 ∷ []) tt (plain (λ κs. cursor.the_row (named_lft 6 1 tt κs) (param 0 K)
-          (param 1 V) (param 2 S) (param 3 H) b₁ b₂ b₃ b₄)),
-      tt,
-    )
-    (f.Key.name (args K V S H B)) (inst_fn (args K V S H B) code.function)
-    (code.unfolded 𝓤 𝓛.H 𝓜 𝓡 wired (K, (V, (S, (H, tt)))) d₀ d₁ d₂ d₃ d₄ d₅)
-    (λ κs. (mut_vals, tt)) (λ κs. (
-      mut_Tells (named 0) κs.0 (cursor.the_row (named_lft 6 1 tt κs)
-          (param 0 K) (param 1 V) (param 2 S) (param 3 H) b₁ b₂ b₃ b₄),
-      tt,
-    )) (λ κs qs bounds a _ are.
-    let G = triple_of 𝓛 (map-ended K V S H B).signature (g.spec K V S H b₀ d₀ b₁ d₁ b₂ d₂ b₃ d₃ b₄ d₄ d₅ 𝓛 𝓜.mem 𝓡.returns) in
+    let args : Args = bounded (a_type ∷ a_type ∷ a_type ∷ a_type ∷ []) (K, (V, (S, (H, tt))))
+    (dcons d₀ (dcons d₁ (dcons d₂ (dcons d₃ (dcons d₄ (dcons d₅ dnil)))))) in
+    let hs : Stays En.signature.params En.kept = (stay_dropped (mut_ref_to (0 ∷ []) tt (plain row)) no, tt) in
+    proved 𝓛 En hs c 𝓜 𝓡 (Goes-spent_ref 𝓛 6 (0 ∷ []) tt (plain row), tt)
+    (f.Key.name args) (inst_fn args code.function) (code.unfolded 𝓤 𝓛.H 𝓜 𝓡 wired (K, (V, (S, (H, tt)))) d₀ d₁ d₂ d₃ d₄ d₅)
+    (λ κs. (mut_vals, tt)) (λ κs. (mut_Tells (named 0) κs.0 (row κs), tt)) (λ κs qs bounds a _ are.
+    let G = triple_of 𝓛 Gn.signature (g.spec K V S H b₀ d₀ b₁ d₁ b₂ d₂ b₃ d₃ b₄ d₄ d₅ 𝓛 𝓜.mem 𝓡.returns) in
     let z : G.Ghost = ((κs, qs, bounds, a, (mut_vals a.0, tt)), tt) in
     let Lent = MutRef (named 0) κs.0 Part in
     let k-lives = κs.1.1.0 ⊑ K.lives in let v-lives = κs.1.1.1.0 ⊑ V.lives in
     let s-lives = κs.1.1.1.1.0 ⊑ S.lives in let h-lives = κs.1.1.1.1.1.0 ⊑ H.lives in
-    qed 𝓛 (raw (on_entry 𝓛 (ended K V S H B).signature κs qs a (mut_vals a.0, tt))
+    qed 𝓛 (raw (on_entry 𝓛 En.signature κs qs a (mut_vals a.0, tt))
     ∷ (raw (fact 𝓤 k-lives) ⊛ raw (fact 𝓤 v-lives) ⊛ raw (fact 𝓤 s-lives) ⊛ raw (fact 𝓤 h-lives)
     ⊛ ‵ ftrue) ∷ []) ∵
     move ! (1 ∷ []) $ split ! $ heard ! _ (λ k-within. split ! $
@@ -221,15 +148,15 @@ next_spec 𝓤 𝓛 𝓜 𝓡 wired K V S H LK LV LS LH b₀ d₀ b₁ d₁ b₂
     ((‵ (flft κs.0 qs.0) ⊛ ‵ (flft κs.1.0 qs.1.0) ⊛ ‵ (flft κs.1.1.0 qs.1.1.0)
     ⊛ ‵ (flft κs.1.1.1.0 qs.1.1.1.0) ⊛ ‵ (flft κs.1.1.1.1.0 qs.1.1.1.1.0)
     ⊛ ‵ (flft κs.1.1.1.1.1.0 qs.1.1.1.1.1.0) ⊛ ‵ ftrue) ⊛ ‵ (Lent.own_val r (v ∷ []))) ⊛
-    some (λ (ws : Lasts (map-ended K V S H B) κs a). ‵ (lasts (map-ended K V S H B) κs a ws)
-    ⊛ (‵ (Lends K V S H B a.0 r) ⊛ raw (fact 𝓤 (r.now ≡ a.0.now.map.now))))))) (id⊢ 𝓤 _) $
+    some (λ (ws : Lasts Gn κs a). ‵ (lasts Gn κs a ws)
+    ⊛ (‵ (lends_map X Y Z W members b₃ b₄ a.0 r) ⊛ raw (fact 𝓤 (r.now ≡ a.0.now.map.now))))))) (id⊢ 𝓤 _) $
     await ! tt $ pick ! (λ r. split ! $ split ! $ split ! $ move ! (2 ∷ []) $ peeks ! Lent (Is Lent) (shows 𝓛 Lent) r (v ∷ []) (λ is.
     let at = mut_Tells (named 0) κs.0 Part r (v ∷ []) is in
     lands_as ! (ap only at) refl (tt, tt) $ rewrite ! 0 (λ (w : Val). ‵ (Lent.own_val r (w ∷ []))) (ap only at) refl $
     sets ! (addr ! (through ! refl (stop !))) refl (tt, tt) $
     move ! (3 ∷ []) $ pick ! (λ ws. split ! $ drop ! $ split ! $ move ! (1 ∷ []) $ heard ! _ (λ as_lent_to.
     -- [what follows; what was lent; the token of κs.0; the other tokens]
-    let N = triple_of 𝓛 (entry-ended K V S H B).signature (h.spec K V S H b₀ d₀ b₁ d₁ b₂ d₂ b₃ d₃ b₄ d₄ d₅ 𝓛 𝓜.mem 𝓡.returns) in
+    let N = triple_of 𝓛 Hn.signature (h.spec K V S H b₀ d₀ b₁ d₁ b₂ d₂ b₃ d₃ b₄ d₄ d₅ 𝓛 𝓜.mem 𝓡.returns) in
     let u : N.Ghost = (
       (
         (κs.0, κs.1.1),
@@ -250,14 +177,14 @@ next_spec 𝓤 𝓛 𝓜 𝓡 wired K V S H LK LV LS LH b₀ d₀ b₁ d₁ b₂
     (next_entry.met 𝓤 𝓛 𝓜 𝓡 (code.calls-linked_hash_map::map::LinkedHashMap::next_entry 𝓡.env wired)
     K V S H LK LV LS LH b₀ d₀ b₁ d₁ b₂ d₂ b₃ d₃ b₄ d₄ d₅ m₀ m₁ m₂ m₃ m₄ m₅) u
     (and_then ! (get ! refl) (no_more !)) (λ w.
-    let Given = option.the_row (Entry K V S H B κs.0) in
+    let Entry = entry.the_row (record { mir = named 0; lft = κs.0 }) X Y Z W b₁ b₂ b₃ b₄ in let Given = option.the_row Entry in
     use1 𝓛 (later (some (λ (e : Given.Denot).
     ((‵ (flft κs.0 qs.0) ⊛ ‵ (flft κs.1.1.0 qs.1.1.0) ⊛ ‵ (flft κs.1.1.1.0 qs.1.1.1.0)
     ⊛ ‵ (flft κs.1.1.1.1.0 qs.1.1.1.1.0) ⊛ ‵ (flft κs.1.1.1.1.1.0 qs.1.1.1.1.1.0) ⊛ ‵ ftrue)
     ⊛ ‵ (Given.own_val e (w ∷ []))) ⊛
-    some (λ (ws : Lasts (entry-ended K V S H B) u.0.0 u.0.3).
-    ‵ (lasts (entry-ended K V S H B) u.0.0 u.0.3 ws)
-    ⊛ (‵ (LendsNext K V S H B r e) ⊛ raw (fact 𝓤 (Named e r.ghost_name))
+    some (λ (ws : Lasts Hn u.0.0 u.0.3).
+    ‵ (lasts Hn u.0.0 u.0.3 ws)
+    ⊛ (‵ (lends_next_entry X Y Z W members b₃ b₄ r e) ⊛ raw (fact 𝓤 (Named e r.ghost_name))
     ⊛ raw (fact 𝓤 (Visits e r.now)) ⊛ raw (fact 𝓤 (Value e r.now b₁.eq))
     ⊛ raw (fact 𝓤 (SamePairs e r.now)) ⊛ raw (fact 𝓤 (Kept e r.now))
     ⊛ raw (fact 𝓤 (IsValid b₁.eq r.now)) ⊛ raw (fact 𝓤 (NoneLeft e r.now))))))) (id⊢ 𝓤 _) $
@@ -268,12 +195,11 @@ next_spec 𝓤 𝓛 𝓜 𝓡 wired K V S H LK LV LS LH b₀ d₀ b₁ d₁ b₂
     -- [where it rests; the token of κs.0; the tokens of the parameters; the result; the token of
     -- κs.1; what follows]
     move ! (3 ∷ []) $ peeks ! Given (Is Given) (shows 𝓛 Given) e (w ∷ []) (λ it.
-    let laws = entry-laws.the_row_laws (record { mir = named 0; lft = κs.0 }) (param 0 K)
-    (param 1 V) (param 2 S) (param 3 H) b₁ b₂ b₃ b₄ (param_laws 0 K LK) (param_laws 1 V LV)
-    (param_laws 2 S LS) (param_laws 3 H LH) in
-    lands_as ! refl refl (((option_laws (Entry K V S H B κs.0) laws).lawful 𝓛).typed e (w ∷ []) it).0 $
+    let laws = entry-laws.the_row_laws (record { mir = named 0; lft = κs.0 }) X Y Z W b₁ b₂ b₃ b₄
+    (param_laws 0 K LK) (param_laws 1 V LV) (param_laws 2 S LS) (param_laws 3 H LH) in
+    lands_as ! refl refl (((option_laws Entry laws).lawful 𝓛).typed e (w ∷ []) it).0 $
     returns ! (look_at ! 0 refl) $ free_all ! refl $
-    suffices ! _ (ends_at 𝓛 (ended K V S H B) (stayed K V S H B) c z w e (tt, tt) (tt, tt)) $
+    suffices ! _ (ends_at 𝓛 En hs c z w e (tt, tt) (tt, tt)) $
     let lent_to = a.0.now in
     move ! (5 ∷ 1 ∷ []) $
     use2 𝓛 (‵ (follows_if Whole Part a.0.ghost_name (name_if_some (λ o. o.map.ghost_name) e)
