@@ -17,6 +17,7 @@ use Rattle.linked_hash_map.specs.Entry.{occupied_pair, occupied_key, with_occupi
 use Rattle.linked_hash_map.specs.Updates.{Updates}
 use Rattle.linked_hash_map.specs.declared.entry.OccupiedEntry.{OccupiedEntry}
 use Rattle.linked_hash_map.proofs.Callers.Updates.{Updates-set_value}
+use Rattle.linked_hash_map.proofs.pairs.EntryMaps.{IsValid-current}
 use Rattle.linked_hash_map.proofs.pairs.Indexes.{slice_get-pair_at, slice_get-set_value_at, is_some-at, value_at-slice_get}
 
 module _ {K V S H : Type 0} {g : eq.Ghosts K} {h : hash.Ghosts K} {b : builder.Ghosts S H}
@@ -78,3 +79,6 @@ pub Updates-occupied : {K V S H : Type 0} {g : eq.Ghosts K} {h : hash.Ghosts K}
 Updates-occupied o {eq} {pairs} laws same v =
     Updates-set_value laws pairs _ (occupied_key o)
     (subst (λ ps. is_some (find eq ps (occupied_key o)) ≡ true) same (is_some-occupied o laws)) v refl
+
+-- for what an entry shows
+pub ruleset shown_entries = (occupied_pair-is, IsValid-current)

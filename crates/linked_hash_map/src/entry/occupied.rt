@@ -13,6 +13,7 @@ use std::hash::{BuildHasher, Hash};
 
 impl<'a, K: Eq + Hash, V, S: BuildHasher> OccupiedEntry<'a, K, V, S> {
     /// Returns a reference to the stored key.
+    #[tactic(auto, using(crate::proofs::pairs::OccupiedEntries::shown_entries))]
     pub fn key(&self) -> &K
         ensures { result.now ≡ occupied_key self.now }
     {
@@ -20,6 +21,7 @@ impl<'a, K: Eq + Hash, V, S: BuildHasher> OccupiedEntry<'a, K, V, S> {
     }
 
     /// Returns a reference to the value.
+    #[tactic(auto, using(crate::proofs::pairs::OccupiedEntries::shown_entries))]
     pub fn get(&self) -> &V
         ensures { result.now ≡ occupied_value self.now }
     {
@@ -215,6 +217,7 @@ impl<'a, K: Eq + Hash, V, S: BuildHasher> OccupiedEntry<'a, K, V, S> {
     }
 
     /// Returns whether a key is the same as the stored one.
+    #[tactic(auto, using(crate::proofs::pairs::OccupiedEntries::shown_entries))]
     fn has_key(&self, key: &K) -> bool
         ensures same { result ≡ K.eq key.now (occupied_key self.now) }
         ensures valid { IsValid K.eq (occupied_map self.now) }
