@@ -91,6 +91,7 @@ impl<'a, K: Eq + Hash, V, S: BuildHasher> OccupiedEntry<'a, K, V, S> {
     /// }
     /// assert_eq!(rt; map.back(), Some((&'x', &3)));
     /// ```
+    #[tactic(auto, using(crate::proofs::pairs::OccupiedEntries::moved_entries))]
     pub fn insert(&mut self, value: V) -> V
         ensures same_map { (occupied_map_ref self.new).ghost_name
             ≡ (occupied_map_ref self.old).ghost_name }
@@ -124,6 +125,7 @@ impl<'a, K: Eq + Hash, V, S: BuildHasher> OccupiedEntry<'a, K, V, S> {
     /// }
     /// assert_eq!(rt; map.back(), Some((&'x', &1)));
     /// ```
+    #[tactic(auto, using(crate::proofs::pairs::OccupiedEntries::moved_entries))]
     pub fn move_to_back(&mut self)
         ensures same_map { (occupied_map_ref self.new).ghost_name
             ≡ (occupied_map_ref self.old).ghost_name }
@@ -155,6 +157,7 @@ impl<'a, K: Eq + Hash, V, S: BuildHasher> OccupiedEntry<'a, K, V, S> {
     /// }
     /// assert_eq!(rt; map.front(), Some((&'y', &2)));
     /// ```
+    #[tactic(auto, using(crate::proofs::pairs::OccupiedEntries::moved_entries))]
     pub fn move_to_front(&mut self)
         ensures same_map { (occupied_map_ref self.new).ghost_name
             ≡ (occupied_map_ref self.old).ghost_name }
@@ -188,6 +191,7 @@ impl<'a, K: Eq + Hash, V, S: BuildHasher> OccupiedEntry<'a, K, V, S> {
     /// }
     /// assert_eq!(rt; map.get(&'x'), Some(&1));
     /// ```
+    #[tactic(auto, using(crate::proofs::pairs::OccupiedEntries::moved_entries))]
     pub fn replace_key(&mut self, key: K) -> Result<K, K>
         ensures same_map { (occupied_map_ref self.new).ghost_name
             ≡ (occupied_map_ref self.old).ghost_name }
