@@ -37,9 +37,10 @@ impl<K: Eq + Hash + Clone, V: Clone, S: BuildHasher + Clone> Clone for LinkedHas
         };
         for (key, value) in self.iter() {
             let key = key.clone()?;
-            let Ok(_old) = map.insert(key, value.clone()?) else {
+            let Ok(old) = map.insert(key, value.clone()?) else {
                 return Err(AllocError);
             };
+            drop(old);
         }
         map.set_mode(self.mode());
         Ok(map)

@@ -71,7 +71,7 @@ impl<K: Eq + Hash, V, S: BuildHasher> LinkedHashMap<K, V, S> {
         let _len = self.len();
         for (key, value) in items {
             match self.insert(key, value) {
-                Ok(_old) => {}
+                Ok(old) => drop(old),
                 Err(refused) => return Err(refused),
             }
         }

@@ -219,7 +219,10 @@ fn extend<K: Eq + Hash + Drop, V: Drop, S: BuildHasher>(
     let mut inserted = 0;
     for (key, value) in pairs.into_vec() {
         match map.insert(key, value) {
-            Ok(_old) => inserted += 1,
+            Ok(old) => {
+                drop(old);
+                inserted += 1;
+            }
             Err(refused) => return Answer::Stopped(inserted, refused.key, refused.value),
         }
     }

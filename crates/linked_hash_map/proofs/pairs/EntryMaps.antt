@@ -1,11 +1,11 @@
 -- What an entry makes of its map, once a value is that of its key, and with another pair as the
 -- current one.
-use Rattle.std.proofs.Common.{◌≡◌, ℕ, ◌+◌, ◌≤◌, max, Bool, true, List, length, None, is_some, arith, length-append}
+use Rattle.std.proofs.Common.{◌≡◌, ℕ, ◌+◌, ◌≤◌, max, Bool, true, List, length, None, is_some, ap, arith, length-append}
 use Rattle.linked_hash_map.proofs.pairs.RehashCounts.{rechained_raised-same}
 use Rattle.std.proofs.lemmas.List.{map-append, length-map}
 use Rattle.linked_hash_map.specs.LinkedMap.{LinkedMap}
-use Rattle.linked_hash_map.specs.Cursor.{to_visit}
-use Rattle.linked_hash_map.specs.Changes.{pushed, set_or_pushed}
+use Rattle.linked_hash_map.specs.Cursor.{to_visit, without_cursor}
+use Rattle.linked_hash_map.specs.Changes.{pushed, set_or_pushed, Keeps}
 use Rattle.linked_hash_map.specs.Pairs.{find, set_value, set_or_push}
 use Rattle.linked_hash_map.specs.Validity.{IsValid}
 use Rattle.linked_hash_map.proofs.Callers.Keys.{keys_of-set_value}
@@ -43,3 +43,12 @@ module _ {K V S : Type 0} (eq : K → K → Bool) (m : LinkedMap K V S) (k : K) 
 pub IsValid-current : {K V S : Type 0} {eq : K → K → Bool} {m : LinkedMap K V S} (index : ℕ)
     → IsValid eq m → IsValid eq (record m { cursor = record m.cursor { current = index } })
 IsValid-current index valid = grind arith
+
+-- a map that differs by where a cursor or an entry stands keeps the rest
+pub Keeps-same : {K V S : Type 0} {old new : LinkedMap K V S} → new ≡ without_cursor old → Keeps old new
+Keeps-same same = record {
+  capacity = ap (λ m. m.capacity) same;
+  rechained = ap (λ m. m.rechained) same;
+  hasher = ap (λ m. m.hasher) same;
+  mode = ap (λ m. m.mode) same;
+}

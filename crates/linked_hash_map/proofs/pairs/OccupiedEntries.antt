@@ -12,12 +12,15 @@ use Rattle.std.specs.Map.{keys_of}
 use Rattle.lhm_ring.proofs.lists.Options.{Some-injective}
 use Rattle.linked_hash_map.specs.Pairs.{find, value_at, set_value}
 use Rattle.linked_hash_map.specs.Indexes.{IsIndex, set_value_at}
+use Rattle.linked_hash_map.specs.Changes.{MovesCurrent}
+use Rattle.linked_hash_map.specs.LinkedMap.{LinkedMap}
 use Rattle.linked_hash_map.specs.Cursor.{IsOutside, IsOutside-prop}
 use Rattle.linked_hash_map.specs.Entry.{occupied_pair, occupied_key, with_occupied_value, occupied_value}
 use Rattle.linked_hash_map.specs.Updates.{Updates}
 use Rattle.linked_hash_map.specs.declared.entry.OccupiedEntry.{OccupiedEntry}
 use Rattle.linked_hash_map.proofs.Callers.Updates.{Updates-set_value}
-use Rattle.linked_hash_map.proofs.pairs.Indexes.{slice_get-pair_at, slice_get-set_value_at, is_some-at, value_at-slice_get}
+use Rattle.linked_hash_map.proofs.pairs.EntryMaps.{IsValid-current}
+use Rattle.linked_hash_map.proofs.pairs.Indexes.{slice_get-within, slice_get-pair_at, slice_get-set_value_at, is_some-at, value_at-slice_get}
 
 module _ {K V S H : Type 0} {g : eq.Ghosts K} {h : hash.Ghosts K} {b : builder.Ghosts S H}
     {w : hasher.Ghosts H} (o : OccupiedEntry K V S H g h b w) where
@@ -45,6 +48,11 @@ module _ {K V S H : Type 0} {g : eq.Ghosts K} {h : hash.Ghosts K} {b : builder.G
 
   pub is_some-occupied : {eq : K → K → Bool} → IsEquivalence eq → is_some (find eq o.map.now.pairs (occupied_key o)) ≡ true
   is_some-occupied laws = grind (arith, is_some-at, slice_get-occupied)
+
+  -- once the current pair was moved and written
+  pub within-moved : {eq : K → K → Bool} {write : K × V → K × V} {new : LinkedMap K V S} → MovesCurrent eq write o.map.now new
+      → new.cursor.current < length new.pairs
+  within-moved {new = new} moves = slice_get-within new.pairs new.cursor.current _ (moves.pair _ slice_get-occupied)
 
   -- once a value is written
   pub occupied_pair-written : (v : V) → occupied_pair (with_occupied_value o v) ≡ (occupied_key o, v)
@@ -78,3 +86,9 @@ pub Updates-occupied : {K V S H : Type 0} {g : eq.Ghosts K} {h : hash.Ghosts K}
 Updates-occupied o {eq} {pairs} laws same v =
     Updates-set_value laws pairs _ (occupied_key o)
     (subst (λ ps. is_some (find eq ps (occupied_key o)) ≡ true) same (is_some-occupied o laws)) v refl
+
+-- for what an entry shows
+pub ruleset shown_entries = (occupied_pair-is, IsValid-current)
+
+-- for an entry that is moved or written
+pub ruleset moved_entries = (slice_get-occupied, occupied_pair-is, IsIndex-occupied, slice_get-within, IsValid-current)

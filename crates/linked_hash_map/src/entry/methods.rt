@@ -89,6 +89,14 @@ impl<'a, K: Eq + Hash, V, S: BuildHasher> Entry<'a, K, V, S> {
         }
     }
 
+    /// Returns the allocator that the map was made with.
+    fn allocator(&self) -> Global {
+        match self {
+            Entry::Occupied(entry) => entry.map.allocator(),
+            Entry::Vacant(entry) => entry.map.allocator(),
+        }
+    }
+
     /// Calls `f` on the value if occupied. Except for `f` it is O(1).
     ///
     /// # Examples
@@ -162,10 +170,7 @@ impl<'a, K: Eq + Hash, V, S: BuildHasher> Entry<'a, K, V, S> {
         ensures to_visit { (v : V) → to_visit (set_or_pushed K.eq (entry_map self.entry)
             (entry_key self.entry) v) ≡ to_visit (entry_map self.entry) }
     {
-        match self {
-            Entry::Occupied(entry) => Ok(entry.into_mut()),
-            Entry::Vacant(entry) => entry.insert(value),
-        }
+        self.or_insert_with_key(move |_key: &K| value)
     }
 
     /// Does what `or_insert` does, with the result of `f`, which is called only if vacant, before
@@ -198,12 +203,7 @@ impl<'a, K: Eq + Hash, V, S: BuildHasher> Entry<'a, K, V, S> {
         ensures to_visit { (v : V) → to_visit (set_or_pushed K.eq (entry_map self.entry)
             (entry_key self.entry) v) ≡ to_visit (entry_map self.entry) }
     {
-        let vacant = match self {
-            Entry::Occupied(occupied) => return Ok(occupied.into_mut()),
-            Entry::Vacant(vacant) => vacant,
-        };
-        let value = f();
-        vacant.insert(value)
+        self.or_insert_with_key(move |_key: &K| f())
     }
 
     /// Does what `or_insert_with` does, with an `f` that is given the key. Except for `f` it is
@@ -284,12 +284,7 @@ impl<'a, K: Eq + Hash, V, S: BuildHasher> Entry<'a, K, V, S> {
         ensures to_visit { (v : V) → to_visit (set_or_pushed K.eq (entry_map self.entry)
             (entry_key self.entry) v) ≡ to_visit (entry_map self.entry) }
     {
-        match self {
-            Entry::Occupied(occupied) => Ok(occupied.into_mut()),
-            Entry::Vacant(vacant) => {
-                let value = V::made_with(vacant.map.allocator());
-                vacant.insert(value)
-            }
-        }
+        let alloc = self.allocator();
+        self.or_insert_with(move || V::made_with(alloc))
     }
 }

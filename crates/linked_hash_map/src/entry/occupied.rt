@@ -13,6 +13,7 @@ use std::hash::{BuildHasher, Hash};
 
 impl<'a, K: Eq + Hash, V, S: BuildHasher> OccupiedEntry<'a, K, V, S> {
     /// Returns a reference to the stored key.
+    #[tactic(auto, using(crate::proofs::pairs::OccupiedEntries::shown_entries))]
     pub fn key(&self) -> &K
         ensures { result.now ≡ occupied_key self.now }
     {
@@ -20,6 +21,7 @@ impl<'a, K: Eq + Hash, V, S: BuildHasher> OccupiedEntry<'a, K, V, S> {
     }
 
     /// Returns a reference to the value.
+    #[tactic(auto, using(crate::proofs::pairs::OccupiedEntries::shown_entries))]
     pub fn get(&self) -> &V
         ensures { result.now ≡ occupied_value self.now }
     {
@@ -89,6 +91,7 @@ impl<'a, K: Eq + Hash, V, S: BuildHasher> OccupiedEntry<'a, K, V, S> {
     /// }
     /// assert_eq!(rt; map.back(), Some((&'x', &3)));
     /// ```
+    #[tactic(auto, using(crate::proofs::pairs::OccupiedEntries::moved_entries))]
     pub fn insert(&mut self, value: V) -> V
         ensures same_map { (occupied_map_ref self.new).ghost_name
             ≡ (occupied_map_ref self.old).ghost_name }
@@ -122,6 +125,7 @@ impl<'a, K: Eq + Hash, V, S: BuildHasher> OccupiedEntry<'a, K, V, S> {
     /// }
     /// assert_eq!(rt; map.back(), Some((&'x', &1)));
     /// ```
+    #[tactic(auto, using(crate::proofs::pairs::OccupiedEntries::moved_entries))]
     pub fn move_to_back(&mut self)
         ensures same_map { (occupied_map_ref self.new).ghost_name
             ≡ (occupied_map_ref self.old).ghost_name }
@@ -153,6 +157,7 @@ impl<'a, K: Eq + Hash, V, S: BuildHasher> OccupiedEntry<'a, K, V, S> {
     /// }
     /// assert_eq!(rt; map.front(), Some((&'y', &2)));
     /// ```
+    #[tactic(auto, using(crate::proofs::pairs::OccupiedEntries::moved_entries))]
     pub fn move_to_front(&mut self)
         ensures same_map { (occupied_map_ref self.new).ghost_name
             ≡ (occupied_map_ref self.old).ghost_name }
@@ -186,6 +191,7 @@ impl<'a, K: Eq + Hash, V, S: BuildHasher> OccupiedEntry<'a, K, V, S> {
     /// }
     /// assert_eq!(rt; map.get(&'x'), Some(&1));
     /// ```
+    #[tactic(auto, using(crate::proofs::pairs::OccupiedEntries::moved_entries))]
     pub fn replace_key(&mut self, key: K) -> Result<K, K>
         ensures same_map { (occupied_map_ref self.new).ghost_name
             ≡ (occupied_map_ref self.old).ghost_name }
@@ -215,6 +221,7 @@ impl<'a, K: Eq + Hash, V, S: BuildHasher> OccupiedEntry<'a, K, V, S> {
     }
 
     /// Returns whether a key is the same as the stored one.
+    #[tactic(auto, using(crate::proofs::pairs::OccupiedEntries::shown_entries))]
     fn has_key(&self, key: &K) -> bool
         ensures same { result ≡ K.eq key.now (occupied_key self.now) }
         ensures valid { IsValid K.eq (occupied_map self.now) }

@@ -1,6 +1,7 @@
 //! The ends: insertion at the front, and the end pairs as the current one.
 ghost use Rattle.std.specs.Prelude.{◌≡◌, ◌+◌, ◌-◌, ◌<◌, [], ◌∷◌, ◌++◌, length, max, take, drop, Some, None, OnOk, OnErr, IfOk, IfErr, IsTrue, IsFalse, IsSome};
 ghost use Rattle.linked_hash_map.specs.Pairs.{first, key_or, find, value_at, put_front};
+ghost use Rattle.linked_hash_map.specs.LinkedMap.{without_entry};
 ghost use Rattle.linked_hash_map.specs.Cursor.{to_visit, without_cursor, IsOutside};
 ghost use Rattle.linked_hash_map.specs.Changes.{Keeps, KeepsSettings};
 ghost use Rattle.linked_hash_map.specs.Validity.{IsValid};
@@ -116,9 +117,8 @@ impl<K: Eq + Hash, V, S: BuildHasher> LinkedHashMap<K, V, S> {
     pub(crate) fn seek_front(&mut self) -> bool
         ensures front { IsTrue result → self.new.cursor.current ≡ 0 }
         ensures within { IsTrue result → self.new.cursor.current < length self.new.pairs }
-        ensures ends_visit { IsTrue result → without_cursor self.new ≡ without_cursor self.old }
-        ensures visited { IsTrue result → self.new.cursor.unvisited ≡ 0 }
-        ensures bookmark { IsTrue result → self.new.cursor.bookmark ≡ 0 }
+        ensures ends_visit { IsTrue result
+            → record self.new { cursor = without_entry self.new.cursor } ≡ without_cursor self.old }
         ensures outside { IsTrue result → IsOutside self.new.cursor.current self.new }
         ensures none { IsFalse result → self.old.pairs ≡ [] }
         ensures unchanged { IsFalse result → self.new ≡ self.old }
@@ -135,9 +135,8 @@ impl<K: Eq + Hash, V, S: BuildHasher> LinkedHashMap<K, V, S> {
     pub(crate) fn seek_back(&mut self) -> bool
         ensures back { IsTrue result → self.new.cursor.current ≡ length self.old.pairs - 1 }
         ensures within { IsTrue result → self.new.cursor.current < length self.new.pairs }
-        ensures ends_visit { IsTrue result → without_cursor self.new ≡ without_cursor self.old }
-        ensures visited { IsTrue result → self.new.cursor.unvisited ≡ 0 }
-        ensures bookmark { IsTrue result → self.new.cursor.bookmark ≡ 0 }
+        ensures ends_visit { IsTrue result
+            → record self.new { cursor = without_entry self.new.cursor } ≡ without_cursor self.old }
         ensures outside { IsTrue result → IsOutside self.new.cursor.current self.new }
         ensures none { IsFalse result → self.old.pairs ≡ [] }
         ensures unchanged { IsFalse result → self.new ≡ self.old }

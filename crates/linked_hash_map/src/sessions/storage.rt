@@ -190,8 +190,7 @@ pub(super) fn insert_newest<T>(
     ensures stays_valid { IsValid nat_eq map.new }
 {
     match map.insert(id, Weighted { weight, payload }) {
-        Ok(Some(weighted)) => Some(weighted.payload),
-        Ok(None) => None,
+        Ok(old) => old.map(|weighted| weighted.payload),
         Err(_refused) => unreachable!(),
     }
 }

@@ -7,22 +7,13 @@ use Rattle.linked_hash_map.proofs.runs.Extends.{HasExtended-put, next-there, Has
 use Rattle.linked_hash_map.proofs.runs.VisitEnds.{MayEndVisit-trans, MayEndVisit-insert}
 use Rattle.linked_hash_map.proofs.replay.extend.Goals as goal
 
-pub loop-key-preserved-in-Ok : goal.loop-key-preserved-in-Ok
-loop-key-preserved-in-Ok g c =
-    let put = c.in-Ok.ensures in let i = c.loop-key.invariant in
-    record {
-      extended = HasExtended-put g.met.K.Eq.laws i.extended c.in-Some.ensures.steps.0
-          put.pairs put.capacity put.rechained put.valid.within put.settings;
-      visit = MayEndVisit-trans i.visit (MayEndVisit-insert c.in-Ok._old put.ends_visit put.to_visit);
-    }
-
 pub loop-key-preserved : goal.loop-key-preserved
 loop-key-preserved g c =
     let put = c.in-Ok.ensures in let i = c.loop-key.invariant in
     record {
       extended = HasExtended-put g.met.K.Eq.laws i.extended c.in-Some.ensures.steps.0
           put.pairs put.capacity put.rechained put.valid.within put.settings;
-      visit = MayEndVisit-trans i.visit (MayEndVisit-insert c.in-Ok._old put.ends_visit put.to_visit);
+      visit = MayEndVisit-trans i.visit (MayEndVisit-insert c.in-Ok.old put.ends_visit put.to_visit);
     }
 
 pub returns-in-Err : goal.returns-in-Err

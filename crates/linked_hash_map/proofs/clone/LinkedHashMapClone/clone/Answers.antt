@@ -16,21 +16,12 @@ loop-key-init g c =
       valid = made.valid;
     }
 
-pub loop-key-preserved-in-Ok-insert : goal.loop-key-preserved-in-Ok-insert
-loop-key-preserved-in-Ok-insert g c =
-    let put = c.in-Ok-insert.ensures in
-    record {
-      cloned = HasCloned-put c.loop-key.invariant.cloned c.in-Some.ensures.steps c.in_ok-key.ensures.cases c.in_ok-clone.ensures.cases
-          put.pairs put.capacity put.rechained put.settings c.in-Ok-insert._old put.ends_visit put.to_visit;
-      valid = put.stays_valid;
-    }
-
 pub loop-key-preserved : goal.loop-key-preserved
 loop-key-preserved g c =
     let put = c.in-Ok-insert.ensures in
     record {
       cloned = HasCloned-put c.loop-key.invariant.cloned c.in-Some.ensures.steps c.in_ok-key.ensures.cases c.in_ok-clone.ensures.cases
-          put.pairs put.capacity put.rechained put.settings c.in-Ok-insert._old put.ends_visit put.to_visit;
+          put.pairs put.capacity put.rechained put.settings c.in-Ok-insert.old put.ends_visit put.to_visit;
       valid = put.stays_valid;
     }
 

@@ -4,21 +4,13 @@ use Rattle.linked_hash_map.proofs.pairs.ExtendSteps.{IsExtended-none, IsExtended
 use Rattle.linked_hash_map.proofs.pairs.ExtendSteps.{InsertsUntil-IsExtended}
 use Rattle.linked_hash_map.proofs.map.LinkedHashMap.extend.Goals as goal
 
-pub loop-key-preserved-in-Ok : goal.loop-key-preserved-in-Ok
-loop-key-preserved-in-Ok g c =
-    let put = c.in-Ok.ensures in
-    IsExtended-put g.met.K.Eq.laws c.len-len.ensures.valid.distinct c.loop-key.invariant c.in-Some.ensures.goes
-    (record { pairs = put.pairs; capacity = put.capacity; rechained = put.rechained; settings = put.settings })
-    put.stays_valid
-    (record { value = c.in-Ok._old; is = put.old; ends = put.ends_visit; stands = put.to_visit; as_many = put.as_many; more = put.more })
-
 pub loop-key-preserved : goal.loop-key-preserved
 loop-key-preserved g c =
     let put = c.in-Ok.ensures in
     IsExtended-put g.met.K.Eq.laws c.len-len.ensures.valid.distinct c.loop-key.invariant c.in-Some.ensures.goes
     (record { pairs = put.pairs; capacity = put.capacity; rechained = put.rechained; settings = put.settings })
     put.stays_valid
-    (record { value = c.in-Ok._old; is = put.old; ends = put.ends_visit; stands = put.to_visit; as_many = put.as_many; more = put.more })
+    (record { value = c.in-Ok.old; is = put.old; ends = put.ends_visit; stands = put.to_visit; as_many = put.as_many; more = put.more })
 
 pub loop-key-init : goal.loop-key-init
 loop-key-init g c =
