@@ -1,3 +1,4 @@
+mod Names
 pub mod indexes
 pub mod lists
 pub mod memory

@@ -1,3 +1,4 @@
+mod Names
 pub mod Callers
 mod lists
 mod log

@@ -1,13 +1,7 @@
 -- The heads of the buckets, as positions and as pointers.
-use Rattle.std.proofs.Common.{subst, T, ltb→lt, ◌^◌, ◌≡◌, ℕ, zero, suc, ◌+◌, ◌<◌, List, [], ◌∷◌, ◌++◌, map, refl, sym, arith, length}
-use Rattle.std.proofs.Common.{get_or, set, Some, None, true}
-use denote.RawPtr.{Ptr, block_ptr, null_ptr, Testable, InBlock}
-use Rattle.lhm_ring.specs.declared.bucket_block.Head.{Head}
-use Rattle.std.proofs.lemmas.List.{length-map}
-use Rattle.lhm_ring.specs.Nodes.{is_null_or_block}
-use Rattle.lhm_ring.specs.declared.bucket_block.Word.{Word}
-use Rattle.lhm_ring.specs.Buckets.{BucketState, leads_to, bits_of}
-use Rattle.lhm_ring.specs.Pointer.{led_to}
+use Rattle.lhm_ring.proofs.Names.{List, None, Some, T, [], arith, get_or, length, ltb→lt, map, refl, set, subst, suc, sym, true, zero, ℕ}
+use Rattle.lhm_ring.proofs.Names.{◌++◌, ◌+◌, ◌<◌, ◌^◌, ◌∷◌, ◌≡◌, BucketState, bits_of, leads_to, is_null_or_block, led_to, Head, Word}
+use Rattle.lhm_ring.proofs.Names.{length-map, InBlock, Ptr, Testable, block_ptr, null_ptr}
 
 -- there are as many words as heads
 pub length-words : (heads : List Head) (words : List Word) {n : ℕ} {s : BucketState}

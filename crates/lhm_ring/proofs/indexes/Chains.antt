@@ -1,10 +1,7 @@
 -- One chain of spots, once a node is put on it or removed.
-use Rattle.std.proofs.Common.{◌≡◌, ℕ, List, [], ◌∷◌, ◌++◌, refl, sym, ◌∙◌, ap, subst, true, false, Option, Some, None, arith}
-use Rattle.std.specs.Prelude.{filter}
-use denote.RawPtr.{Ptr}
-use Rattle.lhm_ring.proofs.lists.RearrangedFilters.{filter-PutsIn, PutsIn-filter_in}
-use Rattle.lhm_ring.proofs.lists.Splits.{SplitFirst}
-use Rattle.lhm_ring.specs.Index.{PutsIn, IsRearranged, IsChain, is_in, HasChain, Spot}
+use Rattle.lhm_ring.proofs.Names.{List, None, Option, Some, [], ap, arith, false, refl, subst, sym, true, ℕ, ◌++◌, ◌∙◌, ◌∷◌, ◌≡◌, filter}
+use Rattle.lhm_ring.proofs.Names.{HasChain, IsChain, IsRearranged, PutsIn, Spot, is_in, Ptr}
+use Rattle.lhm_ring.proofs.lists.{RearrangedFilters.PutsIn-filter_in, RearrangedFilters.filter-PutsIn, Splits.SplitFirst}
 
 abbrev pub ChainFirst : List Spot → Ptr → Type 0
 ChainFirst = SplitFirst (λ s. s.at)

@@ -1,17 +1,10 @@
 -- Filters: bits that are set and cleared, and the spots that they cover.
-use Rattle.std.proofs.Common.{◌≡◌, ◌≢◌, ℕ, ◌*◌, ◌/◌, ◌%◌, ◌^◌, ◌<◌, Bool, true, false, List, [], ◌∷◌, ◌++◌, length, map, get_or, set, eqb}
-use Rattle.std.proofs.Common.{cond, refl, sym, ap, ◌∙◌, subst, inl, inr, arith, w16, length-set, get_or-set_same, get_or-set_other, eq-eqb}
-use Rattle.std.specs.Prelude.{bit_or, filter}
-use Rattle.std.specs.Int.{bit_at}
-use Rattle.std.proofs.lemmas.Bool.{cases_eq, eqb-false}
-use Rattle.std.proofs.lemmas.List.{length-map, map-set, get_or-map}
-use Rattle.std.proofs.lemmas.Nat.Bits.{bit_at_set_same, bit_at_set_other}
+use Rattle.lhm_ring.proofs.Names.{Bool, List, [], ap, arith, cond, eq-eqb, eqb, false, get_or, get_or-set_other, get_or-set_same, inl, inr}
+use Rattle.lhm_ring.proofs.Names.{length, length-set, map, refl, set, subst, sym, true, w16, ℕ, ◌%◌, ◌*◌, ◌++◌, ◌/◌, ◌<◌, ◌^◌, ◌∙◌, ◌∷◌}
+use Rattle.lhm_ring.proofs.Names.{◌≡◌, ◌≢◌, bit_or, filter, SetsBit, bits_of, may_contain, CoversAll, PutsIn, Spot, entries, is_in, spot}
+use Rattle.lhm_ring.proofs.Names.{spots, Held, LacksKey, Word, cases_eq, eqb-false, get_or-map, length-map, map-set, bit_at}
 use Rattle.lhm_ring.proofs.indexes.Spots.{PutsIn-spots}
-use Rattle.lhm_ring.specs.declared.bucket_block.Word.{Word}
-use Rattle.lhm_ring.specs.Buckets.{bits_of, may_contain, SetsBit}
-use Rattle.lhm_ring.specs.Ring.{Held}
-use Rattle.lhm_ring.specs.Index.{PutsIn, is_in, Spot, spot, spots, entries, CoversAll}
-use Rattle.lhm_ring.specs.Search.{LacksKey}
+use Rattle.std.proofs.lemmas.Nat.Bits.{bit_at_set_other, bit_at_set_same}
 
 -- the bit of the hash in a word
 abbrev has_bit : ℕ → ℕ → Bool

@@ -1,13 +1,10 @@
 -- What the ring's own changes leave of the index: a node put last, unlinked, moved, or its value
 -- written.
-use Rattle.std.proofs.Common.{◌≡◌, List, [], ◌∷◌, ◌++◌, refl, sym, ◌∙◌, ap, subst, Bool, true, false, length, Option, append-nil, arith}
-use Rattle.std.specs.Prelude.{filter}
-use denote.RawPtr.{Ptr}
-use Rattle.lhm_ring.proofs.lists.Rearranged.{IsRearranged-again}
+use Rattle.lhm_ring.proofs.Names.{Bool, List, Option, [], ap, append-nil, arith, false, length, refl, subst, sym, true, ◌++◌, ◌∙◌, ◌∷◌, ◌≡◌}
+use Rattle.lhm_ring.proofs.Names.{filter, HasChains, IsRearranged, PutsIn, Spot, is_in, spot, spots, Held, change_at, rekeyed, revalued}
+use Rattle.lhm_ring.proofs.Names.{set_held_values, Ptr}
+use Rattle.lhm_ring.proofs.{indexes.Spots.PutsIn-spots, lists.Rearranged.IsRearranged-again}
 use Rattle.lhm_ring.proofs.lists.RearrangedFilters.{PutsIn-filter_in, filter-PutsIn}
-use Rattle.lhm_ring.proofs.indexes.Spots.{PutsIn-spots}
-use Rattle.lhm_ring.specs.Ring.{Held, change_at, revalued, rekeyed, set_held_values}
-use Rattle.lhm_ring.specs.Index.{PutsIn, IsRearranged, is_in, HasChains, Spot, spot, spots}
 
 -- a spot that stands elsewhere in the list
 HasChains-elsewhere : (heads : List (Option Ptr)) (s : Spot) (zs xs ys : List Spot) → PutsIn s zs xs

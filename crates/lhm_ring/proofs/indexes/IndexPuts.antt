@@ -1,16 +1,9 @@
 -- A node is put into its chain, and all nodes are, one after another.
-use Rattle.std.proofs.Common.{◌≡◌, ℕ, ◌+◌, ◌%◌, ◌<◌, ◌≤◌, List, [], ◌∷◌, ◌++◌, refl, sym, ◌∙◌, ap, subst, length, get_or, arith}
-use Rattle.std.proofs.Common.{Option, Some, None, append_assoc, length-append, append-nil}
-use Rattle.std.proofs.lemmas.List.{length-set}
-use denote.RawPtr.{Ptr}
-use Rattle.lhm_ring.proofs.rings.Ends.{First, First-first_at}
-use Rattle.lhm_ring.proofs.indexes.Entries.{entries-link, length-same_entries}
-use Rattle.lhm_ring.proofs.indexes.IndexMoves.{PutsIn-last}
-use Rattle.lhm_ring.proofs.indexes.Spots.{PutsIn-spots}
-use Rattle.lhm_ring.proofs.indexes.WholeBuckets.{Indexes-put}
-use Rattle.lhm_ring.specs.Ring.{Held, IsHeld, AtHeld, linked_to, first_at}
-use Rattle.lhm_ring.specs.Buckets.{BucketState}
-use Rattle.lhm_ring.specs.Index.{Indexes, spot, spots, entries, HoldsOthers, IsPutFirst, PutsFirst}
+use Rattle.lhm_ring.proofs.Names.{List, None, Option, Some, [], ap, append-nil, append_assoc, arith, get_or, length, length-append}
+use Rattle.lhm_ring.proofs.Names.{length-set, refl, subst, sym, ℕ, ◌%◌, ◌++◌, ◌+◌, ◌<◌, ◌∙◌, ◌∷◌, ◌≡◌, ◌≤◌, BucketState, HoldsOthers}
+use Rattle.lhm_ring.proofs.Names.{Indexes, IsPutFirst, PutsFirst, entries, spot, spots, AtHeld, Held, IsHeld, first_at, linked_to, Ptr}
+use Rattle.lhm_ring.proofs.{indexes.Entries.entries-link, indexes.Entries.length-same_entries, rings.Ends.First, rings.Ends.First-first_at}
+use Rattle.lhm_ring.proofs.indexes.{IndexMoves.PutsIn-last, Spots.PutsIn-spots, WholeBuckets.Indexes-put}
 
 module _ {K V : Type 0} where
   -- the node that comes last is the one that the buckets lack

@@ -1,15 +1,11 @@
 -- A node is removed from its chain.
-use Rattle.std.proofs.Common.{◌≡◌, ℕ, ◌%◌, ◌<◌, List, [], ◌∷◌, ◌++◌, sym, ◌∙◌, ap, subst, Bool, true, length, get_or, set, arith, Option}
-use Rattle.std.proofs.Common.{Some, None, append_assoc}
-use Rattle.std.specs.Prelude.{filter}
-use Rattle.std.proofs.Math.Nat.{mod-lt}
-use denote.RawPtr.{Ptr}
-use Rattle.lhm_ring.proofs.lists.Rearranged.{IsRearranged-less_middle, PutsIn-later}
-use Rattle.lhm_ring.proofs.lists.RearrangedFilters.{PutsPassing-rearranged, PutsIn-filter_in}
-use Rattle.lhm_ring.proofs.indexes.Spots.{NodeOf, NodeOf-spot, IsHeld-spot, PutsIn-spots_of, OfNodeAt-spot}
+use Rattle.lhm_ring.proofs.Names.{Bool, List, None, Option, Some, [], ap, append_assoc, arith, get_or, length, set, subst, sym, true, ℕ}
+use Rattle.lhm_ring.proofs.Names.{◌%◌, ◌++◌, ◌<◌, ◌∙◌, ◌∷◌, ◌≡◌, filter, HasChains, IsChain, IsLast, IsOnChain, IsRearranged, OfNodeAt}
+use Rattle.lhm_ring.proofs.Names.{PutsIn, Spot, is_in, spot, spots, AtHeld, Held, IsHeld, SplitLast, linked_to, mod-lt, Ptr}
+use Rattle.lhm_ring.proofs.indexes.Spots.{IsHeld-spot, NodeOf, NodeOf-spot, OfNodeAt-spot, PutsIn-spots_of}
 use Rattle.lhm_ring.proofs.indexes.WholeIndex.{HasChains-take_first, HasChains-take_next}
-use Rattle.lhm_ring.specs.Ring.{Held, IsHeld, AtHeld, linked_to, SplitLast}
-use Rattle.lhm_ring.specs.Index.{PutsIn, IsRearranged, IsChain, is_in, HasChains, Spot, spot, spots, OfNodeAt, IsLast, IsOnChain}
+use Rattle.lhm_ring.proofs.lists.Rearranged.{IsRearranged-less_middle, PutsIn-later}
+use Rattle.lhm_ring.proofs.lists.RearrangedFilters.{PutsIn-filter_in, PutsPassing-rearranged}
 
 -- the heads have every node except the one at p
 pub record HasOtherChains {K V : Type 0} (heads : List (Option Ptr)) (nodes : List (Held (K × V))) (p : Ptr) : Type 0 where

@@ -1,15 +1,12 @@
 -- A chain that is cut behind one of its nodes, so that the node is its last.
-use Rattle.std.proofs.Common.{◌≡◌, ℕ, ◌+◌, ◌%◌, ◌<◌, ◌≤◌, List, [], ◌∷◌, ◌++◌, inl, inr, refl, sym, ◌∙◌, ap, subst, Bool, length, get_or}
-use Rattle.std.proofs.Common.{arith, Option, Some, None, append_assoc, length-append}
-use Rattle.std.specs.Prelude.{filter}
-use Rattle.std.proofs.Math.Nat.{mod-lt}
-use denote.RawPtr.{Ptr}
+use Rattle.lhm_ring.proofs.Names.{Bool, List, None, Option, Some, [], ap, append_assoc, arith, get_or, inl, inr, length, length-append}
+use Rattle.lhm_ring.proofs.Names.{refl, subst, sym, ℕ, ◌%◌, ◌++◌, ◌+◌, ◌<◌, ◌∙◌, ◌∷◌, ◌≡◌, ◌≤◌, filter, HasChains, IsChain, IsLast}
+use Rattle.lhm_ring.proofs.Names.{IsOnChain, IsRearranged, OfNodeAt, Spot, is_in, spot, spots, AtHeld, Held, IsHeld, SplitAt, State}
+use Rattle.lhm_ring.proofs.Names.{linked_to, mod-lt, Ptr}
 use Rattle.lhm_ring.proofs.indexes.Chains.{ChainFirst, ChainFirst-some, IsChain-tail, none-IsChain}
 use Rattle.lhm_ring.proofs.indexes.IndexTakes.{OnNode, OnNode-rearranged, length-HasChains}
+use Rattle.lhm_ring.proofs.indexes.Spots.{IsHeld-spot, OfNodeAt-spot, PutsIn-bucket, PutsIn-spots_of, length-in_bucket}
 use Rattle.lhm_ring.proofs.lists.Rearranged.{IsRearranged-less_middle, IsRearranged-more_middle, SplitAround-rearranged}
-use Rattle.lhm_ring.proofs.indexes.Spots.{IsHeld-spot, length-in_bucket, PutsIn-spots_of, PutsIn-bucket, OfNodeAt-spot}
-use Rattle.lhm_ring.specs.Ring.{State, Held, IsHeld, AtHeld, linked_to, SplitAt}
-use Rattle.lhm_ring.specs.Index.{IsRearranged, IsChain, is_in, HasChains, Spot, spot, spots, OfNodeAt, IsLast, IsOnChain}
 
 -- the chain of the held node x: us come before it there, and vs after it
 pub record OnItsChain {K V : Type 0} (heads : List (Option Ptr)) (hash : ℕ) (nodes : List (Held (K × V))) (x : Held (K × V)) : Type 0 where

@@ -1,21 +1,15 @@
 -- The steps of a search along a chain.
-use Rattle.std.proofs.Common.{◌≡◌, ℕ, ◌+◌, ◌%◌, ◌<◌, ◌≤◌, ◌&&◌, List, [], ◌∷◌, ◌++◌, inl, inr, refl, sym, ◌∙◌, ap, subst, Bool, true, false}
-use Rattle.std.proofs.Common.{not, cond, length, get_or, arith, Option, Some, None, eqb, append_assoc, length-append, append-nil}
-use Rattle.std.proofs.lemmas.Bool.{false≢true, eqb-true, ne_eqb, eq-eqb}
-use Rattle.std.proofs.lemmas.List.{length-map}
-use Rattle.std.specs.Prelude.{filter}
-use Rattle.std.proofs.lemmas.List.Sums.{length-filter, count_by-le-length}
-use Rattle.std.proofs.lemmas.Bool.Decides.{eqb_tells}
-use denote.RawPtr.{Ptr}
+use Rattle.lhm_ring.proofs.Names.{Bool, List, None, Option, Some, [], ap, append-nil, append_assoc, arith, cond, eq-eqb, eqb, false, get_or}
+use Rattle.lhm_ring.proofs.Names.{inl, inr, length, length-append, not, refl, subst, sym, true, ℕ, ◌%◌, ◌&&◌, ◌++◌, ◌+◌, ◌<◌, ◌∙◌, ◌∷◌, ◌≡◌}
+use Rattle.lhm_ring.proofs.Names.{◌≤◌, filter, HasChain, HasChains, IsChain, IsOnChain, IsRearranged, OfNodeAt, Spot, count_in_bucket}
+use Rattle.lhm_ring.proofs.Names.{count_with_hash, is_in, spot, spots, Held, IsHeld, Compares, DifferAll, FindsKey, FindsNone, IsPart}
+use Rattle.lhm_ring.proofs.Names.{eqb-true, false≢true, ne_eqb, length-map, count_by-le-length, length-filter, Ptr}
 use Rattle.lhm_ring.proofs.indexes.Chains.{ChainFirst, ChainFirst-some, IsChain-tail, none-IsChain}
-use Rattle.lhm_ring.proofs.indexes.IndexTakes.{OnNode-rearranged, OnNode-on_chain, IsHeld-on_chain}
+use Rattle.lhm_ring.proofs.indexes.IndexTakes.{IsHeld-on_chain, OnNode-on_chain, OnNode-rearranged}
+use Rattle.lhm_ring.proofs.indexes.Spots.{IsHeld-spot, OfNodeAt-spot, PutsIn-bucket}
 use Rattle.lhm_ring.proofs.lists.Rearranged.{SplitAround-rearranged}
-use Rattle.lhm_ring.proofs.lists.RearrangedCounts.{count_by-IsRearranged, length-IsRearranged, count_by-cons, count_by-append}
-use Rattle.lhm_ring.proofs.indexes.Spots.{IsHeld-spot, PutsIn-bucket, OfNodeAt-spot}
-use Rattle.lhm_ring.specs.Ring.{Held, IsHeld}
-use Rattle.lhm_ring.specs.Index.{IsRearranged, IsChain, IsOnChain, is_in, HasChain, HasChains, Spot, spot, spots}
-use Rattle.lhm_ring.specs.Index.{count_with_hash, count_in_bucket, OfNodeAt}
-use Rattle.lhm_ring.specs.Search.{Compares, DifferAll, IsPart, FindsKey, FindsNone}
+use Rattle.lhm_ring.proofs.lists.RearrangedCounts.{count_by-IsRearranged, count_by-append, count_by-cons, length-IsRearranged}
+use Rattle.std.proofs.lemmas.Bool.Decides.{eqb_tells}
 
 -- ---- counts in the chain
 

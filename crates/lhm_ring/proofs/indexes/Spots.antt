@@ -1,15 +1,8 @@
 -- The spots of nodes, and the node of a spot.
-use Rattle.std.proofs.Common.{◌≡◌, ℕ, ◌%◌, ◌≤◌, List, length, arith, Bool, [], ◌∷◌, ◌++◌, inl, inr, refl, sym, ◌∙◌, ap}
-use Rattle.std.specs.Prelude.{filter}
-use Rattle.std.proofs.lemmas.Bool.{eq-eqb}
-use Rattle.std.proofs.lemmas.List.{length-map}
-use Rattle.std.proofs.lemmas.List.Sums.{length-filter, count_by-le-length}
-use denote.RawPtr.{Ptr}
-use Rattle.lhm_ring.proofs.lists.Rearranged.{PutsIn-there}
-use Rattle.lhm_ring.proofs.lists.RearrangedCounts.{length-IsRearranged}
-use Rattle.lhm_ring.proofs.lists.RearrangedFilters.{PutsIn-filter_in}
-use Rattle.lhm_ring.specs.Ring.{Held, IsHeld, SplitAt}
-use Rattle.lhm_ring.specs.Index.{PutsIn, IsRearranged, Spot, spot, spots, is_in, OfNodeAt}
+use Rattle.lhm_ring.proofs.Names.{Bool, List, [], ap, arith, eq-eqb, inl, inr, length, refl, sym, ℕ, ◌%◌, ◌++◌, ◌∙◌, ◌∷◌, ◌≡◌, ◌≤◌, filter}
+use Rattle.lhm_ring.proofs.Names.{IsRearranged, OfNodeAt, PutsIn, Spot, is_in, spot, spots, Held, IsHeld, SplitAt, length-map}
+use Rattle.lhm_ring.proofs.Names.{count_by-le-length, length-filter, Ptr}
+use Rattle.lhm_ring.proofs.lists.{Rearranged.PutsIn-there, RearrangedCounts.length-IsRearranged, RearrangedFilters.PutsIn-filter_in}
 
 pub PutsIn-spots : {K V : Type 0} (before : List (Held (K × V))) (x : Held (K × V)) (after : List (Held (K × V)))
     → PutsIn (spot x) (spots (before ++ after)) (spots (before ++ x ∷ after))

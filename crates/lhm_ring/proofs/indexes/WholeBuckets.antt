@@ -1,19 +1,11 @@
 -- What the buckets have, chains and bits together, once a node is put in, moved or removed.
-use Rattle.std.proofs.Common.{◌≡◌, ◌≢◌, ℕ, ◌%◌, ◌<◌, List, [], ◌∷◌, ◌++◌, refl, sym, ◌∙◌, ap, subst, arith, length, get_or, set, Option}
-use Rattle.std.proofs.Common.{Some, None, length-set, get_or-set_same}
-use Rattle.std.specs.Prelude.{filter, is_some}
-use Rattle.std.specs.Option.{IsSome}
-use denote.RawPtr.{Ptr}
-use Rattle.lhm_ring.proofs.indexes.Chains.{none-IsChain}
-use Rattle.lhm_ring.proofs.indexes.Filters.{CoversAll-put, CoversAll-others, CoversAll-more, CoversAll-cleared, CoversAll-entries}
-use Rattle.lhm_ring.proofs.indexes.Filters.{may_contain-covered}
-use Rattle.lhm_ring.proofs.indexes.IndexMoves.{HasChains-moved}
-use Rattle.lhm_ring.proofs.indexes.IndexTakes.{HasOtherChains}
-use Rattle.lhm_ring.proofs.indexes.Spots.{PutsIn-spots}
-use Rattle.lhm_ring.proofs.indexes.WholeIndex.{HasChains-put, HasChains-none, get_or-none_indexed}
-use Rattle.lhm_ring.specs.Buckets.{BucketState, HasNoChain, SetsBit, may_contain}
-use Rattle.lhm_ring.specs.Index.{PutsIn, IsRearranged, is_in, HasChains, CoversAll, Indexes, HoldsOthers, Spot, spot, spots, entries}
-use Rattle.lhm_ring.specs.Ring.{Held}
+use Rattle.lhm_ring.proofs.Names.{List, None, Option, Some, [], ap, arith, get_or, get_or-set_same, length, length-set, refl, set, subst}
+use Rattle.lhm_ring.proofs.Names.{sym, ℕ, ◌%◌, ◌++◌, ◌<◌, ◌∙◌, ◌∷◌, ◌≡◌, ◌≢◌, filter, is_some, BucketState, HasNoChain, SetsBit}
+use Rattle.lhm_ring.proofs.Names.{may_contain, CoversAll, HasChains, HoldsOthers, Indexes, IsRearranged, PutsIn, Spot, entries, is_in, spot}
+use Rattle.lhm_ring.proofs.Names.{spots, Held, IsSome, Ptr}
+use Rattle.lhm_ring.proofs.indexes.{Chains.none-IsChain, Filters.may_contain-covered, IndexMoves.HasChains-moved, IndexTakes.HasOtherChains}
+use Rattle.lhm_ring.proofs.indexes.Filters.{CoversAll-cleared, CoversAll-entries, CoversAll-more, CoversAll-others, CoversAll-put}
+use Rattle.lhm_ring.proofs.indexes.{Spots.PutsIn-spots, WholeIndex.HasChains-none, WholeIndex.HasChains-put, WholeIndex.get_or-none_indexed}
 
 pub Indexes-none : (i : BucketState) → HasNoChain i → length i.words ≡ length i.heads → Indexes i []
 Indexes-none i empty count = record { chains = HasChains-none i.heads empty; covers = tt; count = count }

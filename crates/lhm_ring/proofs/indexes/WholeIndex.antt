@@ -1,16 +1,11 @@
 -- The whole index, once a node is put in or removed.
-use Rattle.std.proofs.Common.{◌≡◌, ◌≢◌, ℕ, ◌%◌, ◌<◌, List, [], ◌∷◌, ◌++◌, refl, sym, ◌∙◌, ap, subst, Bool, true, false, length, get_or, set}
-use Rattle.std.proofs.Common.{arith, Option, Some, None, eqb}
-use Rattle.std.specs.Prelude.{filter}
-use Rattle.std.proofs.lemmas.Bool.{eqb-true, ne_eqb, eq-eqb}
-use Rattle.std.proofs.lemmas.List.{get_or-set_same, get_or-set_other, length-set}
-use Rattle.std.proofs.Math.Nat.{mod-lt}
-use denote.RawPtr.{Ptr}
-use Rattle.lhm_ring.proofs.indexes.Chains.{HasChain-other, HasChain-push, HasChain-other_removed, IsChain-linked_past, none-unchained}
-use Rattle.lhm_ring.proofs.lists.Rearranged.{PutsIn-here, PutsIn-there, IsRearranged-less, IsRearranged-less_middle}
-use Rattle.lhm_ring.proofs.lists.Rearranged.{IsRearranged-more_middle, PutsIn-under}
-use Rattle.lhm_ring.proofs.lists.RearrangedFilters.{PutsPassing, PutsIn-filter_in, PutsPassing-rearranged}
-use Rattle.lhm_ring.specs.Index.{PutsIn, IsRearranged, IsChain, is_in, HasChain, HasChains, Spot}
+use Rattle.lhm_ring.proofs.Names.{Bool, List, None, Option, Some, [], ap, arith, eq-eqb, eqb, false, get_or, get_or-set_other}
+use Rattle.lhm_ring.proofs.Names.{get_or-set_same, length, length-set, refl, set, subst, sym, true, ℕ, ◌%◌, ◌++◌, ◌<◌, ◌∙◌, ◌∷◌, ◌≡◌, ◌≢◌}
+use Rattle.lhm_ring.proofs.Names.{filter, HasChain, HasChains, IsChain, IsRearranged, PutsIn, Spot, is_in, mod-lt, eqb-true, ne_eqb, Ptr}
+use Rattle.lhm_ring.proofs.indexes.Chains.{HasChain-other, HasChain-other_removed, HasChain-push, IsChain-linked_past, none-unchained}
+use Rattle.lhm_ring.proofs.lists.Rearranged.{IsRearranged-less, IsRearranged-less_middle, IsRearranged-more_middle, PutsIn-here}
+use Rattle.lhm_ring.proofs.lists.Rearranged.{PutsIn-there, PutsIn-under}
+use Rattle.lhm_ring.proofs.lists.RearrangedFilters.{PutsIn-filter_in, PutsPassing, PutsPassing-rearranged}
 
 -- a spot of one bucket is in no other
 is_in-other : (n b c : ℕ) (s : Spot) → is_in n b s ≡ true → b ≢ c → is_in n c s ≡ false

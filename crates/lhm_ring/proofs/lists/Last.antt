@@ -1,7 +1,5 @@
 -- The last element of a list, and the first, or another one if it is empty.
-use Rattle.std.proofs.Common.{List, [], ◌∷◌, refl, ap, arith}
-use Rattle.std.specs.List.{AllByRecursion}
-use Rattle.lhm_ring.specs.Ring.{SplitLast}
+use Rattle.lhm_ring.proofs.Names.{List, [], ap, arith, refl, ◌∷◌, SplitLast, AllByRecursion}
 
 module _ {X : Type 0} where
   abbrev pub first_from : X → List X → X

@@ -1,6 +1,5 @@
 -- Lists that are one another in another order.
-use Rattle.std.proofs.Common.{◌≡◌, List, [], ◌∷◌, ◌++◌, ◌⊎◌, inl, inr, refl, sym, ◌∙◌, ap, subst, arith}
-use Rattle.lhm_ring.specs.Index.{PutsIn, IsRearranged}
+use Rattle.lhm_ring.proofs.Names.{List, [], ap, arith, inl, inr, refl, subst, sym, ◌++◌, ◌∙◌, ◌∷◌, ◌≡◌, ◌⊎◌, IsRearranged, PutsIn}
 use Rattle.lhm_ring.proofs.lists.Splits.{SplitAround}
 
 module _ {X : Type 0} where

@@ -1,17 +1,9 @@
 -- The pointers of what a ring holds are the starts of blocks.
-use Rattle.std.proofs.Common.{◌≡◌, ℕ, true, List, [], ◌∷◌, ◌++◌, map, Some, sym, ap, ◌∙◌, subst}
-use Rattle.std.specs.List.{AllByRecursion}
-use denote.RawPtr.{Ptr}
-use Rattle.lhm_ring.specs.declared.ring.Links.{Links}
-use Rattle.lhm_ring.specs.declared.ring.Ends.{Ends}
-use Rattle.lhm_ring.specs.declared.pointer.Link.{Link}
-use Rattle.lhm_ring.proofs.rings.Contents.{at-content, IsAt-content}
-use Rattle.lhm_ring.proofs.rings.Lookup.{AllByRecursion-at}
-use Rattle.lhm_ring.proofs.rings.RingCells.{same_ptr-content, is_block-there}
-use Rattle.lhm_ring.proofs.rings.RingNodes.{ring_list-listed}
-use Rattle.lhm_ring.specs.Nodes.{Cell, pointers, links_at, is_block, AreBlocks}
-use Rattle.lhm_ring.specs.Links.{ring_cells, has_links, one_of, HasContent, listed, ring_list, IsOwned}
-use Rattle.lhm_ring.specs.Ring.{State, state, Held}
+use Rattle.lhm_ring.proofs.Names.{List, Some, [], ap, map, subst, sym, true, ℕ, ◌++◌, ◌∙◌, ◌∷◌, ◌≡◌, HasContent, IsOwned, has_links, listed}
+use Rattle.lhm_ring.proofs.Names.{one_of, ring_cells, ring_list, AreBlocks, Cell, is_block, links_at, pointers, Held, State, state, Link}
+use Rattle.lhm_ring.proofs.Names.{Ends, Links, AllByRecursion, Ptr}
+use Rattle.lhm_ring.proofs.rings.{Contents.IsAt-content, Contents.at-content, Lookup.AllByRecursion-at, RingNodes.ring_list-listed}
+use Rattle.lhm_ring.proofs.rings.RingCells.{is_block-there, same_ptr-content}
 
 module _ {B : Type 0} (e : Ends) (nodes : List (Cell Links B)) (all : AreBlocks (pointers nodes)) where
   abbrev cs : List (Cell Links B)

@@ -1,20 +1,15 @@
 -- An empty block by value, and a pointer. Assumes `Logic`.
-use Rattle.lhm_ring.proofs.memory.Steps.{◌≡◌, ℕ, ◌+◌, ◌<◌, true, List, [], ◌∷◌, ◌++◌, refl, ◌∙◌, subst, T, full_share, Val, SProp, size}
-use Rattle.lhm_ring.proofs.memory.Steps.{◌∵◌, ‵, ◌⊛◌, ◌$◌, !, qed, by, move, keep, drop, use1, split, fsplit, feq_l, fact, layout, Ptr}
-use Rattle.lhm_ring.proofs.memory.Steps.{block_ptr, ptr_val, lies_at, room_for, word, arith, froom, sem, RattleType, via, emp, never}
-use Rattle.lhm_ring.proofs.memory.Steps.{part_at, Fml, vstruct, vcons, vnil, pick, some, fat, given, learn, Good, ent, Ura, Logic, sep}
-use Rattle.lhm_ring.proofs.memory.Steps.{false, has_ty, WT, Struct, fact_i, never_e, fst∗, Item, Goal, fpick, null_ptr, makes_shadow, shape}
-use Rattle.lhm_ring.proofs.memory.Steps.{knows}
-use mir.Val.{of_list}
-use mir.Syntax.{ty_ptr, ty_struct, tcons, tnil}
-use mir.Raw.{raw as bare}
-use prog.Model.{Model}
-use types.Kit.{Seq}
+use Rattle.lhm_ring.proofs.Names.{List, T, [], arith, false, refl, subst, true, ℕ, ◌++◌, ◌+◌, ◌<◌, ◌∙◌, ◌∷◌, ◌≡◌, block_owns, links_address}
+use Rattle.lhm_ring.proofs.Names.{pointers, same_ptr, Good, word, Fml, fat, froom, full_share, SProp, emp, ent, fst∗, never, never_e, sep}
+use Rattle.lhm_ring.proofs.Names.{via, fact, fact_i, part_at, layout, RattleType, Ptr, block_ptr, lies_at, null_ptr, ptr_val, room_for}
+use Rattle.lhm_ring.proofs.Names.{makes_shadow, shape, Struct, tcons, tnil, ty_ptr, ty_struct, Val, WT, has_ty, of_list, vcons, vnil}
+use Rattle.lhm_ring.proofs.Names.{vstruct, size, Model, Ura, !, Goal, Item, Seq, by, drop, feq_l, fpick, fsplit, given, keep, learn, move}
+use Rattle.lhm_ring.proofs.Names.{pick, qed, some, split, use1, ‵, ◌$◌, ◌∵◌, ◌⊛◌, Logic, sem}
+use Rattle.lhm_ring.proofs.{lists.Apart.IsFresh, lists.Apart.same_ptr-equal, memory.Steps.knows}
+use Rattle.lhm_ring.proofs.memory.NodeFields.{Cells, Node, Pl, RK, RL, RV, Three, lo, value_out}
 use Rattle.std.specs.declared.alloc.Allocator.{Ghosts}
+use mir.Raw.{raw as bare}
 use Rattle.lhm_ring.specs.contracts.nodes.Block as R-type
-use Rattle.lhm_ring.proofs.lists.Apart.{same_ptr-equal, IsFresh}
-use Rattle.lhm_ring.proofs.memory.NodeFields.{Three, RL, RK, RV, lo, Node, Pl, Cells, value_out}
-use Rattle.lhm_ring.specs.Nodes.{same_ptr, pointers, block_owns, links_address}
 
 abbrev pub block_val : Ptr → Val
 block_val p = vstruct (vcons (ptr_val p) (vcons (vstruct vnil) vnil))

@@ -1,15 +1,9 @@
 -- Nodes with other bodies: what is read of their links stays.
-use Rattle.std.proofs.Common.{◌≡◌, ℕ, true, false, cond, List, [], ◌∷◌, map, length, suc, Option, Some, refl, ap, arith}
-use Rattle.std.specs.List.{AllByRecursion}
-use denote.RawPtr.{Ptr}
-use Rattle.lhm_ring.specs.declared.ring.Links.{Links}
-use Rattle.lhm_ring.specs.declared.pointer.Link.{Link}
-use Rattle.lhm_ring.proofs.lists.Apart.{same_ptr-equal}
-use Rattle.lhm_ring.proofs.lists.ForAll.{AllByRecursion-always}
-use Rattle.lhm_ring.proofs.lists.Options.{none_some}
-use Rattle.lhm_ring.proofs.rings.SameNodes.{SameLink, IsOwned-same}
-use Rattle.lhm_ring.specs.Nodes.{Cell, cell, cell_at, same_ptr, pointers, links_of, body_of, links_at, body_at}
-use Rattle.lhm_ring.specs.Links.{next_of, prev_of, link_of, has_links, HasContent, IsOwned}
+use Rattle.lhm_ring.proofs.Names.{List, Option, Some, [], ap, arith, cond, false, length, map, refl, suc, true, ℕ, ◌∷◌, ◌≡◌, HasContent}
+use Rattle.lhm_ring.proofs.Names.{IsOwned, has_links, link_of, next_of, prev_of, Cell, body_at, body_of, cell, cell_at, links_at, links_of}
+use Rattle.lhm_ring.proofs.Names.{pointers, same_ptr, Link, Links, AllByRecursion, Ptr}
+use Rattle.lhm_ring.proofs.lists.{Apart.same_ptr-equal, ForAll.AllByRecursion-always, Options.none_some}
+use Rattle.lhm_ring.proofs.rings.SameNodes.{IsOwned-same, SameLink}
 
 module _ {B : Type 0} (f : Ptr → Option B → Option B) where
   module _ {L : Type 0} where

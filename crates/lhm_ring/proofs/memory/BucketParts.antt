@@ -1,24 +1,14 @@
 -- The memory of a block is split into that of heads and that of words, and joined again. Assumes `Logic`.
-use Rattle.lhm_ring.proofs.memory.Steps.{◌≡◌, ℕ, ◌+◌, ◌*◌, [], ◌∷◌, refl, arith, Ura, Ty, ent, sep, SProp, ty_array}
-use Rattle.lhm_ring.proofs.memory.Steps.{◌∵◌, ‵, raw, ◌⊛◌, ◌$◌}
-use Rattle.lhm_ring.proofs.memory.Steps.{ !, qed, move, use1, use2, split, fsplit, fjoin, done, Logic, sem, layout, Laws}
-use Rattle.lhm_ring.proofs.memory.Steps.{block_ptr, froom, as_raw, RattleType}
-use Rattle.std.proofs.Common.{◌≤◌, ◌-◌}
+use Rattle.lhm_ring.proofs.Names.{[], arith, refl, ℕ, ◌*◌, ◌+◌, ◌-◌, ◌∷◌, ◌≡◌, ◌≤◌, parts_own, as_raw, as_written, El, array_of, glued}
+use Rattle.lhm_ring.proofs.Names.{room_split, froom, fwand, SProp, apply∗, ent, sep, wand, layout, RattleType, block_ptr, room_for, Ty}
+use Rattle.lhm_ring.proofs.Names.{ty_array, Ura, !, assume, done, fjoin, frame, fsplit, move, qed, raw, split, use1, use2, ‵, ◌$◌, ◌∵◌, ◌⊛◌}
+use Rattle.lhm_ring.proofs.Names.{Logic, sem}
+use Rattle.lhm_ring.proofs.memory.Lodging.{element}
+use Rattle.lhm_ring.specs.contracts.bucket_block.{Head.the_row as head, Word.the_row as word}
+use denote.Param.Laws.{Laws}
 use mir.Raw.{raw as bare}
-use base.Fml.{fwand}
-use base.Logic.{wand, apply∗}
-use denote.RawPtr.{room_for}
-use types.Kit.{assume, frame}
-use Rattle.std.specs.Allocator.{array_of}
-use Rattle.std.proofs.RawLayout.{as_written}
-use Rattle.std_alloc.proofs.VecSteps.El.{El}
-use Rattle.std_alloc.proofs.VecSteps.Rows.{room_split, glued}
-use Rattle.lhm_ring.specs.contracts.bucket_block.Head.{the_row as head}
-use Rattle.lhm_ring.specs.contracts.bucket_block.Word.{the_row as word}
 use Rattle.lhm_ring.proofs.bucket_block.Head.TheLaws as head-laws
 use Rattle.lhm_ring.proofs.bucket_block.Word.TheLaws as word-laws
-use Rattle.lhm_ring.proofs.memory.Lodging.{element}
-use Rattle.lhm_ring.specs.BucketBlock.{parts_own}
 
 -- the same with no name in their machine types, as a call of a generic function has them
 abbrev pub head₀ : RattleType

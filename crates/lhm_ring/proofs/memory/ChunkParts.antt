@@ -1,28 +1,14 @@
 -- The memory of a chunk's block is split into that of its head and that of its nodes. Assumes `Logic`.
-use Rattle.lhm_ring.proofs.memory.Steps.{◌≡◌, ℕ, ◌+◌, ◌*◌, [], ◌∷◌, refl, sym, ap, ◌∙◌, arith, Ura, Ty, ent, sep, SProp, ty_array, ◌∵◌, ‵}
-use Rattle.lhm_ring.proofs.memory.Steps.{raw, ◌⊛◌, ◌$◌}
-use Rattle.lhm_ring.proofs.memory.Steps.{ !, qed, move, use1, use2, split, fsplit, fjoin, rewrite, done, Logic, sem, layout, size}
-use Rattle.lhm_ring.proofs.memory.Steps.{block_ptr, froom, as_raw}
-use Rattle.std.proofs.Common.{◌/◌, zero, suc}
-use native.Mathlib.Nat.{mul_assoc}
-use Rattle.std.proofs.ptr.Rows.{one_more, next}
+use Rattle.lhm_ring.proofs.Names.{[], ap, arith, refl, suc, sym, zero, ℕ, ◌*◌, ◌+◌, ◌/◌, ◌∙◌, ◌∷◌, ◌≡◌, IsChunk, chunk_type, chunk_units}
+use Rattle.lhm_ring.proofs.Names.{head_type, unit_bytes, as_raw, as_written, next, one_more, type_size, froom, fwand, SProp, apply∗, ent}
+use Rattle.lhm_ring.proofs.Names.{sep, wand, layout, block_ptr, room_for, Ty, tcons, tnil, ty_array, ty_int, w64, mul_assoc, align, size}
+use Rattle.lhm_ring.proofs.Names.{Ura, !, assume, done, fjoin, frame, fsplit, move, qed, raw, rewrite, split, use1, use2, ‵, ◌$◌, ◌∵◌, ◌⊛◌}
+use Rattle.lhm_ring.proofs.Names.{Logic, sem}
+use Rattle.lhm_ring.proofs.memory.{ChunkSizes.units-times, PlaceCut.written, NodeFields.RK, NodeFields.RL, NodeFields.RV, NodeFields.Three}
+use Rattle.lhm_ring.specs.{Nodes.parts_own, contracts.nodes.ChunkUnit.the_row as unit, contracts.nodes.Node.the_row as node}
+use denote.RawPtr.Room.{past, room_cut, room_glue}
 use mir.Raw.{raw as bare}
-use mir.Syntax.{w64, ty_int, tcons, tnil}
-use base.Fml.{fwand}
-use base.Logic.{wand, apply∗}
-use denote.RawPtr.{room_for}
-use denote.RawPtr.Room.{room_cut, room_glue, past}
-use prog.Align.{head_aligns, tail_aligns, Dv}
-use prog.Memory.{align}
-use types.Kit.{assume, frame}
-use Rattle.std.specs.Mem.{type_size}
-use Rattle.std.proofs.RawLayout.{as_written}
-use Rattle.lhm_ring.specs.contracts.nodes.ChunkUnit.{the_row as unit}
-use Rattle.lhm_ring.specs.contracts.nodes.Node.{the_row as node}
-use Rattle.lhm_ring.proofs.memory.ChunkSizes.{units-times}
-use Rattle.lhm_ring.proofs.memory.NodeFields.{Three, RL, RK, RV}
-use Rattle.lhm_ring.proofs.memory.PlaceCut.{written}
-use Rattle.lhm_ring.specs.Nodes.{parts_own, chunk_type, chunk_units, unit_bytes, IsChunk, head_type}
+use prog.Align.{Dv, head_aligns, tail_aligns}
 
 -- where m values of τ end
 pub past-times : (τ : Ty) (m o : ℕ) → past τ m o ≡ o + m * size τ

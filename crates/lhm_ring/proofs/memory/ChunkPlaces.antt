@@ -1,13 +1,11 @@
 -- The land of nodes is taken apart from them, and the memory of a chunk is cut into places, and
 -- made of them again. Assumes `Logic`.
-use Rattle.lhm_ring.proofs.memory.Steps.{ℕ, ◌+◌, List, [], ◌∷◌, ◌++◌, refl, sym, full_share, ftrue, ◌∵◌, ‵, ◌⊛◌, ◌$◌, !, qed, by, move}
-use Rattle.lhm_ring.proofs.memory.Steps.{keep, drop, use1, use2, split, fsplit, fjoin, rewrite, layout, Ptr, block_ptr, lies_at, room_for}
-use Rattle.lhm_ring.proofs.memory.Steps.{id⊢, ty_array, froom, sem, in_a_block, never, Fml, fjoin3, nothing, ent, Ura, Logic, sep, done}
-use Rattle.lhm_ring.proofs.memory.Steps.{as_raw}
-use Rattle.std.proofs.Common.{zero, suc}
+use Rattle.lhm_ring.proofs.Names.{List, [], refl, suc, sym, zero, ℕ, ◌++◌, ◌+◌, ◌∷◌, Chunk, body_owns, chunks_own, deed_owns, links_address}
+use Rattle.lhm_ring.proofs.Names.{node_bytes, places_own, pointers, row, as_raw, Fml, froom, ftrue, full_share, ent, id⊢, never, sep}
+use Rattle.lhm_ring.proofs.Names.{layout, Ptr, block_ptr, in_a_block, lies_at, room_for, nothing, ty_array, Ura, !, by, done, drop, fjoin}
+use Rattle.lhm_ring.proofs.Names.{fjoin3, fsplit, keep, move, qed, rewrite, split, use1, use2, ‵, ◌$◌, ◌∵◌, ◌⊛◌, Logic, sem}
+use Rattle.lhm_ring.proofs.memory.NodeFields.{Cells, Node, One, RK, RL, RV, Three, body_uninit, ko, lo, uninit_left, vo}
 use Rattle.lhm_ring.proofs.memory.PlaceCut.{block, block_glue}
-use Rattle.lhm_ring.proofs.memory.NodeFields.{Three, RL, RK, RV, lo, ko, vo, Node, One, Cells, uninit_left, body_uninit}
-use Rattle.lhm_ring.specs.Nodes.{pointers, row, links_address, body_owns, deed_owns, node_bytes, places_own, chunks_own, Chunk}
 
 module _ {M : Type 1} {𝓤 : Ura M} (𝓛 : Logic 𝓤) (E : Three) where
   pub land_cut : (Z : Fml) (cs : List (Node E)) → ent 𝓤 (sem 𝓛 (Cells E Z cs)) (sep 𝓤 (sem 𝓛 Z) (sem 𝓛 (Cells E ftrue cs)))

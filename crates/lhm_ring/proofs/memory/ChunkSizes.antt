@@ -1,9 +1,7 @@
 -- How many units a chunk takes, and how many bytes these have.
-use Rattle.std.proofs.Common.{◌≡◌, ℕ, zero, suc, ◌+◌, ◌*◌, ◌/◌, ◌%◌, ◌<◌, ◌≤◌, ◌^◌, sym, ap, ◌∙◌, subst, arith}
-use native.Mathlib.Nat.{mul_assoc, add-mul, zero-mul, mul-zero, suc-mul, div-add-mod', le-mul_of_pos_right, lt_of_le_of_lt}
-use Rattle.std.proofs.ptr.Rows.{one_below}
-use prog.Capped.{capped_is, capped_small}
-use prog.Memory.{capped}
+use Rattle.lhm_ring.proofs.Names.{ap, arith, subst, suc, sym, zero, ℕ, ◌%◌, ◌*◌, ◌+◌, ◌/◌, ◌<◌, ◌^◌, ◌∙◌, ◌≡◌, ◌≤◌, one_below, add-mul}
+use Rattle.lhm_ring.proofs.Names.{div-add-mod', le-mul_of_pos_right, lt_of_le_of_lt, mul-zero, mul_assoc, suc-mul, zero-mul, capped_is}
+use Rattle.lhm_ring.proofs.Names.{capped_small, capped}
 
 -- so many units have the bytes of a head and n nodes
 pub units-times : (u s n : ℕ) → 16 / u * u ≡ 16 → s / u * u ≡ s → (16 / u + n * (s / u)) * u ≡ 16 + n * s

@@ -1,13 +1,9 @@
 -- What one node holds is moved out of what is lent. Assumes `Logic`.
-use Rattle.lhm_ring.proofs.memory.Steps.{◌≡◌, true, List, [], ◌∷◌, ◌++◌, refl, sym, ap, ◌∙◌, None, ◌∵◌, ‵, ◌⊛◌, ◌$◌, !, qed, move, use1}
-use Rattle.lhm_ring.proofs.memory.Steps.{use2, split, fsplit, fjoin, Ptr, id⊢, sem, Some, Fml, Option, ent, Ura, Logic, sep, done, false}
-use Rattle.std.proofs.Common.{cond}
-use Rattle.lhm_ring.proofs.lists.Apart.{same_ptr-equal}
-use Rattle.lhm_ring.proofs.memory.NodeFields.{Three, RL, RK, RV}
-use Rattle.lhm_ring.proofs.lists.Options.{none_some}
-use Rattle.lhm_ring.specs.Nodes.{same_ptr, body_owns}
-use Rattle.lhm_ring.specs.ContentLoan.{body_in, without_body, bodies, firsts, seconds}
-use Rattle.lhm_ring.proofs.lists.Splits.{SplitAround}
+use Rattle.lhm_ring.proofs.Names.{List, None, Option, Some, [], ap, cond, false, refl, sym, true, ◌++◌, ◌∙◌, ◌∷◌, ◌≡◌, bodies, body_in}
+use Rattle.lhm_ring.proofs.Names.{firsts, seconds, without_body, body_owns, same_ptr, Fml, ent, id⊢, sep, Ptr, Ura, !, done, fjoin, fsplit}
+use Rattle.lhm_ring.proofs.Names.{move, qed, split, use1, use2, ‵, ◌$◌, ◌∵◌, ◌⊛◌, Logic, sem}
+use Rattle.lhm_ring.proofs.lists.{Apart.same_ptr-equal, Options.none_some, Splits.SplitAround}
+use Rattle.lhm_ring.proofs.memory.NodeFields.{RK, RL, RV, Three}
 
 module _ {B : Type 0} where
   pub record CutBody (cs : List (Ptr × Option B)) (p : Ptr) (x : B) : Type 0 where

@@ -4,33 +4,22 @@
 --     uninitialised memory
 --     BareRow      the nodes without bodies, as a type: what a `&` to nodes of holes shows is what
 --     a `&` to it shows
-use Rattle.lhm_ring.proofs.memory.Steps.{ℕ, ◌+◌, List, [], ◌∷◌, refl, None, full_share, Val, ◌∵◌, ‵, raw, ◌⊛◌, ◌$◌, !, qed, by, move, keep}
-use Rattle.lhm_ring.proofs.memory.Steps.{drop, use1, use2, split, fsplit, fsplit3, fjoin, feq_i, layout, Ptr, block_ptr, lies_at, id⊢}
-use Rattle.lhm_ring.proofs.memory.Steps.{ty_array, froom, sem, RattleType, emp, Some, part_at, Fml, fsep, fjoin3, Option, vstruct, vcons}
-use Rattle.lhm_ring.proofs.memory.Steps.{vnil, Lft, SemTy, mem, fseps, fpack, fat, ent, Ura, Logic, sep, done, part_of, Struct, as_raw}
-use Rattle.lhm_ring.proofs.memory.Steps.{never_e, Item, Goal, fpick, null_ptr, makes_shadow, Incl, Valss, Laws, Shares-less, Lends, lent_at}
-use Rattle.lhm_ring.proofs.memory.Steps.{Lends-lies, Lends-first, within}
-use types.SemTy.{Body as Borrowed}
-use base.Fml.{GName, ffalse, fex}
-use types.Kit.{Step, step}
-use mir.Syntax.{w8, ty_int}
-use denote.Array.{Array, shape, each}
-use denote.Builtin.{u8}
-use denote.Memory.{cell_at}
-use denote.Ref.{NamedLft}
-use denote.Shares.{Shares}
-use denote.Steps.{nothing as empty}
+use Rattle.lhm_ring.proofs.Names.{List, None, Option, Some, [], refl, ℕ, ◌+◌, ◌∷◌, Bodies, bodies, bodies_of, cleared, firsts, seconds}
+use Rattle.lhm_ring.proofs.Names.{Cell, body_owns, cell, cell_lent, cells_lent, deed_owns, land_owns, links_address, cleared_nodes, Nodes}
+use Rattle.lhm_ring.proofs.Names.{as_raw, Fml, GName, Incl, Lft, fat, fex, ffalse, froom, fsep, fseps, full_share, emp, ent, id⊢, never_e}
+use Rattle.lhm_ring.proofs.Names.{sep, Array, each, u8, mem, part_at, part_of, layout, RattleType, Valss, Ptr, block_ptr, lies_at, null_ptr}
+use Rattle.lhm_ring.proofs.Names.{NamedLft, makes_shadow, Shares-less, nothing as empty, Lends, Lends-first, Lends-lies, lent_at, Struct}
+use Rattle.lhm_ring.proofs.Names.{within, ty_array, ty_int, w8, Val, vcons, vnil, vstruct, Ura, !, Goal, Item, Step, by, done, drop, feq_i}
+use Rattle.lhm_ring.proofs.Names.{fjoin, fjoin3, fpack, fpick, fsplit, fsplit3, keep, move, qed, raw, split, step, use1, use2, ‵, ◌$◌, ◌∵◌}
+use Rattle.lhm_ring.proofs.Names.{◌⊛◌, Logic, sem, Body as Borrowed, SemTy}
+use Rattle.lhm_ring.proofs.memory.NodeFields.{Cells, Land, Marker, Nr, One, RK, RL, RV, Three, body_uninit, ko, marker, vo}
+use Rattle.lhm_ring.proofs.memory.PartsTaken.{Entails, parts_cut, parts_glue, ◌∗◌}
+use Rattle.lhm_ring.proofs.memory.Sharing.{Law-thin, Lends-less, Lends-parts, Thin, parts_own}
+use denote.{Array.shape, Memory.cell_at, Param.Laws.Laws, Shares.Shares}
 use denote.Struct.Owning as owning
 use Rattle.lhm_ring.specs.contracts.value_loan.Hole as H-type
 use Rattle.lhm_ring.specs.contracts.nodes.Nodes as C
 use Rattle.lhm_ring.specs.contracts.content_loan.ContentLoan as S-type
-use Rattle.lhm_ring.proofs.memory.NodeFields.{Three, RL, RK, RV, ko, vo, Marker, Nr, One, Land, Cells, marker, body_uninit}
-use Rattle.lhm_ring.proofs.memory.Sharing.{parts_own, Lends-less, Lends-parts, Thin, Law-thin}
-use Rattle.lhm_ring.proofs.memory.PartsTaken.{Entails, ◌∗◌, parts_cut, parts_glue}
-use Rattle.lhm_ring.specs.declared.nodes.Nodes.{Nodes}
-use Rattle.lhm_ring.specs.Nodes.{Cell, cell, links_address, body_owns, deed_owns, land_owns, cell_lent, cells_lent}
-use Rattle.lhm_ring.specs.ContentLoan.{bodies, Bodies, bodies_of, firsts, seconds, cleared}
-use Rattle.lhm_ring.specs.RingAfterLoan.{cleared_nodes}
 
 module _ (R S W : RattleType) where
   abbrev Body : Type 0

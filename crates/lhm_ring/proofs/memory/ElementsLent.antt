@@ -1,21 +1,10 @@
 -- A `&` to elements is made where one to an element is. Assumes `Logic`.
-use Rattle.lhm_ring.proofs.memory.Steps.{ℕ, ◌*◌, ◌^◌, List, [], ◌∷◌, refl, sym, subst, full_share, sep, sem, Fml, fsep, ftrue, fbor}
-use Rattle.lhm_ring.proofs.memory.Steps.{Ura, Logic, RattleType, Laws, Lft, Incl, lfts, updating, now, done, drop, nothing, fjoin, feq_i}
-use Rattle.lhm_ring.proofs.memory.Steps.{‵, raw, ◌$◌, !, qed, Ptr, block_ptr, null_ptr, lies_at, room_for, Shares-less, length}
-use Rattle.lhm_ring.proofs.memory.Steps.{Lends, lent_at, Lends-lies, Lends-first, Lends-both}
-use Rattle.std.proofs.Common.{zero, ◌-◌, ◌<◌, Bool, arith}
-use base.Fml.{flt}
-use denote.Array.{Array}
-use denote.ArrayMemory.{Single}
-use denote.RawPtr.{in_block, ◌+ₚ◌}
-use denote.Sharing.{said}
-use denote.Shares.{Shares-Array}
-use denote.Struct.Lending.{Lends-false, Lends-said}
-use Rattle.std.specs.Allocator.{block_with_items, array_of}
-use Rattle.std.specs.Mem.{type_size}
-use Rattle.std.specs.Vec.Ownership.{owns_if, has_block}
-use Rattle.std_alloc.proofs.VecSteps.Opens.{is_live}
-use Rattle.lhm_ring.specs.BucketBlock.{elements_own, elements_lent}
+use Rattle.lhm_ring.proofs.Names.{arith, elements_lent, elements_own, block_with_items, Shares-Array, Shares-less, Lends-false, Lends-first}
+use Rattle.lhm_ring.proofs.Names.{[], array_of, type_size, has_block, full_share, RattleType, block_ptr, Lends-both, Lends-lies, Lends-said}
+use Rattle.lhm_ring.proofs.Names.{length, subst, owns_if, is_live, ftrue, in_block, lies_at, null_ptr, room_for, nothing, lent_at, updating}
+use Rattle.lhm_ring.proofs.Names.{Bool, List, refl, zero, Incl, fbor, fsep, Array, ◌+ₚ◌, said, Lends, done, drop, feq_i, fjoin, Logic, lfts}
+use Rattle.lhm_ring.proofs.Names.{sym, ℕ, ◌*◌, ◌-◌, ◌<◌, ◌^◌, ◌∷◌, Fml, Lft, flt, sep, Ptr, Ura, !, now, qed, raw, ‵, ◌$◌, sem}
+use denote.{ArrayMemory.Single, Param.Laws.Laws}
 
 module _ {M : Type 1} {𝓤 : Ura M} (𝓛 : Logic 𝓤) (l : Lft) (R : RattleType) (L : Laws R) (within : Incl l R.lives) where
   open 𝓛 use {H, A}

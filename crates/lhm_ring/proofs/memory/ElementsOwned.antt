@@ -1,15 +1,11 @@
 -- What the owner of elements is by value, and where what it owns lies. Assumes `Logic`.
 --     elements_known, elements_made      the owner is its one machine value, and what it owns
 --     in_block-block      a pointer into a block, by its block and its place
-use Rattle.lhm_ring.proofs.memory.Steps.{◌≡◌, List, [], ◌∷◌, ◌++◌, refl, ◌∙◌, Val, vstruct, vnil, ent, emp, sem, Ura, Logic}
-use Rattle.lhm_ring.proofs.memory.Steps.{‵, ◌$◌, drop, fsplit, fpick, feq_l, Item, Goal, makes_shadow, shape, Struct}
-use Rattle.lhm_ring.proofs.memory.Steps.{RattleType, Ptr, block_ptr, null_ptr}
-use mir.Val.{of_list}
-use types.Kit.{Seq}
-use denote.RawPtr.{InBlock, block_of, count_of}
+use Rattle.lhm_ring.proofs.Names.{List, [], refl, ◌++◌, ◌∙◌, ◌∷◌, ◌≡◌, elements_own, emp, ent, RattleType, InBlock, Ptr, block_of}
+use Rattle.lhm_ring.proofs.Names.{block_ptr, count_of, null_ptr, makes_shadow, shape, Struct, Val, of_list, vnil, vstruct, Ura, Goal, Item}
+use Rattle.lhm_ring.proofs.Names.{Seq, drop, feq_l, fpick, fsplit, ‵, ◌$◌, Logic, sem}
 use Rattle.lhm_ring.proofs.memory.NodeFields.{marker}
 use Rattle.lhm_ring.specs.contracts.bucket_block.Elements as E-type
-use Rattle.lhm_ring.specs.BucketBlock.{elements_own}
 
 abbrev pub Owner : RattleType → RattleType
 Owner = E-type.the_row

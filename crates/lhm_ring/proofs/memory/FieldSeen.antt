@@ -3,33 +3,21 @@
 --     Field      a field of the nodes, and what the function that shows it asks and tells
 --     Seen, field_seen      what is found at the pointer passed, and that a function of this code
 --     then meets its contract
-use Rattle.lhm_ring.proofs.memory.Steps.{◌≡◌, ℕ, ◌+◌, List, [], ◌∷◌, ◌++◌, refl, sym, ap, ◌∙◌, subst, Val, vptr, inst_fn, SProp, flft, ◌∵◌}
-use Rattle.lhm_ring.proofs.memory.Steps.{‵, raw, ◌⊛◌, at_ret, ◌$◌, !, qed, by, move, keep, drop, use1, split, join, fsplit, fjoin, rewrite}
-use Rattle.lhm_ring.proofs.memory.Steps.{feq_i, stop, fld, addr, of_opd, first, blocks, exec, returns, alloc_all, pass_all, free_all}
-use Rattle.lhm_ring.proofs.memory.Steps.{look_at, get, get_in, through, sets, sets_last, is, env, sub, whole, tables, fact, yes, owns}
-use Rattle.lhm_ring.proofs.memory.Steps.{types_at, plain, Ptr, ptr_val, heard, Stays, stay_dropped, walk_of, Goes-dropped, after, word}
-use Rattle.lhm_ring.proofs.memory.Steps.{word-Good, proved_at, leaves, id⊢, sem, RattleType, in_a_block, snd∗, via, Some, never, Option}
-use Rattle.lhm_ring.proofs.memory.Steps.{named, Lft, ◌⊑◌, hide, Bor, enter, ent, Ura, Logic, sep, Ty, RefOf, Args, param, fst∗, lent_at}
-use Rattle.lhm_ring.proofs.memory.Steps.{WpFn, suffices, states, all_spent, tokens}
-use mathlib.Core.Option.{some}
-use mir.Syntax.{Sym, ty_ptr, ty_ref, imm, erased, local, value_local, seq, assign, block, return}
-use mir.Syntax.{place, field, deref, copy, rv_opd, addr_of, Fn, Callee}
-use prog.Memory.{field_of}
-use prog.Model.{Model}
-use prog.Wp.{Closed}
-use contract.Lifetimes.{lft_at}
-use contract.Running.{Running, MachineTables}
-use denote.Memory.{shared_of}
-use denote.RawPtr.{◌+ₚ◌}
-use denote.Opens.{unhide}
-use denote.Triple.Clauses.{Ended, Clauses, closing}
+use Rattle.lhm_ring.proofs.Names.{List, Option, Some, [], ap, refl, subst, sym, ℕ, ◌++◌, ◌+◌, ◌∙◌, ◌∷◌, ◌≡◌, body_lent, cell_lent}
+use Rattle.lhm_ring.proofs.Names.{cells_lent, word, word-Good, word_ty, after, leaves, proved_at, Lft, flft, SProp, ent, fst∗, id⊢, never}
+use Rattle.lhm_ring.proofs.Names.{sep, snd∗, via, ◌⊑◌, lft_at, fact, MachineTables, Running, tables, RefOf, yes, shared_of, hide, unhide}
+use Rattle.lhm_ring.proofs.Names.{param, RattleType, owns, Ptr, in_a_block, ptr_val, ◌+ₚ◌, Bor, plain, types_at, heard, lent_at, Clauses}
+use Rattle.lhm_ring.proofs.Names.{Ended, closing, Goes-dropped, Stays, stay_dropped, walk_of, inst_fn, Args, Callee, Fn, Sym, Ty, addr_of}
+use Rattle.lhm_ring.proofs.Names.{assign, block, copy, deref, erased, field, imm, local, named, place, return, rv_opd, seq, ty_ptr, ty_ref}
+use Rattle.lhm_ring.proofs.Names.{value_local, Val, vptr, field_of, Model, Closed, WpFn, Ura, alloc_all, env, free_all, get, get_in, is}
+use Rattle.lhm_ring.proofs.Names.{look_at, pass_all, sets, sets_last, through, !, at_ret, by, drop, feq_i, fjoin, fsplit, join, keep, move}
+use Rattle.lhm_ring.proofs.Names.{qed, raw, rewrite, split, suffices, use1, ‵, ◌$◌, ◌∵◌, ◌⊛◌, Logic, sem, sub, whole, addr, blocks, enter}
+use Rattle.lhm_ring.proofs.Names.{exec, first, fld, of_opd, returns, stop}
+use Rattle.lhm_ring.proofs.memory.NodeFields.{Node, Nr, Pl, RK, RL, RV, Three, args, ko, lo, vo, word-pointer}
+use Rattle.lhm_ring.proofs.{memory.NodeTaken.cell_seen, rings.Lookup.Cut, memory.Steps.all_spent, memory.Steps.states, memory.Steps.tokens}
 use denote.Triple.Spec.{Meets}
-use Rattle.std.proofs.RcSteps.{word_ty}
-use Rattle.lhm_ring.proofs.rings.Lookup.{Cut}
-use Rattle.lhm_ring.proofs.memory.NodeFields.{Three, args, RL, RK, RV, lo, ko, vo, Node, Nr, Pl, word-pointer}
-use Rattle.lhm_ring.proofs.memory.NodeTaken.{cell_seen}
+use mathlib.Core.Option.{some}
 use Rattle.lhm_ring.specs.contracts.nodes.Nodes.key as key
-use Rattle.lhm_ring.specs.Nodes.{body_lent, cell_lent, cells_lent}
 
 -- the code, with the field k of the node at the pointer
 abbrev with_code : Fn → Ty → Ty → Sym → Ty → ℕ → Fn

@@ -1,43 +1,19 @@
 -- A vector is made of the memory of others by `lodge`, and gives it back by `dislodge`. Assumes `Logic`.
-use Rattle.lhm_ring.proofs.memory.Steps.{◌≡◌, ℕ, ◌+◌, ◌*◌, ◌<◌, ◌^◌, List, [], ◌∷◌, refl, ap, ◌∙◌, arith, Ura, ftrue, fsep, flft}
-use Rattle.lhm_ring.proofs.memory.Steps.{full_share, ent, emp, SProp, id⊢, w64, ty_array, a_type, Val, vptr, vint, ◌∵◌, ‵, raw, ◌⊛◌, ◌$◌}
-use Rattle.lhm_ring.proofs.memory.Steps.{ !, qed, move, keep, drop, use0, use1, use2, split, join, fsplit, fjoin, rewrite, feq_i, feq_l}
-use Rattle.lhm_ring.proofs.memory.Steps.{flt_l, flt_i, later, pick, await, split3, some, done, updating, now, Logic}
-use Rattle.lhm_ring.proofs.memory.Steps.{sem, ◌⊑◌, fact, fact_i}
-use Rattle.lhm_ring.proofs.memory.Steps.{usize, part_at, froom, layout, layouts, length, param, Laws, RattleType}
-use Rattle.lhm_ring.proofs.memory.Steps.{block_ptr, nothing, heard, as_raw}
-use Rattle.lhm_ring.proofs.memory.Steps.{Item, Goal, T, has_ty, WT, Struct, Valss, within, fpack, vstruct, vcons, vnil}
-use Rattle.lhm_ring.proofs.memory.Steps.{fpick, by, never_e}
-use Rattle.lhm_ring.proofs.memory.Steps.{Ptr, null_ptr, room_for}
-use Rattle.std.specs.Allocator.{array_of}
-use Rattle.std.proofs.Common.{◌≤◌, ◌-◌}
-use base.Logic.{ex, guard}
-use contract.BorrowLft.{⊑_refl}
-use contract.Monad.{Fun}
-use denote.Array.{Array}
-use denote.Exit.{no, left}
-use denote.Steps.{only}
-use denote.Triple.Spec.{triple_of}
-use denote.Triple.Statement.{Contract}
-use mir.Raw.{raw as bare}
-use mir.Syntax.{Callee, given as dict_at}
-use prog.Memory.{Memory}
-use prog.Routine.{Routine}
-use types.Kit.{Seq, Step, step, check, show}
-use Rattle.std.specs.Vec.Ownership.{lodged}
-use Rattle.std.proofs.RawLayout.{as_written}
-use Rattle.std.proofs.alloc.Calls.{handle_tells}
-use Rattle.std_alloc.proofs.VecSteps.El.{El, no_al, R, sz}
-use Rattle.std_alloc.proofs.VecSteps.Opens.{blk_in, blk_out}
-use Rattle.std_alloc.proofs.VecSteps.Rows.{empty, all_room}
-use Rattle.std.proofs.mem.Timeless.{timeless}
-use Rattle.std_alloc.specs.declared.vec.Vec.{Vec}
-use Rattle.std_alloc.specs.declared.vec.lodged.Lodged.{Lodged}
+use Rattle.lhm_ring.proofs.Names.{List, T, [], ap, arith, length, refl, ℕ, ◌*◌, ◌+◌, ◌-◌, ◌<◌, ◌^◌, ◌∙◌, ◌∷◌, ◌≡◌, ◌≤◌, as_raw, as_written}
+use Rattle.lhm_ring.proofs.Names.{El, R, sz, handle_tells, timeless, array_of, lodged, blk_in, blk_out, all_room, empty, Vec, Lodged, flft}
+use Rattle.lhm_ring.proofs.Names.{froom, fsep, ftrue, full_share, SProp, emp, ent, ex, guard, id⊢, never_e, ⊑_refl, ◌⊑◌, Fun, fact, fact_i}
+use Rattle.lhm_ring.proofs.Names.{Array, usize, left, no, part_at, layout, layouts, param, RattleType, Valss, Ptr, block_ptr, null_ptr}
+use Rattle.lhm_ring.proofs.Names.{room_for, heard, nothing, only, Struct, within, Callee, a_type, ty_array, w64, Val, WT, has_ty, vcons}
+use Rattle.lhm_ring.proofs.Names.{vint, vnil, vptr, vstruct, Memory, Routine, Ura, !, Goal, Item, Seq, Step, await, by, check, done, drop}
+use Rattle.lhm_ring.proofs.Names.{feq_i, feq_l, fjoin, flt_i, flt_l, fpack, fpick, fsplit, join, keep, later, move, now, pick, qed, raw}
+use Rattle.lhm_ring.proofs.Names.{rewrite, show, some, split, split3, step, updating, use0, use1, use2, ‵, ◌$◌, ◌∵◌, ◌⊛◌, Logic, sem}
+use Rattle.std_alloc.proofs.VecSteps.El.{no_al}
+use Rattle.std_alloc.specs.contracts.vec.{lodge.Key.name as lodge_name, lodged.LodgedAllocator.TheImpl.ghosts}
+use denote.{Param.Laws.Laws, Triple.Spec.triple_of, Triple.Statement.Contract}
+use mir.{Raw.raw as bare, Syntax.given as dict_at}
 use Rattle.std_alloc.specs.contracts.vec.Vec as V-type
 use Rattle.std_alloc.specs.contracts.vec.lodged.Lodged as L-type
-use Rattle.std_alloc.specs.contracts.vec.lodged.LodgedAllocator.TheImpl.{ghosts}
 use Rattle.std_alloc.specs.contracts.vec.lodge as LG
-use Rattle.std_alloc.specs.contracts.vec.lodge.Key.{name as lodge_name}
 use Rattle.std_alloc.specs.contracts.vec.lodged.Vec+T+Lodged.dislodge as DL
 use Rattle.std_alloc.proofs.vec.Vec.TheLaws as V-laws
 use Rattle.std_alloc.proofs.vec.lodged.Lodged.TheLaws as L-laws

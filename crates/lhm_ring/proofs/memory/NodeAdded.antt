@@ -1,14 +1,11 @@
 -- A node more among the spare ones.
-use Rattle.std.proofs.Common.{◌≡◌, suc, true, false, cond, List, [], ◌∷◌, ◌++◌, Option, Some, None, refl, sym, ap, ◌∙◌, subst, arith}
-use denote.RawPtr.{Ptr, null_ptr}
-use Rattle.lhm_ring.specs.declared.ring.Links.{Links}
-use Rattle.lhm_ring.specs.declared.ring.Ends.{Ends}
-use Rattle.lhm_ring.proofs.lists.Apart.{IsFresh, same_ptr-equal, same_ptr-reflexive, same_ptr-symmetric, IsFresh-head, IsApart-inserted}
-use Rattle.lhm_ring.proofs.lists.ForAll.{AllByRecursion-append, AllByRecursion-left, AllByRecursion-right, AllByRecursion-map}
-use Rattle.lhm_ring.proofs.memory.OneNodeChanged.{AreLinked-other, IsSpareList-other, AllByRecursion-content_other, listed-other}
-use Rattle.lhm_ring.proofs.rings.RingCells.{same_ptr-null, cell_at-ring_cells}
-use Rattle.lhm_ring.specs.Nodes.{Cell, cell, cell_at, same_ptr, pointers, links_of, is_block, IsApart}
-use Rattle.lhm_ring.specs.Links.{ring_cells, link_of, has_links, link_at, IsSpareList, IsRing, listed, IsThere}
+use Rattle.lhm_ring.proofs.Names.{List, None, Option, Some, [], ap, arith, cond, false, refl, subst, suc, sym, true, ◌++◌, ◌∙◌, ◌∷◌, ◌≡◌}
+use Rattle.lhm_ring.proofs.Names.{IsRing, IsSpareList, IsThere, has_links, link_at, link_of, listed, ring_cells, Cell, IsApart, cell}
+use Rattle.lhm_ring.proofs.Names.{cell_at, is_block, links_of, pointers, same_ptr, Ends, Links, Ptr, null_ptr}
+use Rattle.lhm_ring.proofs.lists.Apart.{IsApart-inserted, IsFresh, IsFresh-head, same_ptr-equal, same_ptr-reflexive, same_ptr-symmetric}
+use Rattle.lhm_ring.proofs.lists.ForAll.{AllByRecursion-append, AllByRecursion-left, AllByRecursion-map, AllByRecursion-right}
+use Rattle.lhm_ring.proofs.memory.OneNodeChanged.{AllByRecursion-content_other, AreLinked-other, IsSpareList-other, listed-other}
+use Rattle.lhm_ring.proofs.rings.RingCells.{cell_at-ring_cells, same_ptr-null}
 
 false_true : false ≡ true → ⊥
 false_true e = cc

@@ -4,23 +4,17 @@
 --     marker_made      a value of no bytes
 --     value_known, forgotten      a value in memory is machine memory and what it owns, and
 --     memory that holds nothing
-use Rattle.lhm_ring.proofs.memory.Steps.{◌≡◌, ℕ, ◌+◌, List, [], ◌∷◌, ◌++◌, refl, ap, ◌∙◌, None, full_share, Val, ◌∵◌, ‵, ◌⊛◌, ◌$◌, !, qed}
-use Rattle.lhm_ring.proofs.memory.Steps.{move, drop, use1, split, fsplit, fjoin, feq_i, layout, param_laws, block_ptr, word, froom, sem}
-use Rattle.lhm_ring.proofs.memory.Steps.{RattleType, emp, Some, part_at, Fml, nothing, Option, vstruct, vcons, vnil, pick, some, fpack, fat}
-use Rattle.lhm_ring.proofs.memory.Steps.{given, learn, Good, ent, Ura, Logic, sep, done, Ty, Is, Struct, Args, a_type, layouts, param}
-use Rattle.lhm_ring.proofs.memory.Steps.{as_raw, Item, Goal, makes_shadow, shape, Valss, Laws, within}
-use mir.Val.{of_list}
-use base.Logic.{ex, guard}
-use types.Kit.{Seq, Step, step, check, show}
-use denote.Laws.{Typed, shows}
-use denote.Steps.{peeks}
-use denote.Struct.Struct.{Shape}
-use mir.Raw.{raw as bare}
+use Rattle.lhm_ring.proofs.Names.{List, None, Option, Some, [], ap, arith, refl, ℕ, ◌++◌, ◌+◌, ◌∙◌, ◌∷◌, ◌≡◌, Cell, body_owns, cell_owns}
+use Rattle.lhm_ring.proofs.Names.{cells_own, key_offset, land_owns, links_offset, value_offset, as_raw, Good, word, Fml, fat, froom}
+use Rattle.lhm_ring.proofs.Names.{full_share, emp, ent, ex, guard, sep, part_at, layout, layouts, param, RattleType, Valss, block_ptr}
+use Rattle.lhm_ring.proofs.Names.{makes_shadow, nothing, peeks, shape, Shape, Struct, within, Args, Ty, a_type, Val, of_list, vcons, vnil}
+use Rattle.lhm_ring.proofs.Names.{vstruct, Ura, !, Goal, Item, Seq, Step, check, done, drop, feq_i, fjoin, fpack, fsplit, given, learn}
+use Rattle.lhm_ring.proofs.Names.{move, pick, qed, show, some, split, step, use1, ‵, ◌$◌, ◌∵◌, ◌⊛◌, Logic, sem}
 use borrow.Table.OneValue.{part_in, part_out}
+use denote.{Laws.Is, Laws.Typed, Laws.shows, Param.Laws.Laws, Param.Laws.param_laws}
+use mir.Raw.{raw as bare}
 use Rattle.lhm_ring.specs.contracts.nodes.Nodes as N-type
 use Rattle.lhm_ring.specs.contracts.pointer.NodePointer as P-type
-use Rattle.lhm_ring.specs.Nodes.{Cell, links_offset, key_offset, value_offset, body_owns, land_owns, cell_owns, cells_own}
-use Rattle.std.proofs.Common.{arith}
 
 pub record Three : Type 2 where
   pub links : RattleType

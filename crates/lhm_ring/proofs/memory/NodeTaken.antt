@@ -1,10 +1,9 @@
 -- One node is taken out of the nodes, and put back, changed. Assumes `Logic`.
-use Rattle.lhm_ring.proofs.memory.Steps.{◌≡◌, List, [], ◌∷◌, ◌++◌, sym, subst, ◌∵◌, ‵, ◌⊛◌, ◌$◌, !, qed, move, use1, use2, split, fsplit}
-use Rattle.lhm_ring.proofs.memory.Steps.{fjoin, Ptr, id⊢, sem, snd∗, via, Fml, Lft, ent, Ura, Logic, sep, done, fst∗}
-use Rattle.lhm_ring.specs.declared.nodes.Nodes.{Nodes}
-use Rattle.lhm_ring.proofs.memory.NodeFields.{Three, RL, RK, RV, Node, One, Cells}
+use Rattle.lhm_ring.proofs.Names.{List, [], subst, sym, ◌++◌, ◌∷◌, ◌≡◌, AreBlocks, Cell, IsApart, cell_lent, cells_lent, change, places}
+use Rattle.lhm_ring.proofs.Names.{pointers, pointers-change, Nodes, Fml, Lft, ent, fst∗, id⊢, sep, snd∗, via, Ptr, Ura, !, done, fjoin}
+use Rattle.lhm_ring.proofs.Names.{fsplit, move, qed, split, use1, use2, ‵, ◌$◌, ◌∵◌, ◌⊛◌, Logic, sem}
+use Rattle.lhm_ring.proofs.memory.NodeFields.{Cells, Node, One, RK, RL, RV, Three}
 use Rattle.lhm_ring.proofs.rings.Lookup.{Cut}
-use Rattle.lhm_ring.specs.Nodes.{Cell, places, IsApart, AreBlocks, pointers, change, pointers-change, cell_lent, cells_lent}
 
 module _ {L K V : Type 0} (n : Nodes L K V) where
   -- the same nodes, as cells at the same pointers

@@ -1,14 +1,9 @@
 -- Nodes with the bodies of a run in them, and nodes with none.
-use Rattle.std.proofs.Common.{◌≡◌, ℕ, true, false, cond, List, [], ◌∷◌, length, Option, Some, None, refl, ◌∙◌, arith}
-use Rattle.std.specs.List.{AllByRecursion}
-use denote.RawPtr.{Ptr}
-use Rattle.lhm_ring.specs.declared.ring.Links.{Links}
-use Rattle.lhm_ring.specs.declared.pointer.Link.{Link}
-use Rattle.lhm_ring.proofs.lists.Apart.{IsFresh, same_ptr-equal, same_ptr-reflexive, same_ptr-symmetric, IsFresh-head, IsApart-tail}
-use Rattle.lhm_ring.proofs.memory.BodiesChanged.{links_at-rebodied, body_at-rebodied, IsOwned-rebodied}
-use Rattle.lhm_ring.specs.Nodes.{Cell, cell, same_ptr, IsApart, pointers, links_at, body_at, change, with_body}
-use Rattle.lhm_ring.specs.Links.{HasContent, IsOwned}
-use Rattle.lhm_ring.specs.ContentLoan.{body_in, without_body, bodies_of, with_bodies, cleared}
+use Rattle.lhm_ring.proofs.Names.{List, None, Option, Some, [], arith, cond, false, length, refl, true, ℕ, ◌∙◌, ◌∷◌, ◌≡◌, bodies_of}
+use Rattle.lhm_ring.proofs.Names.{body_in, cleared, with_bodies, without_body, HasContent, IsOwned, Cell, IsApart, body_at, cell, change}
+use Rattle.lhm_ring.proofs.Names.{links_at, pointers, same_ptr, with_body, Link, Links, AllByRecursion, Ptr}
+use Rattle.lhm_ring.proofs.lists.Apart.{IsApart-tail, IsFresh, IsFresh-head, same_ptr-equal, same_ptr-reflexive, same_ptr-symmetric}
+use Rattle.lhm_ring.proofs.memory.BodiesChanged.{IsOwned-rebodied, body_at-rebodied, links_at-rebodied}
 
 module _ {B : Type 0} where
   body_in-without_body : (p : Ptr) (run : List (Ptr × Option B)) → body_in (without_body p run) p ≡ None

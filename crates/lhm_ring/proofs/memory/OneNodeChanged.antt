@@ -1,15 +1,11 @@
 -- A change of one node alone: what is read of the others stays.
-use Rattle.std.proofs.Common.{◌≡◌, true, false, List, [], ◌∷◌, ◌++◌, length, Option, Some, refl, sym, ap, ◌∙◌, subst, arith}
-use Rattle.std.specs.List.{AllByRecursion}
-use denote.RawPtr.{Ptr}
-use Rattle.lhm_ring.specs.declared.ring.Links.{Links}
-use Rattle.lhm_ring.proofs.lists.Apart.{IsFresh, same_ptr-equal}
-use Rattle.lhm_ring.proofs.lists.ForAll.{AllByRecursion-map}
-use Rattle.lhm_ring.proofs.rings.SameNodes.{SameLink, IsSpareList-same}
-use Rattle.lhm_ring.proofs.rings.Writes.{cell_at-change, cell_at-change_other, length-change, reader-with_links_same, links_of-seen}
-use Rattle.lhm_ring.specs.Nodes.{Cell, cell, same_ptr, cell_at, links_of, body_of, links_at, body_at, with_links, with_body}
-use Rattle.lhm_ring.specs.Links.{link_of, has_links, is_there, content_of, content_at, AreLinked, IsSpareList, HasContent, listed, one_of}
-use Rattle.lhm_ring.specs.Links.{IsThere}
+use Rattle.lhm_ring.proofs.Names.{List, Option, Some, [], ap, arith, false, length, refl, subst, sym, true, ◌++◌, ◌∙◌, ◌∷◌, ◌≡◌, AreLinked}
+use Rattle.lhm_ring.proofs.Names.{HasContent, IsSpareList, IsThere, content_at, content_of, has_links, is_there, link_of, listed, one_of}
+use Rattle.lhm_ring.proofs.Names.{Cell, body_at, body_of, cell, cell_at, links_at, links_of, same_ptr, with_body, with_links, Links}
+use Rattle.lhm_ring.proofs.Names.{AllByRecursion, Ptr}
+use Rattle.lhm_ring.proofs.lists.{Apart.IsFresh, Apart.same_ptr-equal, ForAll.AllByRecursion-map}
+use Rattle.lhm_ring.proofs.rings.SameNodes.{IsSpareList-same, SameLink}
+use Rattle.lhm_ring.proofs.rings.Writes.{cell_at-change, cell_at-change_other, length-change, links_of-seen, reader-with_links_same}
 
 -- every node except the one at p is as it was
 pub record OnlyAt {B : Type 0} (cs ds : List (Cell Links B)) (p : Ptr) : Type 0 where

@@ -1,8 +1,7 @@
 -- A part of each node is taken out of the nodes, and put back. Assumes `Logic`.
-use Rattle.lhm_ring.proofs.memory.Steps.{List, [], ◌∷◌, ◌∵◌, ‵, ◌⊛◌, ◌$◌, !, qed, move, drop, use0, use1, use2, split, fsplit, fjoin, sem}
-use Rattle.lhm_ring.proofs.memory.Steps.{RattleType, emp, Fml, fsep, ent, Ura, Logic, done, map}
+use Rattle.lhm_ring.proofs.Names.{List, [], map, ◌∷◌, Cell, cell_owns, cells_own, Fml, fsep, emp, ent, RattleType, Ura, !, done, drop}
+use Rattle.lhm_ring.proofs.Names.{fjoin, fsplit, move, qed, split, use0, use1, use2, ‵, ◌$◌, ◌∵◌, ◌⊛◌, Logic, sem}
 use Rattle.lhm_ring.proofs.memory.Sharing.{parts_own}
-use Rattle.lhm_ring.specs.Nodes.{Cell, cell_owns, cells_own}
 
 module _ {M : Type 1} {𝓤 : Ura M} (𝓛 : Logic 𝓤) where
   -- what F owns is what G does

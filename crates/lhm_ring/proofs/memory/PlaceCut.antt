@@ -1,16 +1,10 @@
 -- A place for a node is cut into its three fields, and made of them again. Assumes `Logic`.
-use Rattle.lhm_ring.proofs.memory.Steps.{ℕ, ◌+◌, [], ◌∷◌, SProp, ftrue, ◌∵◌, ‵, raw, ◌⊛◌, ◌$◌, !, qed, by, move, keep, use1, use2, split}
-use Rattle.lhm_ring.proofs.memory.Steps.{fsplit3, layout, Ptr, block_ptr, room_for, froom, sem, Fml, fjoin3, nothing, group, split3, ent}
-use Rattle.lhm_ring.proofs.memory.Steps.{Ura, Logic, sep, done, Ty, as_raw}
-use mir.Syntax.{Tys, Sym, ty_struct, tcons, tnil}
-use base.Logic.{wand, apply∗}
-use base.Fml.{fwand}
-use prog.Model.{rooms_at}
-use types.Kit.{assume}
-use Rattle.std.proofs.RawLayout.{as_written}
+use Rattle.lhm_ring.proofs.Names.{[], ℕ, ◌+◌, ◌∷◌, fields_own, node_type, as_raw, as_written, Fml, froom, ftrue, fwand, SProp, apply∗, ent}
+use Rattle.lhm_ring.proofs.Names.{sep, wand, layout, Ptr, block_ptr, room_for, nothing, Sym, Ty, Tys, tcons, tnil, ty_struct, rooms_at, Ura}
+use Rattle.lhm_ring.proofs.Names.{assume, by, done, fjoin3, fsplit3, group, keep, move, qed, !, raw, split, split3, use1, use2, ‵, ◌$◌, ◌∵◌}
+use Rattle.lhm_ring.proofs.Names.{◌⊛◌, Logic, sem}
+use Rattle.lhm_ring.proofs.memory.NodeFields.{RK, RL, RV, Three, ko, lo, vo}
 use Rattle.lhm_ring.specs.contracts.nodes.Node as N-type
-use Rattle.lhm_ring.proofs.memory.NodeFields.{Three, RL, RK, RV, lo, ko, vo}
-use Rattle.lhm_ring.specs.Nodes.{node_type, fields_own}
 
 module _ (E : Three) where
   -- the node's type as the code writes it, and as the allocator is asked for it

@@ -1,17 +1,11 @@
 -- Where the places of chunks lie.
-use Rattle.std.proofs.Common.{◌≡◌, ℕ, zero, suc, ◌+◌, ◌-◌, ◌*◌, ◌<◌, ◌^◌, List, [], ◌∷◌, ◌++◌, length, length-append, true, false, refl}
-use Rattle.std.proofs.Common.{sym, ap, None}
-use Rattle.std.proofs.Common.{◌∙◌, subst, arith, lt→ltb}
-use Rattle.std.proofs.lemmas.List.{append_assoc}
-use Rattle.std.specs.Prelude.{nat_lt}
-use Rattle.std.proofs.Flags.{T_true}
-use Rattle.std.proofs.ptr.Rows.{one_more, next}
-use denote.RawPtr.{Ptr, block_ptr, null_ptr, ◌+ₚ◌, InBlock}
-use lib.ListN.{length-map}
+use Rattle.lhm_ring.proofs.Names.{List, None, [], ap, append_assoc, arith, false, length, length-append, lt→ltb, refl, subst, suc, sym}
+use Rattle.lhm_ring.proofs.Names.{true, zero, ℕ, ◌*◌, ◌++◌, ◌+◌, ◌-◌, ◌<◌, ◌^◌, ◌∙◌, ◌∷◌, ◌≡◌, nat_lt, IsLaid, place_count, AreBlocks, Cell}
+use Rattle.lhm_ring.proofs.Names.{Chunk, chunk, is_block, is_null, is_null_or_block, places, pointers, row, led_to, length-map, next}
+use Rattle.lhm_ring.proofs.Names.{one_more, InBlock, Ptr, block_ptr, null_ptr, ◌+ₚ◌}
 use Rattle.lhm_ring.proofs.lists.ForAll.{AllByRecursion-left, AllByRecursion-right}
-use Rattle.lhm_ring.specs.Nodes.{Cell, pointers, is_block, is_null, is_null_or_block, AreBlocks, row, places, Chunk, chunk}
-use Rattle.lhm_ring.specs.Links.{place_count, IsLaid, IsChain}
-use Rattle.lhm_ring.specs.Pointer.{led_to}
+use Rattle.lhm_ring.specs.Links.{IsChain}
+use Rattle.std.proofs.Flags.{T_true}
 
 pub places-none : (s : ℕ) → [] ≡ places s []
 unfolding places

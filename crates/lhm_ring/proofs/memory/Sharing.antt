@@ -1,19 +1,14 @@
 -- A `&` to the nodes is made if one to their links, keys and values is. Assumes `Logic`.
-use Rattle.lhm_ring.proofs.memory.Steps.{List, [], ◌∷◌, ◌++◌, None, full_share, ‵, raw, ◌⊛◌, ◌$◌, !, qed, use1, use2, split, Ptr, lies_at}
-use Rattle.lhm_ring.proofs.memory.Steps.{sem, RattleType, Some, Fml, fsep, Option, Lft, Incl-trans, fbor, later, await, ent, Ura, Logic}
-use Rattle.lhm_ring.proofs.memory.Steps.{sep, done, Incl, meet_⊑_left, lfts, updating, now, Laws, copy_shared, RawPtr, Shares-less}
-use Rattle.lhm_ring.proofs.memory.Steps.{field_copy, Lends, lent_at, Lends-lies, Lends-first, Lends-both, Lends-nothing, of_Lends}
-use contract.BorrowLft.{meet_⊑_right}
-use denote.RattleType.{RowLaws}
-use denote.Sharing.{ShrLaws}
-use denote.SharingLaws.{beside_shr_laws, nothing_shr_laws}
-use denote.Struct.Lending.{lent_at_shr_laws, Law}
+use Rattle.lhm_ring.proofs.Names.{List, None, Option, Some, [], ◌++◌, ◌∷◌, Cell, body_lent, body_owns, cell_lent, cell_owns, cells_lent}
+use Rattle.lhm_ring.proofs.Names.{cells_own, deed_owns, key_address, links_address, value_address, Nodes, Fml, Incl, Incl-trans, Lft, fbor}
+use Rattle.lhm_ring.proofs.Names.{fsep, full_share, ent, sep, meet_⊑_left, meet_⊑_right, copy_shared, RattleType, RowLaws, Ptr, RawPtr}
+use Rattle.lhm_ring.proofs.Names.{lies_at, Shares-less, ShrLaws, beside_shr_laws, nothing_shr_laws, Law, Lends, Lends-both, Lends-first}
+use Rattle.lhm_ring.proofs.Names.{Lends-lies, Lends-nothing, lent_at, lent_at_shr_laws, of_Lends, Ura, !, await, done, later, now, qed, raw}
+use Rattle.lhm_ring.proofs.Names.{split, updating, use1, use2, ‵, ◌$◌, ◌⊛◌, Logic, lfts, sem}
+use denote.{Param.Laws.Laws, Struct.Laws.field_copy}
 use denote.Struct.Owning as owning
 use Rattle.std.specs.contracts.marker.PhantomData as marker
 use Rattle.lhm_ring.specs.contracts.nodes.Nodes as C
-use Rattle.lhm_ring.specs.declared.nodes.Nodes.{Nodes}
-use Rattle.lhm_ring.specs.Nodes.{Cell, links_address, key_address, value_address, deed_owns}
-use Rattle.lhm_ring.specs.Nodes.{body_owns, cell_owns, cells_own, body_lent, cell_lent, cells_lent}
 
 module _ (L K V : RattleType) (LL : RowLaws L) (LK : RowLaws K) (LV : RowLaws V) where
   body_lent_laws : (p : Ptr) (x : Option (K.Denot × V.Denot)) → ShrLaws (body_lent L K V p x)

@@ -1,16 +1,10 @@
 -- One value is taken from those that are lent. Assumes `Logic`.
-use Rattle.lhm_ring.proofs.memory.Steps.{◌≡◌, ℕ, true, List, [], ◌∷◌, ◌++◌, refl, sym, ap, ◌∙◌, full_share, ◌∵◌, ‵, raw, ◌⊛◌, ◌$◌, !, qed}
-use Rattle.lhm_ring.proofs.memory.Steps.{by, move, keep, use1, split, fsplit, fjoin, rewrite, Ptr, block_ptr, lies_at, sem, RattleType, emp}
-use Rattle.lhm_ring.proofs.memory.Steps.{Some, fsep, mem, ent, Ura, Logic, sep, done, false, map, length, never_e}
-use Rattle.std.proofs.Common.{cond}
-use base.Fml.{ffalse}
-use lib.ListN.{take, drop as drop_l}
-use types.Kit.{use3}
-use Rattle.lhm_ring.proofs.lists.Apart.{same_ptr-equal}
-use Rattle.lhm_ring.proofs.lists.Options.{none_some, Some-injective}
-use Rattle.lhm_ring.specs.Nodes.{same_ptr}
-use Rattle.lhm_ring.specs.ValueLoan.{value_at, without_value, spread}
-use Rattle.lhm_ring.proofs.lists.Splits.{SplitAround}
+use Rattle.lhm_ring.proofs.Names.{List, Some, [], ap, cond, false, length, map, refl, sym, take, true, ℕ, ◌++◌, ◌∙◌, ◌∷◌, ◌≡◌, same_ptr}
+use Rattle.lhm_ring.proofs.Names.{spread, value_at, without_value, ffalse, fsep, full_share, emp, ent, never_e, sep, mem, RattleType, Ptr}
+use Rattle.lhm_ring.proofs.Names.{block_ptr, lies_at, Ura, !, by, done, fjoin, fsplit, keep, move, qed, raw, rewrite, split, use1, use3, ‵}
+use Rattle.lhm_ring.proofs.Names.{◌$◌, ◌∵◌, ◌⊛◌, Logic, sem}
+use Rattle.lhm_ring.proofs.lists.{Apart.same_ptr-equal, Splits.SplitAround, Options.Some-injective, Options.none_some}
+use lib.ListN.{drop as drop_l}
 
 module _ {V : Type 0} where
   pub record CutValue (cs : List (Ptr × V)) (p : Ptr) (v : V) : Type 0 where

@@ -1,15 +1,10 @@
 -- The values that a ring lends, in the order of the ring.
-use Rattle.std.proofs.Common.{◌≡◌, Bool, true, false, true≢false, cond, List, [], ◌∷◌, ◌++◌, map, Some, refl, sym, ap, ◌∙◌, subst, arith}
-use Rattle.std.specs.List.{AllByRecursion}
-use denote.RawPtr.{Ptr}
-use Rattle.lhm_ring.proofs.lists.Apart.{IsFresh, same_ptr-equal, same_ptr-reflexive, same_ptr-symmetric, IsFresh-head, IsApart-tail}
-use Rattle.lhm_ring.proofs.rings.HeldPointers.{pointers_of}
-use Rattle.lhm_ring.proofs.lists.Options.{Some-injective}
-use Rattle.lhm_ring.proofs.memory.ValuesReplaced.{Entries, Triples, at_entries, among, lent, lent_then-cases, run_of, taken, value_in}
-use Rattle.lhm_ring.proofs.memory.ValuesReplaced.{revalued_by}
-use Rattle.lhm_ring.specs.Nodes.{Cell, same_ptr, IsApart}
-use Rattle.lhm_ring.specs.ValueLoan.{value_at}
-use Rattle.lhm_ring.specs.Ring.{SplitAt, Held, IsHeld, AtHeld, revalued, unvalued, set_held_values}
+use Rattle.lhm_ring.proofs.Names.{Bool, List, Some, [], ap, arith, cond, false, map, refl, subst, sym, true, true≢false, ◌++◌, ◌∙◌, ◌∷◌}
+use Rattle.lhm_ring.proofs.Names.{◌≡◌, Cell, IsApart, same_ptr, AtHeld, Held, IsHeld, SplitAt, revalued, set_held_values, unvalued}
+use Rattle.lhm_ring.proofs.Names.{value_at, AllByRecursion, Ptr}
+use Rattle.lhm_ring.proofs.lists.Apart.{IsApart-tail, IsFresh, IsFresh-head, same_ptr-equal, same_ptr-reflexive, same_ptr-symmetric}
+use Rattle.lhm_ring.proofs.{lists.Options.Some-injective, memory.ValuesReplaced.value_in, rings.HeldPointers.pointers_of}
+use Rattle.lhm_ring.proofs.memory.ValuesReplaced.{Entries, Triples, among, at_entries, lent, lent_then-cases, revalued_by, run_of, taken}
 
 -- the values of what is held, in order
 abbrev pub held_values : {K V : Type 0} → List (Held (K × V)) → List V

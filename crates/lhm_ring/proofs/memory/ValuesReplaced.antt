@@ -1,24 +1,13 @@
 -- The values that a ring holds are lent, and the ring is one again with others in their place.
-use Rattle.std.proofs.Common.{◌≡◌, ℕ, Bool, true, false, cond, List, [], ◌∷◌, ◌++◌, map, length}
-use Rattle.std.proofs.Common.{Option, Some, None, refl, sym, ap, ◌∙◌, subst, arith}
-use Rattle.std.specs.List.{AllByRecursion}
-use denote.RawPtr.{Ptr, null_ptr}
-use Rattle.lhm_ring.specs.declared.ring.Links.{Links}
-use Rattle.lhm_ring.specs.declared.ring.Ends.{Ends}
-use Rattle.lhm_ring.specs.declared.pointer.Link.{Link}
-use Rattle.lhm_ring.proofs.lists.Apart.{IsFresh, same_ptr-equal, same_ptr-reflexive, IsApart-none}
-use Rattle.lhm_ring.proofs.lists.Apart.{IsFresh-head, IsApart-tail, IsApart-added}
-use Rattle.lhm_ring.proofs.rings.Contents.{at-content, Holds-content, pair-content, IsAt-content}
-use Rattle.lhm_ring.proofs.rings.HeldPointers.{AllByRecursion-followed, IsApart-ring_list}
-use Rattle.lhm_ring.proofs.lists.ForAll.{AllByRecursion-map}
-use Rattle.lhm_ring.proofs.lists.Options.{none_some}
-use Rattle.lhm_ring.proofs.memory.BodiesChanged.{rebodied, pointers-rebodied, links_at-rebodied, body_at-rebodied, IsOwned-rebodied}
-use Rattle.lhm_ring.proofs.rings.SameNodes.{follow-same}
-use Rattle.lhm_ring.specs.Nodes.{Cell, cell_at, same_ptr, IsApart, pointers, body_of, links_at, body_at}
-use Rattle.lhm_ring.specs.ValueLoan.{value_at, AreLent}
-use Rattle.lhm_ring.specs.Links.{ring_cells, one_of, link_of, content_of, content_at, HasContent, follow, listed, ring_list, ring_pointers}
-use Rattle.lhm_ring.specs.Links.{IsOwned}
-use Rattle.lhm_ring.specs.Ring.{Held, held, pair, revalued}
+use Rattle.lhm_ring.proofs.Names.{Bool, List, None, Option, Some, [], ap, arith, cond, false, length, map, refl, subst, sym, true, ℕ, ◌++◌}
+use Rattle.lhm_ring.proofs.Names.{◌∙◌, ◌∷◌, ◌≡◌, HasContent, IsOwned, content_at, content_of, follow, link_of, listed, one_of, ring_cells}
+use Rattle.lhm_ring.proofs.Names.{ring_list, ring_pointers, Cell, IsApart, body_at, body_of, cell_at, links_at, pointers, same_ptr, Held}
+use Rattle.lhm_ring.proofs.Names.{held, pair, revalued, AreLent, value_at, Link, Ends, Links, AllByRecursion, Ptr, null_ptr}
+use Rattle.lhm_ring.proofs.lists.Apart.{IsApart-added, IsApart-none, IsApart-tail, IsFresh, IsFresh-head, same_ptr-equal}
+use Rattle.lhm_ring.proofs.lists.{Apart.same_ptr-reflexive, ForAll.AllByRecursion-map, Options.none_some}
+use Rattle.lhm_ring.proofs.memory.BodiesChanged.{IsOwned-rebodied, body_at-rebodied, links_at-rebodied, pointers-rebodied, rebodied}
+use Rattle.lhm_ring.proofs.rings.Contents.{Holds-content, IsAt-content, at-content, pair-content}
+use Rattle.lhm_ring.proofs.rings.{HeldPointers.AllByRecursion-followed, HeldPointers.IsApart-ring_list, SameNodes.follow-same}
 
 -- whether p is one of ps
 abbrev pub among : List Ptr → Ptr → Bool

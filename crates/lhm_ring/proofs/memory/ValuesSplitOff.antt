@@ -7,53 +7,34 @@
 --     ring_cut, ring_glue      the same of a whole ring in memory
 --     back, ordered_back      the way back of a loan of a ring's values: the values in the order of
 --     the ring. A type that keeps a ring in a field shares both
-use Rattle.lhm_ring.proofs.memory.Steps.{◌≡◌, ℕ, true, List, [], ◌∷◌, refl, sym, ap, ◌∙◌, subst, None, full_share, Val, SProp, ftrue, ◌∵◌}
-use Rattle.lhm_ring.proofs.memory.Steps.{‵, raw, ◌⊛◌, ◌$◌, !, qed, by, move, keep, drop, use1, use2, split, fsplit, fsplit3, fjoin, rewrite}
-use Rattle.lhm_ring.proofs.memory.Steps.{fact, Ptr, block_ptr, lies_at, id⊢, sem, RattleType, via, emp, Some, part_at, Fml, fjoin3, Option}
-use Rattle.lhm_ring.proofs.memory.Steps.{vstruct, vnil, Lft, SemTy, mem, fseps, fpack, given, learn, ent, Ura, Logic, sep, done, part_of}
-use Rattle.lhm_ring.proofs.memory.Steps.{false, Struct, map, length, fact_i, never_e, fst∗, fpick, null_ptr, makes_shadow, Incl, Valss}
-use Rattle.lhm_ring.proofs.memory.Steps.{Laws, Shares-less, Lends, lent_at, Lends-lies, Lends-first, Lends-both, Lends-nothing, within}
-use Rattle.std.proofs.Common.{Bool, suc}
-use base.Logic.{comm∗}
-use base.Stored.{coded_list}
-use contract.Monad.{fact_use}
-use lib.ListN.{length-map}
-use denote.RattleType.{Denots}
-use denote.Memory.{cell_raw, raw_all}
-use denote.Model.Fields.{view_owns, view_made, Plain-in}
-use denote.Param.Shared.{Sharable}
-use denote.Ref.{NamedLft}
-use denote.Sharing.{nothing, beside}
-use denote.Steps.{nothing as empty}
+use Rattle.lhm_ring.proofs.Names.{Bool, List, None, Option, Some, [], ap, false, length, map, refl, subst, suc, sym, true, ℕ, ◌∙◌, ◌∷◌, ◌≡◌}
+use Rattle.lhm_ring.proofs.Names.{ring_cells, ring_pointers, Cell, IsApart, body_owns, cell, cell_lent, cell_owns, cells_lent, cells_own}
+use Rattle.lhm_ring.proofs.Names.{deed_owns, key_address, land_owns, links_address, value_address, State, set_held_values, state, AreLent}
+use Rattle.lhm_ring.proofs.Names.{Spread, spread, Nodes, length-map, AllByRecursion, Fml, Incl, Lft, fseps, ftrue, full_share, SProp, comm∗}
+use Rattle.lhm_ring.proofs.Names.{emp, ent, fst∗, id⊢, never_e, sep, via, coded_list, fact, fact_i, fact_use, cell_raw, mem, part_at}
+use Rattle.lhm_ring.proofs.Names.{part_of, raw_all, Plain-in, view_made, view_owns, Sharable, Denots, RattleType, Valss, Ptr, block_ptr}
+use Rattle.lhm_ring.proofs.Names.{lies_at, null_ptr, NamedLft, makes_shadow, Shares-less, beside, nothing as empty, Lends, Lends-both}
+use Rattle.lhm_ring.proofs.Names.{Lends-first, Lends-lies, Lends-nothing, lending_shared, lent_at, Shape, Struct, within, Val, vnil}
+use Rattle.lhm_ring.proofs.Names.{vstruct, Ura, !, by, done, drop, fjoin, fjoin3, fpack, fpick, fsplit, fsplit3, given, keep, learn, move}
+use Rattle.lhm_ring.proofs.Names.{qed, raw, rewrite, split, use1, use2, ‵, ◌$◌, ◌∵◌, ◌⊛◌, Logic, sem, SemTy}
+use Rattle.lhm_ring.proofs.memory.{NodeFields.marker, NodeTaken.with_cells}
+use Rattle.lhm_ring.proofs.memory.PartsTaken.{Entails, parts_cut, parts_glue, ◌∗◌}
+use Rattle.lhm_ring.proofs.memory.Sharing.{Law-thin, Lends-less, Lends-parts, Thin, parts_own}
+use Rattle.lhm_ring.proofs.memory.ValuesInOrder.{AllByRecursion-kept, AllByRecursion-own_values, HasOwnValue, held_values}
+use Rattle.lhm_ring.proofs.memory.ValuesInOrder.{revalued_by-set_held_values, set_held_values-by, set_held_values-own, taken-by, taken-own}
+use Rattle.lhm_ring.proofs.memory.ValuesReplaced.{AreLent-held_entries, Entries, IsApart-lent, IsOwned-held_written, Triples, among}
+use Rattle.lhm_ring.proofs.memory.ValuesReplaced.{at_entries, held_entries, lent, lent_then, listing, pointers-written, revalued_by}
+use Rattle.lhm_ring.proofs.memory.ValuesReplaced.{ring_list-held_written, run_of, taken, taken-listing, written, written_body}
+use Rattle.lhm_ring.proofs.rings.HeldPointers.{pointers-ring_list, pointers_of}
+use denote.{Param.Laws.Laws, Sharing.nothing, Struct.Field.Field, Struct.Field.rows, Struct.Values.intos}
 use denote.Struct.Declared as declared
-use denote.Struct.Field.{Field, rows}
-use denote.Struct.Lending.{lending_shared}
 use denote.Struct.Owning as owning
-use denote.Struct.Struct.{Shape}
-use denote.Struct.Values.{intos}
-use Rattle.std.specs.List.{AllByRecursion}
 use Rattle.lhm_ring.specs.contracts.ring.Links as links
 use Rattle.lhm_ring.specs.contracts.value_loan.Hole as H-type
 use Rattle.lhm_ring.specs.contracts.value_loan.ValueLoan as L-type
 use Rattle.lhm_ring.specs.contracts.ring.Ring as R-type
 use Rattle.lhm_ring.specs.contracts.ring.Ring.TheInside as I-type
 use Rattle.lhm_ring.specs.declared.ring.Ring.TheInside as D-type
-use Rattle.lhm_ring.proofs.memory.NodeFields.{marker}
-use Rattle.lhm_ring.proofs.rings.HeldPointers.{pointers_of, pointers-ring_list}
-use Rattle.lhm_ring.proofs.memory.ValuesReplaced.{Entries, Triples, at_entries, lent_then, lent, written_body, written, taken, listing}
-use Rattle.lhm_ring.proofs.memory.ValuesReplaced.{run_of, pointers-written, taken-listing, IsApart-lent, among, revalued_by, held_entries}
-use Rattle.lhm_ring.proofs.memory.ValuesReplaced.{IsOwned-held_written, ring_list-held_written, AreLent-held_entries}
-use Rattle.lhm_ring.proofs.memory.ValuesInOrder.{HasOwnValue, AllByRecursion-own_values, taken-own, taken-by, AllByRecursion-kept}
-use Rattle.lhm_ring.proofs.memory.ValuesInOrder.{set_held_values-own, set_held_values-by, revalued_by-set_held_values, held_values}
-use Rattle.lhm_ring.proofs.memory.Sharing.{parts_own, Lends-less, Lends-parts, Thin, Law-thin}
-use Rattle.lhm_ring.proofs.memory.PartsTaken.{Entails, ◌∗◌, parts_cut, parts_glue}
-use Rattle.lhm_ring.proofs.memory.NodeTaken.{with_cells}
-use Rattle.lhm_ring.specs.declared.nodes.Nodes.{Nodes}
-use Rattle.lhm_ring.specs.Nodes.{Cell, cell, IsApart, links_address, key_address, value_address, body_owns, deed_owns, land_owns, cell_owns}
-use Rattle.lhm_ring.specs.Nodes.{cells_own, cell_lent, cells_lent}
-use Rattle.lhm_ring.specs.ValueLoan.{Spread, spread, AreLent}
-use Rattle.lhm_ring.specs.Ring.{State, state, set_held_values}
-use Rattle.lhm_ring.specs.Links.{ring_cells, ring_pointers}
 
 module _ (R S W : RattleType) where
   abbrev Body : Type 0

@@ -1,24 +1,18 @@
 -- A ring of which only what is held at one pointer changes.
-use Rattle.std.proofs.Common.{◌≡◌, ℕ, true, false, cond, List, [], ◌∷◌, ◌++◌, length, Option, Some, refl, sym, ap, ◌∙◌, subst, arith}
-use denote.RawPtr.{Ptr}
-use Rattle.lhm_ring.specs.declared.ring.Links.{Links}
-use Rattle.lhm_ring.specs.declared.pointer.Link.{Link}
-use Rattle.lhm_ring.proofs.lists.Apart.{IsFresh, same_ptr-equal, same_ptr-reflexive, same_ptr-symmetric, IsFresh-head, IsApart-tail}
-use Rattle.lhm_ring.proofs.rings.Contents.{at-content, hash-content, link-content, pair-content, Holds-content}
-use Rattle.lhm_ring.proofs.rings.HeldPointers.{pointers_of, same_ptr-fresh, IsApart-ring_list}
+use Rattle.lhm_ring.proofs.Names.{List, Option, Some, [], ap, arith, cond, false, length, refl, subst, sym, true, ℕ, ◌++◌, ◌∙◌, ◌∷◌, ◌≡◌}
+use Rattle.lhm_ring.proofs.Names.{HasContent, IsOwned, chaining_to, content_at, content_of, has_links, is_there, link_at, link_of, listed}
+use Rattle.lhm_ring.proofs.Names.{next_at, next_of, one_of, prev_at, prev_of, ring_list, Cell, IsApart, body_at, body_of, cell, links_at}
+use Rattle.lhm_ring.proofs.Names.{links_of, same_ptr, with_body, with_links, target, ChangesOnly, Held, IsHeld, State, change_at, held}
+use Rattle.lhm_ring.proofs.Names.{pair, rekeyed, revalued, state, Link, Links, Ptr}
+use Rattle.lhm_ring.proofs.lists.Apart.{IsApart-tail, IsFresh, IsFresh-head, same_ptr-equal, same_ptr-reflexive, same_ptr-symmetric}
 use Rattle.lhm_ring.proofs.lists.ForAll.{AllByRecursion-map}
-use Rattle.lhm_ring.proofs.memory.OneNodeChanged.{links_at-with_body, body_at-with_body}
-use Rattle.lhm_ring.proofs.rings.Moves.{IsFresh-spares}
+use Rattle.lhm_ring.proofs.memory.OneNodeChanged.{body_at-with_body, links_at-with_body}
+use Rattle.lhm_ring.proofs.rings.Contents.{Holds-content, at-content, hash-content, link-content, pair-content}
+use Rattle.lhm_ring.proofs.rings.HeldPointers.{IsApart-ring_list, pointers_of, same_ptr-fresh}
+use Rattle.lhm_ring.proofs.rings.{Moves.IsFresh-spares, RingNodes.NodeAt-held, Writes.reader-with_links_same}
 use Rattle.lhm_ring.proofs.rings.ReadAtPosition.{content_at-held, links_at-held, pair-held}
-use Rattle.lhm_ring.proofs.rings.RingNodes.{NodeAt-held}
-use Rattle.lhm_ring.proofs.rings.SameNodes.{SameLink, follow-same, IsOwned-same}
-use Rattle.lhm_ring.proofs.rings.Writes.{cell_at-change_other, length-change, reader-with_links_same, links_at-with_links}
-use Rattle.lhm_ring.proofs.rings.Writes.{body_at-with_links}
-use Rattle.lhm_ring.specs.Nodes.{Cell, cell, same_ptr, links_of, body_of, links_at, body_at, IsApart, with_links, with_body}
-use Rattle.lhm_ring.specs.Links.{chaining_to, next_of, prev_of, link_of, has_links, next_at, prev_at, link_at, is_there, content_of}
-use Rattle.lhm_ring.specs.Links.{content_at, HasContent, listed, one_of, ring_list, IsOwned}
-use Rattle.lhm_ring.specs.Ring.{State, state, Held, held, IsHeld, ChangesOnly, change_at, pair, revalued, rekeyed}
-use Rattle.lhm_ring.specs.Pointer.{target}
+use Rattle.lhm_ring.proofs.rings.SameNodes.{IsOwned-same, SameLink, follow-same}
+use Rattle.lhm_ring.proofs.rings.Writes.{body_at-with_links, cell_at-change_other, length-change, links_at-with_links}
 
 -- the same nodes and the same order, except that p holds u in place of t
 pub record ChangesAt {B : Type 0} (cs ds : List (Cell Links B)) (p : Ptr) (t u : Held B) : Type 0 where

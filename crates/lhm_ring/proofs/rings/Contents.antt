@@ -1,11 +1,7 @@
 -- What a node holds, as its links and its body say.
-use Rattle.std.proofs.Common.{◌≡◌, List, Option, Some, None, refl, sym, ap, ◌∙◌}
-use denote.RawPtr.{Ptr}
-use Rattle.lhm_ring.specs.declared.ring.Links.{Links}
-use Rattle.lhm_ring.proofs.lists.Options.{none_some, Some-injective}
-use Rattle.lhm_ring.specs.Nodes.{Cell, links_at, body_at, IsAt, Holds}
-use Rattle.lhm_ring.specs.Links.{link_of, content_of, content_at}
-use Rattle.lhm_ring.specs.Ring.{Held, held}
+use Rattle.lhm_ring.proofs.Names.{List, None, Option, Some, ap, refl, sym, ◌∙◌, ◌≡◌, content_at, content_of, link_of, Cell, Holds, IsAt}
+use Rattle.lhm_ring.proofs.Names.{body_at, links_at, Held, held, Links, Ptr}
+use Rattle.lhm_ring.proofs.lists.Options.{Some-injective, none_some}
 
 -- what the links and the body say of t
 record Read {B : Type 0} (p : Ptr) (o : Option Links) (b : Option B) (t : Held B) : Type 0 where

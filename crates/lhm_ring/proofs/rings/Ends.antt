@@ -1,12 +1,7 @@
 -- The node at an end of what a ring holds.
-use Rattle.std.proofs.Common.{◌≡◌, ℕ, suc, ◌≤◌, List, [], ◌∷◌, ◌++◌, length, Option, Some, None}
-use Rattle.std.proofs.Common.{refl, sym, ap, ◌∙◌, arith, append-nil, length-append}
-use Rattle.std.specs.List.{AllZip}
-use Rattle.std.proofs.lemmas.List.{map-append}
-use denote.RawPtr.{Ptr}
-use Rattle.lhm_ring.proofs.lists.Options.{Some-injective}
-use Rattle.lhm_ring.specs.Ring.{SplitLast, Held, IsHeld, first_at, last_at, last_of, triples}
-use Rattle.lhm_ring.proofs.lists.Splits.{SplitFirst}
+use Rattle.lhm_ring.proofs.Names.{List, None, Option, Some, [], ap, append-nil, arith, length, length-append, refl, suc, sym, ℕ, ◌++◌, ◌∙◌}
+use Rattle.lhm_ring.proofs.Names.{◌∷◌, ◌≡◌, ◌≤◌, Held, IsHeld, SplitLast, first_at, last_at, last_of, triples, map-append, AllZip, Ptr}
+use Rattle.lhm_ring.proofs.lists.{Options.Some-injective, Splits.SplitFirst}
 
 -- a node at p comes first, or last
 abbrev pub First : {B : Type 0} → List (Held B) → Ptr → Type 0

@@ -1,20 +1,10 @@
 -- The first and the last of a ring.
-use Rattle.std.proofs.Common.{◌≡◌, ℕ, List, [], ◌∷◌, ◌++◌, sym, ap, ◌∙◌, arith}
-use Rattle.std.specs.List.{AllByRecursion}
-use denote.RawPtr.{Ptr, null_ptr}
-use Rattle.lhm_ring.specs.declared.ring.Links.{Links}
-use Rattle.lhm_ring.specs.declared.pointer.Link.{Link}
-use Rattle.lhm_ring.proofs.lists.Apart.{IsFresh-head, IsFresh}
-use Rattle.lhm_ring.proofs.rings.Contents.{at-content}
-use Rattle.lhm_ring.proofs.lists.ForAll.{AllByRecursion-left}
-use Rattle.lhm_ring.proofs.lists.Last.{last_from, AllByRecursion-last}
-use Rattle.lhm_ring.proofs.rings.RingCells.{led_to-apart}
-use Rattle.lhm_ring.proofs.rings.RingNodes.{listed-held}
-use Rattle.lhm_ring.proofs.lists.LinkRows.{RowCut-linked}
-use Rattle.lhm_ring.specs.Nodes.{Cell}
-use Rattle.lhm_ring.specs.Links.{next_at, prev_at, AreLinked, HasContent, listed, one_of, ring_list, IsOwned}
-use Rattle.lhm_ring.specs.Ring.{State, state, first_at, last_at, last_of}
-use Rattle.lhm_ring.specs.Pointer.{led_to}
+use Rattle.lhm_ring.proofs.Names.{List, [], ap, arith, sym, ℕ, ◌++◌, ◌∙◌, ◌∷◌, ◌≡◌, AreLinked, HasContent, IsOwned, listed, next_at, one_of}
+use Rattle.lhm_ring.proofs.Names.{prev_at, ring_list, Cell, led_to, State, first_at, last_at, last_of, state, Link, Links, AllByRecursion}
+use Rattle.lhm_ring.proofs.Names.{Ptr, null_ptr}
+use Rattle.lhm_ring.proofs.lists.Apart.{IsFresh, IsFresh-head}
+use Rattle.lhm_ring.proofs.lists.{ForAll.AllByRecursion-left, LinkRows.RowCut-linked, Last.AllByRecursion-last, Last.last_from}
+use Rattle.lhm_ring.proofs.rings.{Contents.at-content, RingCells.led_to-apart, RingNodes.listed-held}
 
 module _ {B : Type 0} (cs : List (Cell Links B)) where
   last_of-listed : (p : Ptr) (h : HasContent cs p) (ps : List Ptr)

@@ -1,16 +1,9 @@
 -- The pointers of what is held: they are apart, so that each is that of one triple.
-use Rattle.std.proofs.Common.{◌≡◌, ℕ, false, List, [], ◌∷◌, ◌++◌, map, refl, sym, ap, ◌∙◌, subst, arith}
-use Rattle.std.proofs.lemmas.List.{map-append}
-use Rattle.std.specs.List.{AllByRecursion}
-use denote.RawPtr.{Ptr, null_ptr}
-use Rattle.lhm_ring.specs.declared.pointer.Link.{Link}
-use Rattle.lhm_ring.specs.declared.ring.Links.{Links}
-use Rattle.lhm_ring.proofs.lists.Apart.{IsFresh, same_ptr-reflexive, IsFresh-head, IsApart-left, IsApart-tail, IsApart-removed}
-use Rattle.lhm_ring.proofs.rings.Contents.{at-content}
-use Rattle.lhm_ring.proofs.lists.LinkRows.{follow-row}
-use Rattle.lhm_ring.specs.Nodes.{Cell, same_ptr, IsApart}
-use Rattle.lhm_ring.specs.Links.{HasContent, follow, listed, one_of, ring_list, ring_pointers, IsOwned}
-use Rattle.lhm_ring.specs.Ring.{State, state, Held, IsHeld, AtHeld}
+use Rattle.lhm_ring.proofs.Names.{List, [], ap, arith, false, map, refl, subst, sym, ℕ, ◌++◌, ◌∙◌, ◌∷◌, ◌≡◌, HasContent, IsOwned, follow}
+use Rattle.lhm_ring.proofs.Names.{listed, one_of, ring_list, ring_pointers, Cell, IsApart, same_ptr, AtHeld, Held, IsHeld, State, state}
+use Rattle.lhm_ring.proofs.Names.{Link, Links, map-append, AllByRecursion, Ptr, null_ptr}
+use Rattle.lhm_ring.proofs.lists.Apart.{IsApart-left, IsApart-removed, IsApart-tail, IsFresh, IsFresh-head, same_ptr-reflexive}
+use Rattle.lhm_ring.proofs.{lists.LinkRows.follow-row, rings.Contents.at-content}
 
 module _ {B : Type 0} where
   abbrev pub pointers_of : List (Held B) → List Ptr

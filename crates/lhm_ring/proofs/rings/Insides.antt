@@ -1,18 +1,12 @@
 -- What the fields of a ring say of its counts, and of what its nodes hold.
-use Rattle.std.proofs.Common.{◌≡◌, ◌∙◌, ℕ, List, Some, true, ◌+◌, ◌≤◌, ◌^◌, length, ap, arith}
-use Rattle.std.specs.Prelude.{min}
+use Rattle.lhm_ring.proofs.Names.{List, Some, ap, arith, length, true, ℕ, ◌+◌, ◌^◌, ◌∙◌, ◌≡◌, ◌≤◌, min, IsLaid, IsOwned, ring_cells}
+use Rattle.lhm_ring.proofs.Names.{ring_list, Cell, Holds, IsAt, body_at, is_block, with_body, AtHeld, IsHeld, State, change_at, pair}
+use Rattle.lhm_ring.proofs.Names.{rekeyed, revalued, state, Links, Ptr}
+use Rattle.lhm_ring.proofs.{memory.Places.length-made, rings.RingNodes.length-held, rings.Stacking.IsOwned-raised}
+use Rattle.lhm_ring.proofs.rings.ContentChange.{IsOwned-rekeyed, IsOwned-revalued, ring_list-rekeyed, ring_list-revalued}
+use Rattle.lhm_ring.proofs.rings.ReadAtPosition.{Holds-held, IsAt-held, pair-held}
+use Rattle.lhm_ring.proofs.rings.RingCells.{Holds-in_nodes, IsAt-in_nodes, body_at-ring_cells, ring_cells-with_body}
 use Rattle.lhm_ring.specs.declared.ring.Ring.TheInside.{Inside}
-use Rattle.lhm_ring.proofs.memory.Places.{length-made}
-use Rattle.lhm_ring.proofs.rings.RingNodes.{length-held}
-use Rattle.lhm_ring.proofs.rings.Stacking.{IsOwned-raised}
-use Rattle.lhm_ring.proofs.rings.ContentChange.{IsOwned-revalued, ring_list-revalued, IsOwned-rekeyed, ring_list-rekeyed}
-use Rattle.lhm_ring.proofs.rings.ReadAtPosition.{IsAt-held, Holds-held, pair-held}
-use Rattle.lhm_ring.proofs.rings.RingCells.{IsAt-in_nodes, Holds-in_nodes, body_at-ring_cells, ring_cells-with_body}
-use Rattle.lhm_ring.specs.declared.ring.Links.{Links}
-use Rattle.lhm_ring.specs.Nodes.{Cell, is_block, body_at, IsAt, Holds, with_body}
-use denote.RawPtr.{Ptr}
-use Rattle.lhm_ring.specs.Links.{ring_cells, ring_list, IsOwned, IsLaid}
-use Rattle.lhm_ring.specs.Ring.{State, state, IsHeld, AtHeld, change_at, pair, revalued, rekeyed}
 
 -- the invariant of a ring, and what callers see of it
 abbrev pub IsWhole : {K V : Type 0} → Inside K V → Type 0

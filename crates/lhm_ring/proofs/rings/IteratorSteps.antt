@@ -1,14 +1,8 @@
 -- The values of what an iterator has left are lent, the first or the last in turn.
-use Rattle.std.proofs.Common.{◌≡◌, false, List, [], ◌∷◌, ◌++◌, map, Option, Some, refl, sym, ap, ◌∙◌, subst, arith}
-use Rattle.std.specs.List.{AllByRecursion}
-use denote.RawPtr.{Ptr}
-use Rattle.lhm_ring.proofs.lists.Apart.{IsFresh, same_ptr-symmetric, same_ptr-equal, IsApart-left}
-use Rattle.lhm_ring.proofs.lists.Apart.{IsFresh-head, IsApart-tail, AllByRecursion-fresh_across}
-use Rattle.lhm_ring.proofs.lists.ForAll.{AllByRecursion-left, AllByRecursion-right}
-use Rattle.lhm_ring.proofs.lists.Options.{Some-injective}
-use Rattle.lhm_ring.specs.Nodes.{same_ptr, IsApart}
-use Rattle.lhm_ring.specs.ValueLoan.{value_at, without_value, AreLent}
-use Rattle.lhm_ring.specs.Ring.{Held}
+use Rattle.lhm_ring.proofs.Names.{List, Option, Some, [], ap, arith, false, map, refl, subst, sym, ◌++◌, ◌∙◌, ◌∷◌, ◌≡◌, IsApart, same_ptr}
+use Rattle.lhm_ring.proofs.Names.{Held, AreLent, value_at, without_value, AllByRecursion, Ptr}
+use Rattle.lhm_ring.proofs.lists.Apart.{AllByRecursion-fresh_across, IsApart-left, IsApart-tail, IsFresh, IsFresh-head, same_ptr-equal}
+use Rattle.lhm_ring.proofs.lists.{Apart.same_ptr-symmetric, Options.Some-injective, ForAll.AllByRecursion-left, ForAll.AllByRecursion-right}
 
 -- a key and a value that are read apart
 pub Some-both : {K V : Type 0} (o : Option (K × V)) (k k' : K) (v v' : V) → o ≡ Some (k, v) → o ≡ Some (k', v') → o ≡ Some (k, v')

@@ -1,17 +1,13 @@
 -- Two nodes are joined: what stays of a row, a chain and contents, and the rows that come of it.
-use Rattle.std.proofs.Common.{◌≡◌, false, List, [], ◌∷◌, ◌++◌, Option, refl, sym, ◌∙◌, subst, append-nil, append_assoc, arith}
-use Rattle.std.specs.List.{AllByRecursion}
-use denote.RawPtr.{Ptr}
-use Rattle.lhm_ring.specs.declared.ring.Links.{Links}
-use Rattle.lhm_ring.proofs.lists.Apart.{IsFresh, same_ptr-reflexive, IsApart-tail, AllByRecursion-fresh_across, IsApart-left, IsFresh-head}
-use Rattle.lhm_ring.proofs.lists.Apart.{IsFresh-middle, same_ptr-flip, IsApart-removed}
-use Rattle.lhm_ring.proofs.lists.ForAll.{AllByRecursion-map, AllByRecursion-always, AllByRecursion-append, AllByRecursion-left}
-use Rattle.lhm_ring.proofs.lists.ForAll.{AllByRecursion-right}
-use Rattle.lhm_ring.proofs.lists.Last.{first_from, last_from, AllByRecursion-last}
-use Rattle.lhm_ring.proofs.lists.LinkRows.{RowCut-linked, AreLinked-glued}
+use Rattle.lhm_ring.proofs.Names.{List, Option, [], append-nil, append_assoc, arith, false, refl, subst, sym, ◌++◌, ◌∙◌, ◌∷◌, ◌≡◌}
+use Rattle.lhm_ring.proofs.Names.{AreLinked, AreNeighbours, HasContent, IsJoined, IsSpareList, IsThere, listed, next_at, one_of, prev_at}
+use Rattle.lhm_ring.proofs.Names.{Cell, IsApart, same_ptr, Links, AllByRecursion, Ptr}
+use Rattle.lhm_ring.proofs.lists.Apart.{AllByRecursion-fresh_across, IsApart-left, IsApart-removed, IsApart-tail, IsFresh, IsFresh-head}
+use Rattle.lhm_ring.proofs.lists.Apart.{IsFresh-middle, same_ptr-flip, same_ptr-reflexive}
+use Rattle.lhm_ring.proofs.lists.ForAll.{AllByRecursion-always, AllByRecursion-append, AllByRecursion-left, AllByRecursion-map}
+use Rattle.lhm_ring.proofs.lists.{ForAll.AllByRecursion-right, LinkRows.AreLinked-glued, LinkRows.RowCut-linked}
+use Rattle.lhm_ring.proofs.lists.Last.{AllByRecursion-last, first_from, last_from}
 use Rattle.lhm_ring.proofs.rings.SameNodes.{IsSpareList-same, SameLink}
-use Rattle.lhm_ring.specs.Nodes.{Cell, same_ptr, IsApart}
-use Rattle.lhm_ring.specs.Links.{next_at, prev_at, AreNeighbours, AreLinked, IsSpareList, HasContent, listed, one_of, IsJoined, IsThere}
 
 -- a is none of those that lead on, and b none of those that are led to
 abbrev pub AvoidsSource : Ptr → List Ptr → Type 0

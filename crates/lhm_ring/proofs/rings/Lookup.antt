@@ -1,11 +1,7 @@
 -- A node that is found at a pointer cuts the list in two there.
-use Rattle.std.proofs.Common.{◌≡◌, true, false, cond, List, [], ◌∷◌, ◌++◌, Option, Some, None, refl, sym, ap, ◌∙◌, subst}
-use denote.RawPtr.{Ptr}
-use Rattle.std.specs.List.{AllByRecursion}
-use Rattle.lhm_ring.proofs.lists.Apart.{same_ptr-equal}
-use Rattle.lhm_ring.proofs.lists.Options.{none_some}
-use Rattle.lhm_ring.specs.Nodes.{Cell, same_ptr, pointers, cell_at, links_of, body_of, links_at, body_at, change}
-use Rattle.lhm_ring.specs.Ring.{SplitAt}
+use Rattle.lhm_ring.proofs.Names.{List, None, Option, Some, [], ap, cond, false, refl, subst, sym, true, ◌++◌, ◌∙◌, ◌∷◌, ◌≡◌, Cell, body_at}
+use Rattle.lhm_ring.proofs.Names.{body_of, cell_at, change, links_at, links_of, pointers, same_ptr, SplitAt, AllByRecursion, Ptr}
+use Rattle.lhm_ring.proofs.lists.{Apart.same_ptr-equal, Options.none_some}
 
 module _ {L B : Type 0} where
   -- where the list is cut, and what a change there does

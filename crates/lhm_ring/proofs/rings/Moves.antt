@@ -1,29 +1,18 @@
 -- A node of a ring moves: before another one, or to the back.
-use Rattle.std.proofs.Common.{◌≡◌, Bool, true, false, cond, ℕ, suc, ◌+◌, List, [], ◌∷◌, ◌++◌, length, Option, Some, None}
-use Rattle.std.proofs.Common.{refl, sym, ap, ◌∙◌, subst, append_assoc, append-nil, arith, length-append, true≢false}
-use Rattle.std.specs.Prelude.{IfSome}
-use Rattle.std.specs.List.{AllByRecursion}
-use denote.RawPtr.{Ptr, null_ptr}
-use Rattle.lhm_ring.specs.declared.ring.Links.{Links}
-use Rattle.lhm_ring.specs.declared.pointer.Link.{Link}
-use Rattle.lhm_ring.specs.declared.pointer.Position.{Position}
-use Rattle.lhm_ring.proofs.lists.Apart.{IsFresh, IsApart-left, IsFresh-middle, IsApart-removed, IsApart-inserted}
-use Rattle.lhm_ring.proofs.lists.Apart.{same_ptr-flip, same_ptr-equal, same_ptr-reflexive}
-use Rattle.lhm_ring.proofs.lists.ForAll.{AllByRecursion-append, AllByRecursion-left, AllByRecursion-right, AllByRecursion-removed}
-use Rattle.lhm_ring.proofs.lists.ForAll.{AllByRecursion-inserted}
-use Rattle.lhm_ring.proofs.lists.Last.{first_from, last_from, AllByRecursion-first, AllByRecursion-last}
-use Rattle.lhm_ring.proofs.lists.LinkRows.{RowCut-linked, AreNeighbours-cut, listed-append}
-use Rattle.lhm_ring.proofs.lists.Splits.{SplitAround}
-use Rattle.lhm_ring.proofs.rings.Contents.{at-content}
-use Rattle.lhm_ring.proofs.rings.Joins.{IsSpareList-unchanged, AllByRecursion-content_unchanged, AllByRecursion-there_unchanged}
-use Rattle.lhm_ring.proofs.rings.Joins.{listed-unchanged, AreLinked-removed, AreLinked-inserted}
-use Rattle.lhm_ring.proofs.rings.RingCells.{IsJoined-same, led_to-some, led_to-none}
+use Rattle.lhm_ring.proofs.Names.{append-nil, append_assoc, length-append, suc, AreNeighbours, IsSpareList, pointer_of_some, AllByRecursion}
+use Rattle.lhm_ring.proofs.Names.{sym, true≢false, AreLinked, HasContent, IsJoined, content_at, ring_list, links_at, pointer_of, BeforeHeld}
+use Rattle.lhm_ring.proofs.Names.{[], IsOwned, IsThere, next_at, next_of, prev_at, prev_of, IsApart, same_ptr, first_at, Position, null_ptr}
+use Rattle.lhm_ring.proofs.Names.{Option, arith, false, length, subst, IfSome, IsRing, listed, one_of, led_to, AtHeld, IsHeld, State, state}
+use Rattle.lhm_ring.proofs.Names.{Bool, List, None, Some, ap, cond, refl, true, ℕ, ◌++◌, ◌+◌, ◌∙◌, ◌∷◌, ◌≡◌, Cell, Held, Link, Links, Ptr}
+use Rattle.lhm_ring.proofs.lists.Apart.{IsApart-inserted, IsApart-left, IsApart-removed, IsFresh, IsFresh-middle, same_ptr-equal}
+use Rattle.lhm_ring.proofs.lists.{Apart.same_ptr-flip, Apart.same_ptr-reflexive, ForAll.AllByRecursion-right, Splits.SplitAround}
+use Rattle.lhm_ring.proofs.lists.ForAll.{AllByRecursion-append, AllByRecursion-inserted, AllByRecursion-left, AllByRecursion-removed}
+use Rattle.lhm_ring.proofs.lists.Last.{AllByRecursion-first, AllByRecursion-last, first_from, last_from}
+use Rattle.lhm_ring.proofs.lists.LinkRows.{AreNeighbours-cut, RowCut-linked, listed-append}
+use Rattle.lhm_ring.proofs.rings.{Contents.at-content, Joins.AreLinked-removed, Joins.IsSpareList-unchanged, Joins.listed-unchanged}
+use Rattle.lhm_ring.proofs.rings.Joins.{AllByRecursion-content_unchanged, AllByRecursion-there_unchanged, AreLinked-inserted}
+use Rattle.lhm_ring.proofs.rings.RingCells.{IsJoined-same, led_to-none, led_to-some}
 use Rattle.lhm_ring.proofs.rings.RingNodes.{Found-held, ListCut-listed, NodeAt-held, ring_list-listed, ring_split}
-use Rattle.lhm_ring.specs.Nodes.{Cell, IsApart, links_at, same_ptr}
-use Rattle.lhm_ring.specs.Links.{next_of, prev_of, next_at, prev_at, content_at, AreLinked, AreNeighbours, IsSpareList, HasContent, IsRing}
-use Rattle.lhm_ring.specs.Links.{listed, one_of, IsJoined, ring_list, IsOwned, IsThere}
-use Rattle.lhm_ring.specs.Ring.{state, Held, State, IsHeld, AtHeld, BeforeHeld, first_at}
-use Rattle.lhm_ring.specs.Pointer.{led_to, pointer_of, pointer_of_some}
 
 -- one of some pointers, among the others than another one
 split_others : (xs : List Ptr) (p : Ptr) (ys us : List Ptr) (q : Ptr) (vs : List Ptr) → xs ++ p ∷ ys ≡ us ++ q ∷ vs

@@ -1,19 +1,12 @@
 -- What comes right behind a held node, and right before it.
-use Rattle.std.proofs.Common.{◌≡◌, ℕ, false, List, [], ◌∷◌, ◌++◌, Option, Some, sym, ap, ◌∙◌, arith}
-use denote.RawPtr.{Ptr, null_ptr}
-use Rattle.lhm_ring.specs.declared.ring.Links.{Links}
-use Rattle.lhm_ring.specs.declared.pointer.Link.{Link}
-use Rattle.lhm_ring.proofs.lists.Apart.{IsFresh, IsFresh-head}
-use Rattle.lhm_ring.proofs.rings.FirstAndLast.{first_at-led_to, last_at-led_to}
+use Rattle.lhm_ring.proofs.Names.{List, Option, Some, [], ap, arith, false, sym, ℕ, ◌++◌, ◌∙◌, ◌∷◌, ◌≡◌, HasContent, IsOwned, IsRing}
+use Rattle.lhm_ring.proofs.Names.{listed, next_at, next_of, prev_at, prev_of, ring_list, Cell, links_at, same_ptr, led_to, AtHeld, State}
+use Rattle.lhm_ring.proofs.Names.{first_at, last_at, state, Link, Links, Ptr, null_ptr}
+use Rattle.lhm_ring.proofs.lists.{Apart.IsFresh, Apart.IsFresh-head, Splits.SplitAround}
 use Rattle.lhm_ring.proofs.lists.ForAll.{AllByRecursion-left, AllByRecursion-right}
-use Rattle.lhm_ring.proofs.rings.Moves.{AreLinked-row}
-use Rattle.lhm_ring.proofs.rings.RingNodes.{Found-held, ring_split}
-use Rattle.lhm_ring.proofs.lists.LinkRows.{RowCut, RowCut-linked, AreLinked-glued}
-use Rattle.lhm_ring.specs.Nodes.{Cell, same_ptr, links_at}
-use Rattle.lhm_ring.specs.Links.{next_of, prev_of, next_at, prev_at, HasContent, IsRing, listed, ring_list, IsOwned}
-use Rattle.lhm_ring.specs.Ring.{State, state, AtHeld, first_at, last_at}
-use Rattle.lhm_ring.proofs.lists.Splits.{SplitAround}
-use Rattle.lhm_ring.specs.Pointer.{led_to}
+use Rattle.lhm_ring.proofs.lists.LinkRows.{AreLinked-glued, RowCut, RowCut-linked}
+use Rattle.lhm_ring.proofs.rings.FirstAndLast.{first_at-led_to, last_at-led_to}
+use Rattle.lhm_ring.proofs.rings.{Moves.AreLinked-row, RingNodes.Found-held, RingNodes.ring_split}
 
 module _ {B : Type 0} {cs : List (Cell Links B)} {ps : List Ptr} {spare : Option Ptr}
     {ss : List Ptr} {p : Ptr} (ring : IsRing cs ps spare ss) (s : SplitAround ps p) where

@@ -1,7 +1,5 @@
 -- How many nodes there are after a growth.
-use Rattle.std.proofs.Common.{◌≡◌, ℕ, ◌+◌, ◌≤◌, ◌<◌, arith}
-use Rattle.std.specs.Prelude.{max}
-use Rattle.lhm_ring.specs.Links.{nodes_grown, least_more}
+use Rattle.lhm_ring.proofs.Names.{arith, max, ℕ, ◌+◌, ◌<◌, ◌≡◌, ◌≤◌, least_more, nodes_grown}
 
 -- as many as are needed were there
 pub nodes_grown-enough : (nodes needed least : ℕ) → needed ≤ nodes → nodes_grown nodes needed least ≡ nodes

@@ -1,35 +1,25 @@
 -- `put_back` and `unlink`: the ring after them, and from what their steps ensure.
-use Rattle.std.specs.List.{AllByRecursion}
-use Rattle.std.proofs.Common.{◌≡◌, ℕ, suc, ◌+◌, ◌-◌, ◌<◌, ◌≤◌, ◌^◌, true, List, [], ◌∷◌, ◌++◌, length, Some, None, refl, sym, ap, ◌∙◌}
-use Rattle.std.proofs.Common.{subst, arith, length-append, false, Option, append_assoc}
-use Rattle.std.specs.Option.{IsSome}
-use denote.RawPtr.{Ptr, null_ptr}
-use Rattle.lhm_ring.specs.declared.ring.Links.{Links}
-use Rattle.lhm_ring.specs.declared.ring.Ends.{Ends}
-use Rattle.lhm_ring.specs.declared.pointer.Link.{Link}
-use Rattle.lhm_ring.proofs.lists.Apart.{same_ptr-reflexive, IsApart-left, IsFresh-middle, IsFresh}
-use Rattle.lhm_ring.proofs.rings.Contents.{pair-content, Holds-content, IsAt-content}
-use Rattle.lhm_ring.proofs.rings.Joins.{AreLinked-pushed, AllByRecursion-there_unchanged, IsSpareList-unchanged, listed-unchanged}
-use Rattle.lhm_ring.proofs.rings.Joins.{AllByRecursion-content_unchanged}
-use Rattle.lhm_ring.proofs.lists.ForAll.{AllByRecursion-left, AllByRecursion-right, AllByRecursion-removed, AllByRecursion-append}
-use Rattle.lhm_ring.proofs.lists.Last.{AllByRecursion-last}
-use Rattle.lhm_ring.proofs.rings.Moves.{AreLinked-joined, IsFresh-others, IsFresh-rest, IsFresh-spares, IsApart-shifted}
-use Rattle.lhm_ring.proofs.rings.Moves.{AllByRecursion-shifted, IsJoined-past, listed-one}
-use Rattle.lhm_ring.proofs.memory.OneNodeChanged.{OnlyAt, links_at-with_body, body_at-with_body, OnlyAt-with_links, OnlyAt-with_body}
-use Rattle.lhm_ring.proofs.memory.OneNodeChanged.{OnlyAt-both, AreLinked-other, listed-other, AllByRecursion-there_other}
-use Rattle.lhm_ring.proofs.memory.OneNodeChanged.{AllByRecursion-content_other, IsSpareList-other}
-use Rattle.lhm_ring.proofs.lists.Options.{Some-injective}
-use Rattle.lhm_ring.proofs.rings.ReadAtPosition.{content_at-held}
-use Rattle.lhm_ring.proofs.rings.RingCells.{links_at-ring_cells, ring_cells-with_links, ring_cells-with_body}
-use Rattle.lhm_ring.proofs.rings.RingNodes.{CutAt, Found-held, ring_list-listed, ring_split}
+use Rattle.lhm_ring.proofs.Names.{List, None, Option, Some, [], ap, append_assoc, arith, false, length, length-append, refl, subst, suc}
+use Rattle.lhm_ring.proofs.Names.{sym, true, ℕ, ◌++◌, ◌+◌, ◌-◌, ◌<◌, ◌^◌, ◌∙◌, ◌∷◌, ◌≡◌, ◌≤◌, AreLinked, ChainsTo, HasContent, IsJoined}
+use Rattle.lhm_ring.proofs.Names.{IsOwned, IsRing, IsSpareList, IsThere, chaining_to, content_at, content_of, link_at, link_of, listed}
+use Rattle.lhm_ring.proofs.Names.{next_at, prev_at, prev_of, ring_cells, ring_list, Cell, Holds, IsApart, IsAt, body_at, is_block, links_at}
+use Rattle.lhm_ring.proofs.Names.{links_of, same_ptr, with_body, with_links, target, Held, IsHeld, State, held, state, Link, Ends, Links}
+use Rattle.lhm_ring.proofs.Names.{AllByRecursion, IsSome, Ptr, null_ptr}
+use Rattle.lhm_ring.proofs.lists.Apart.{IsApart-left, IsFresh, IsFresh-middle, same_ptr-reflexive}
+use Rattle.lhm_ring.proofs.lists.ForAll.{AllByRecursion-append, AllByRecursion-left, AllByRecursion-removed, AllByRecursion-right}
+use Rattle.lhm_ring.proofs.lists.{Last.AllByRecursion-last, Options.Some-injective, Splits.SplitAround}
 use Rattle.lhm_ring.proofs.lists.LinkRows.{RowCut-linked, listed-append}
-use Rattle.lhm_ring.proofs.rings.Writes.{links_at-with_links, IsAt-there}
-use Rattle.lhm_ring.specs.Nodes.{Cell, links_at, body_at, IsAt, Holds, with_links, with_body, same_ptr, links_of, is_block, IsApart}
-use Rattle.lhm_ring.specs.Links.{ring_cells, chaining_to, ChainsTo, prev_of, link_of, next_at, prev_at, link_at, content_of, content_at}
-use Rattle.lhm_ring.specs.Links.{IsSpareList, IsRing, listed, IsJoined, ring_list, IsOwned, AreLinked, HasContent, IsThere}
-use Rattle.lhm_ring.specs.Ring.{State, state, held, IsHeld, Held}
-use Rattle.lhm_ring.proofs.lists.Splits.{SplitAround}
-use Rattle.lhm_ring.specs.Pointer.{target}
+use Rattle.lhm_ring.proofs.memory.OneNodeChanged.{AllByRecursion-content_other, AllByRecursion-there_other, AreLinked-other}
+use Rattle.lhm_ring.proofs.memory.OneNodeChanged.{IsSpareList-other, OnlyAt, OnlyAt-both, OnlyAt-with_body, OnlyAt-with_links}
+use Rattle.lhm_ring.proofs.memory.OneNodeChanged.{body_at-with_body, links_at-with_body, listed-other}
+use Rattle.lhm_ring.proofs.rings.Contents.{Holds-content, IsAt-content, pair-content}
+use Rattle.lhm_ring.proofs.rings.Joins.{AllByRecursion-content_unchanged, AllByRecursion-there_unchanged, AreLinked-pushed}
+use Rattle.lhm_ring.proofs.rings.{Joins.IsSpareList-unchanged, Joins.listed-unchanged, ReadAtPosition.content_at-held}
+use Rattle.lhm_ring.proofs.rings.Moves.{AllByRecursion-shifted, AreLinked-joined, IsApart-shifted, IsFresh-others, IsFresh-rest}
+use Rattle.lhm_ring.proofs.rings.Moves.{IsFresh-spares, IsJoined-past, listed-one}
+use Rattle.lhm_ring.proofs.rings.RingCells.{links_at-ring_cells, ring_cells-with_body, ring_cells-with_links}
+use Rattle.lhm_ring.proofs.rings.RingNodes.{CutAt, Found-held, ring_list-listed, ring_split}
+use Rattle.lhm_ring.proofs.rings.Writes.{IsAt-there, links_at-with_links}
 
 -- the first spare node p is given links, a hash and a body, and comes last
 module _ {B : Type 0} {cs ds es fs : List (Cell Links B)} {ps : List Ptr} {spare : Option Ptr} {p : Ptr} {ss : List Ptr}

@@ -1,13 +1,8 @@
 -- What is read at a held pointer.
-use Rattle.std.proofs.Common.{◌≡◌, ℕ, List, Some, sym}
-use denote.RawPtr.{Ptr}
-use Rattle.lhm_ring.specs.declared.ring.Links.{Links}
-use Rattle.lhm_ring.specs.declared.pointer.Link.{Link}
-use Rattle.lhm_ring.proofs.rings.Contents.{hash-content, link-content, pair-content, Holds-content, IsAt-content}
+use Rattle.lhm_ring.proofs.Names.{List, Some, sym, ℕ, ◌≡◌, IsOwned, content_at, link_of, ring_list, Cell, Holds, IsAt, body_at, links_at}
+use Rattle.lhm_ring.proofs.Names.{AtHeld, Held, IsHeld, State, state, Link, Links, Ptr}
+use Rattle.lhm_ring.proofs.rings.Contents.{Holds-content, IsAt-content, hash-content, link-content, pair-content}
 use Rattle.lhm_ring.proofs.rings.RingNodes.{Found-held}
-use Rattle.lhm_ring.specs.Nodes.{Cell, links_at, body_at, IsAt, Holds}
-use Rattle.lhm_ring.specs.Links.{link_of, content_at, ring_list, IsOwned}
-use Rattle.lhm_ring.specs.Ring.{State, state, Held, IsHeld, AtHeld}
 
 module _ {B : Type 0} {cs : List (Cell Links B)} {spare : Link} {n m : ℕ} {v : State B} {total : ℕ}
     (ok : IsOwned cs spare n m) (w : state (ring_list cs n) m total ≡ v) where

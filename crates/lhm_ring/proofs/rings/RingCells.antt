@@ -1,21 +1,12 @@
 -- The nodes of a ring, and the one at null that stands for its ends.
-use Rattle.std.proofs.Common.{◌≡◌, true, false, cond, List, [], ◌∷◌, ◌++◌, Option, Some, None, refl, sym, ap, ◌∙◌, subst, arith}
-use Rattle.std.specs.List.{AllByRecursion}
-use denote.RawPtr.{Ptr, block_ptr, null_ptr}
-use Rattle.lhm_ring.specs.declared.ring.Links.{Links}
-use Rattle.lhm_ring.specs.declared.ring.Ends.{Ends}
-use Rattle.lhm_ring.specs.declared.pointer.Link.{Link}
-use Rattle.lhm_ring.proofs.lists.Apart.{IsApart-none, IsApart-added}
-use Rattle.lhm_ring.proofs.lists.ForAll.{AllByRecursion-map}
-use Rattle.lhm_ring.proofs.rings.Lookup.{AllByRecursion-at}
-use Rattle.lhm_ring.proofs.lists.Options.{none_some, Some-injective}
-use Rattle.lhm_ring.proofs.rings.SameNodes.{IsSpareList-same, SameLink}
-use Rattle.lhm_ring.proofs.rings.Writes.{IsAt-there}
-use Rattle.lhm_ring.specs.Nodes.{Cell, cell, same_ptr, pointers, cell_at, links_of, body_of, links_at, body_at, change, with_links}
-use Rattle.lhm_ring.specs.Nodes.{with_body, is_block, AreBlocks, IsAt, Holds}
-use Rattle.lhm_ring.specs.Links.{ends_links, ring_cells, chaining_to, ChainsTo, has_links, next_at, prev_at, content_at, content_of}
-use Rattle.lhm_ring.specs.Links.{AreLinked, IsSpareList, HasContent, listed, one_of, IsJoined, IsRing, IsOwned, link_of, IsThere}
-use Rattle.lhm_ring.specs.Pointer.{led_to, target}
+use Rattle.lhm_ring.proofs.Names.{List, None, Option, Some, [], ap, arith, cond, false, refl, subst, sym, true, ◌++◌, ◌∙◌, ◌∷◌, ◌≡◌}
+use Rattle.lhm_ring.proofs.Names.{AreLinked, ChainsTo, HasContent, IsJoined, IsOwned, IsRing, IsSpareList, IsThere, chaining_to, content_at}
+use Rattle.lhm_ring.proofs.Names.{content_of, ends_links, has_links, link_of, listed, next_at, one_of, prev_at, ring_cells, AreBlocks, Cell}
+use Rattle.lhm_ring.proofs.Names.{Holds, IsAt, body_at, body_of, cell, cell_at, change, is_block, links_at, links_of, pointers, same_ptr}
+use Rattle.lhm_ring.proofs.Names.{with_body, with_links, led_to, target, Link, Ends, Links, AllByRecursion, Ptr, block_ptr, null_ptr}
+use Rattle.lhm_ring.proofs.lists.{Apart.IsApart-added, Apart.IsApart-none, ForAll.AllByRecursion-map}
+use Rattle.lhm_ring.proofs.lists.Options.{Some-injective, none_some}
+use Rattle.lhm_ring.proofs.rings.{Lookup.AllByRecursion-at, Writes.IsAt-there, SameNodes.IsSpareList-same, SameNodes.SameLink}
 
 -- where a link leads
 pub led_to-apart : (p : Ptr) → same_ptr null_ptr p ≡ false → led_to p ≡ Some p

@@ -1,16 +1,9 @@
 -- The nodes of a ring, what it lists, and where it is cut.
-use Rattle.std.proofs.Common.{◌≡◌, ℕ, suc, ◌+◌, ◌≤◌, ◌^◌, List, [], ◌∷◌, ◌++◌, length, Option, refl, sym, ap, ◌∙◌, subst, arith, Some}
-use Rattle.std.specs.List.{AllByRecursion}
-use denote.RawPtr.{Ptr, null_ptr}
-use Rattle.lhm_ring.specs.declared.ring.Links.{Links}
-use Rattle.lhm_ring.specs.declared.pointer.Link.{Link}
+use Rattle.lhm_ring.proofs.Names.{List, Option, Some, [], ap, arith, length, refl, subst, suc, sym, ℕ, ◌++◌, ◌+◌, ◌^◌, ◌∙◌, ◌∷◌, ◌≡◌, ◌≤◌}
+use Rattle.lhm_ring.proofs.Names.{HasContent, IsOwned, IsRing, content_at, follow, listed, one_of, ring_list, Cell, AtHeld, Held, IsHeld}
+use Rattle.lhm_ring.proofs.Names.{State, state, Link, Links, AllByRecursion, Ptr, null_ptr}
+use Rattle.lhm_ring.proofs.lists.{ForAll.AllByRecursion-right, LinkRows.follow-row, Splits.SplitAround}
 use Rattle.lhm_ring.proofs.rings.Contents.{at-content}
-use Rattle.lhm_ring.proofs.lists.ForAll.{AllByRecursion-right}
-use Rattle.lhm_ring.proofs.lists.LinkRows.{follow-row}
-use Rattle.lhm_ring.specs.Nodes.{Cell}
-use Rattle.lhm_ring.specs.Links.{HasContent, IsRing, follow, listed, one_of, ring_list, IsOwned, content_at}
-use Rattle.lhm_ring.specs.Ring.{state, State, IsHeld, AtHeld, Held}
-use Rattle.lhm_ring.proofs.lists.Splits.{SplitAround}
 
 module _ {B : Type 0} where
   -- pointers, where what they hold is cut

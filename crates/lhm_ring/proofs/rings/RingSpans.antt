@@ -1,16 +1,10 @@
 -- What a ring holds, as a row of its nodes.
-use Rattle.std.proofs.Common.{◌≡◌, ℕ, suc, zero, List, ◌∷◌, refl, sym, ap, ◌∙◌, subst, arith}
-use denote.RawPtr.{Ptr, null_ptr}
-use Rattle.lhm_ring.specs.declared.ring.Links.{Links}
-use Rattle.lhm_ring.specs.declared.ring.Ends.{Ends}
-use Rattle.lhm_ring.specs.declared.pointer.Link.{Link}
-use Rattle.lhm_ring.proofs.lists.Apart.{IsApart-left, IsApart-tail}
-use Rattle.lhm_ring.proofs.rings.RingCells.{next_at-null, prev_at-null, AllByRecursion-apart, AllByRecursion-content_in_nodes}
-use Rattle.lhm_ring.proofs.rings.RingCells.{listed-in_nodes, AreLinked-in_nodes}
-use Rattle.lhm_ring.proofs.lists.LinkRows.{RowCut-linked}
-use Rattle.lhm_ring.proofs.rings.Spans.{last_pointer-last_from, AreLinked-tail, HasEnds-behind, pointers_from-span}
-use Rattle.lhm_ring.specs.Nodes.{Cell}
-use Rattle.lhm_ring.specs.Links.{ring_cells, next_at, prev_at, follow, listed, pointers_from, ring_list, IsOwned, IsSpan}
+use Rattle.lhm_ring.proofs.Names.{List, ap, arith, refl, subst, suc, sym, zero, ℕ, ◌∙◌, ◌∷◌, ◌≡◌, IsOwned, IsSpan, follow, listed, next_at}
+use Rattle.lhm_ring.proofs.Names.{pointers_from, prev_at, ring_cells, ring_list, Cell, Link, Ends, Links, Ptr, null_ptr}
+use Rattle.lhm_ring.proofs.lists.{Apart.IsApart-left, Apart.IsApart-tail, LinkRows.RowCut-linked}
+use Rattle.lhm_ring.proofs.rings.RingCells.{AllByRecursion-apart, AllByRecursion-content_in_nodes, AreLinked-in_nodes, listed-in_nodes}
+use Rattle.lhm_ring.proofs.rings.RingCells.{next_at-null, prev_at-null}
+use Rattle.lhm_ring.proofs.rings.Spans.{AreLinked-tail, HasEnds-behind, last_pointer-last_from, pointers_from-span}
 
 module _ {B : Type 0} where
   -- what a ring holds is in a row from its front to its back

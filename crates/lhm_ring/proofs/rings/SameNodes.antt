@@ -1,13 +1,8 @@
 -- Nodes whose links lead as those of others do: rows, chains and a ring of these are theirs too.
-use Rattle.std.proofs.Common.{◌≡◌, ℕ, suc, zero, List, [], ◌∷◌, length, Option, sym, refl, ap, ◌∙◌, subst, arith}
-use Rattle.std.specs.List.{AllByRecursion}
-use denote.RawPtr.{Ptr}
-use Rattle.lhm_ring.specs.declared.pointer.Link.{Link}
-use Rattle.lhm_ring.specs.declared.ring.Links.{Links}
+use Rattle.lhm_ring.proofs.Names.{List, Option, [], ap, arith, length, refl, subst, suc, sym, zero, ℕ, ◌∙◌, ◌∷◌, ◌≡◌, AreLinked, HasContent}
+use Rattle.lhm_ring.proofs.Names.{IsOwned, IsRing, IsSpareList, follow, is_there, link_at, next_at, prev_at, Cell, target, Link, Links}
+use Rattle.lhm_ring.proofs.Names.{AllByRecursion, Ptr}
 use Rattle.lhm_ring.proofs.lists.ForAll.{AllByRecursion-map}
-use Rattle.lhm_ring.specs.Nodes.{Cell}
-use Rattle.lhm_ring.specs.Links.{next_at, prev_at, link_at, is_there, AreLinked, IsSpareList, HasContent, IsRing, follow, IsOwned}
-use Rattle.lhm_ring.specs.Pointer.{target}
 
 module _ {B : Type 0} (cs ds : List (Cell Links B)) where
   abbrev pub SameLink : Ptr → Type 0

@@ -1,22 +1,14 @@
 -- A row of nodes from one to another: its first and its last, and what is left without them.
-use Rattle.std.proofs.Common.{◌≡◌, ℕ, ◌-◌, false, List, [], ◌∷◌, ◌++◌, length, Some, None, refl, sym, ap, ◌∙◌, subst, arith, length-append}
-use lib.ListN.{length-map}
-use Rattle.std.specs.List.{AllByRecursion}
-use denote.RawPtr.{Ptr}
-use Rattle.lhm_ring.specs.declared.ring.Links.{Links}
-use Rattle.lhm_ring.proofs.lists.Apart.{IsFresh, IsApart-left, IsFresh-head, IsApart-tail, IsFresh-middle}
-use Rattle.lhm_ring.proofs.rings.Contents.{Holds-content, IsAt-content}
-use Rattle.lhm_ring.proofs.lists.ForAll.{AllByRecursion-left, AllByRecursion-right}
-use Rattle.lhm_ring.proofs.lists.Last.{last_from, SplitLast-last_from}
-use Rattle.lhm_ring.proofs.memory.OneNodeChanged.{links_at-with_body, AllByRecursion-content_other, listed-other}
-use Rattle.lhm_ring.proofs.rings.RingNodes.{length-listed}
+use Rattle.lhm_ring.proofs.Names.{List, None, Some, [], ap, arith, false, length, length-append, refl, subst, sym, ℕ, ◌++◌, ◌-◌, ◌∙◌, ◌∷◌}
+use Rattle.lhm_ring.proofs.Names.{◌≡◌, AreLinked, HasContent, HasEnds, IsSpan, last_pointer, link_of, listed, next_at, next_of}
+use Rattle.lhm_ring.proofs.Names.{pointers_from, prev_at, prev_of, span_triples, Cell, Holds, IsApart, IsAt, body_at, cell, cell_at}
+use Rattle.lhm_ring.proofs.Names.{links_at, same_ptr, with_body, Held, held, triples, Links, length-map, AllByRecursion, Ptr}
+use Rattle.lhm_ring.proofs.lists.Apart.{IsApart-left, IsApart-tail, IsFresh, IsFresh-head, IsFresh-middle}
+use Rattle.lhm_ring.proofs.lists.{ForAll.AllByRecursion-left, ForAll.AllByRecursion-right, Last.SplitLast-last_from, Last.last_from}
 use Rattle.lhm_ring.proofs.lists.LinkRows.{RowCut-linked, listed-append}
-use Rattle.lhm_ring.proofs.rings.SameNodes.{AreLinked-same}
-use Rattle.lhm_ring.proofs.rings.Writes.{cell_at-change_other}
-use Rattle.lhm_ring.specs.Nodes.{Cell, cell, cell_at, same_ptr, links_at, body_at, IsApart, IsAt, Holds, with_body}
-use Rattle.lhm_ring.specs.Links.{next_of, prev_of, link_of, next_at, prev_at, AreLinked, HasContent, listed, last_pointer, HasEnds}
-use Rattle.lhm_ring.specs.Links.{pointers_from, span_triples, IsSpan}
-use Rattle.lhm_ring.specs.Ring.{Held, held, triples}
+use Rattle.lhm_ring.proofs.memory.OneNodeChanged.{AllByRecursion-content_other, links_at-with_body, listed-other}
+use Rattle.lhm_ring.proofs.rings.Contents.{Holds-content, IsAt-content}
+use Rattle.lhm_ring.proofs.rings.{RingNodes.length-listed, SameNodes.AreLinked-same, Writes.cell_at-change_other}
 
 module _ {B : Type 0} (cs : List (Cell Links B)) where
   pub listed-none : (f : Ptr) → listed cs (pointers_from cs 0 f) ≡ []

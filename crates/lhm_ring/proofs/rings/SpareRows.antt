@@ -1,25 +1,14 @@
 -- Rows of nodes that become spare, and what a change of chain links alone keeps.
-use Rattle.std.proofs.Common.{◌≡◌, ℕ, suc, ◌+◌, ◌-◌, ◌<◌, false, List, [], ◌∷◌, ◌++◌}
-use Rattle.std.proofs.Common.{length, Option, Some, None, refl, sym, ap, ◌∙◌, subst, arith}
-use Rattle.std.specs.List.{AllByRecursion}
-use denote.RawPtr.{Ptr, null_ptr}
-use Rattle.lhm_ring.specs.declared.ring.Links.{Links}
-use Rattle.lhm_ring.specs.declared.ring.Ends.{Ends}
-use Rattle.lhm_ring.specs.declared.pointer.Link.{Link}
-use Rattle.lhm_ring.proofs.lists.Apart.{same_ptr-reflexive, IsFresh-head, IsApart-tail, IsFresh-middle, IsApart-removed, IsApart-inserted}
-use Rattle.lhm_ring.proofs.lists.ForAll.{AllByRecursion-right, AllByRecursion-map}
-use Rattle.lhm_ring.proofs.memory.OneNodeChanged.{IsSpareList-other}
-use Rattle.lhm_ring.proofs.lists.Options.{none_some}
-use Rattle.lhm_ring.proofs.rings.SameNodes.{AreLinked-same}
-use Rattle.lhm_ring.proofs.rings.Spans.{AreLinked-tail}
-use Rattle.lhm_ring.proofs.rings.Writes.{cell_at-change_other, length-change, reader-with_links_same, links_at-with_links}
-use Rattle.lhm_ring.proofs.rings.Writes.{body_at-with_links}
-use Rattle.lhm_ring.specs.Nodes.{Cell, cell, cell_at, same_ptr, links_of, body_of, links_at, body_at, IsApart, with_links}
-use Rattle.lhm_ring.specs.Links.{ends_links, ring_cells, chaining_to, next_of, prev_of, has_links, next_at, link_at, content_of, AreLinked}
-use Rattle.lhm_ring.specs.Links.{IsSpareList, one_of, IsThere}
-use Rattle.lhm_ring.specs.Ring.{Held, triples}
-use Rattle.lhm_ring.specs.Drain.{onto, StartsAt, triple_of, SameButLinks, IsRow, HasRow, SparesRow}
-use Rattle.lhm_ring.specs.Pointer.{target}
+use Rattle.lhm_ring.proofs.Names.{List, None, Option, Some, [], ap, arith, false, length, refl, subst, suc, sym, ℕ, ◌++◌, ◌+◌, ◌-◌, ◌<◌}
+use Rattle.lhm_ring.proofs.Names.{◌∙◌, ◌∷◌, ◌≡◌, HasRow, IsRow, SameButLinks, SparesRow, StartsAt, onto, triple_of, AreLinked, IsSpareList}
+use Rattle.lhm_ring.proofs.Names.{IsThere, chaining_to, content_of, ends_links, has_links, link_at, next_at, next_of, one_of, prev_of}
+use Rattle.lhm_ring.proofs.Names.{ring_cells, Cell, IsApart, body_at, body_of, cell, cell_at, links_at, links_of, same_ptr, with_links}
+use Rattle.lhm_ring.proofs.Names.{target, Held, triples, Link, Ends, Links, AllByRecursion, Ptr, null_ptr}
+use Rattle.lhm_ring.proofs.lists.Apart.{IsApart-inserted, IsApart-removed, IsApart-tail, IsFresh-head, IsFresh-middle, same_ptr-reflexive}
+use Rattle.lhm_ring.proofs.lists.ForAll.{AllByRecursion-map, AllByRecursion-right}
+use Rattle.lhm_ring.proofs.{lists.Options.none_some, memory.OneNodeChanged.IsSpareList-other}
+use Rattle.lhm_ring.proofs.rings.{SameNodes.AreLinked-same, Spans.AreLinked-tail, Writes.reader-with_links_same}
+use Rattle.lhm_ring.proofs.rings.Writes.{body_at-with_links, cell_at-change_other, length-change, links_at-with_links}
 
 -- the pointers of a row go onto others
 pub AllByRecursion-onto : (P : Ptr → Type 0) (ps ss : List Ptr) → AllByRecursion P ps → AllByRecursion P ss → AllByRecursion P (onto ps ss)

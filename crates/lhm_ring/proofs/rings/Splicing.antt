@@ -1,29 +1,17 @@
 -- All that a ring holds becomes spare.
-use Rattle.std.proofs.Common.{◌≡◌, ℕ, ◌+◌, false, List, [], ◌∷◌, ◌++◌, refl, sym, ap, ◌∙◌, subst, arith}
-use Rattle.std.specs.List.{AllByRecursion}
-use denote.RawPtr.{Ptr, null_ptr}
-use Rattle.lhm_ring.specs.declared.ring.Links.{Links}
-use Rattle.lhm_ring.specs.declared.ring.Ends.{Ends}
-use Rattle.lhm_ring.specs.declared.pointer.Link.{Link}
-use Rattle.lhm_ring.proofs.lists.Apart.{IsFresh, IsApart-left, IsFresh-head, IsApart-tail}
-use Rattle.lhm_ring.proofs.rings.Joins.{AvoidsSource-fresh, AvoidsTarget-fresh, AreLinked-unchanged}
-use Rattle.lhm_ring.proofs.rings.Joins.{IsSpareList-unchanged, AreNeighbours-made, listed-unchanged}
-use Rattle.lhm_ring.proofs.lists.ForAll.{AllByRecursion-left, AllByRecursion-right, AllByRecursion-map}
-use Rattle.lhm_ring.proofs.lists.Last.{last_from}
-use Rattle.lhm_ring.proofs.rings.RingCells.{next_at-null, is_there-null, AreLinked-in_nodes, AllByRecursion-there_in_nodes}
-use Rattle.lhm_ring.proofs.rings.RingCells.{IsSpareList-in_nodes, IsSpareList-in_ring}
-use Rattle.lhm_ring.proofs.rings.RingNodes.{ring_list-listed}
-use Rattle.lhm_ring.proofs.lists.LinkRows.{RowCut-linked}
-use Rattle.lhm_ring.proofs.rings.SameNodes.{AreLinked-same}
-use Rattle.lhm_ring.proofs.rings.Spans.{HasEnds-behind, last_pointer-last_from, AreLinked-tail, pointers_from-span}
-use Rattle.lhm_ring.proofs.rings.SpareRows.{AllByRecursion-onto, IsApart-onto, SameButLinks-in_ring, length-onto, StartsAt-next, some_still}
-use Rattle.lhm_ring.proofs.rings.SpareRows.{one_triple, triples-one_of}
-use Rattle.lhm_ring.specs.Nodes.{Cell, same_ptr}
-use Rattle.lhm_ring.specs.Links.{ring_cells, next_at, prev_at, content_at, AreLinked, IsSpareList, HasContent, IsRing, IsJoined, listed}
-use Rattle.lhm_ring.specs.Links.{span_triples, IsSpan, ring_list, IsOwned, IsThere}
-use Rattle.lhm_ring.specs.Ring.{triples}
-use Rattle.lhm_ring.specs.Drain.{onto, StartsAt, triple_of, SameButLinks, IsRow, HasRow, SparesRow}
-use Rattle.lhm_ring.specs.Pointer.{target}
+use Rattle.lhm_ring.proofs.Names.{List, [], ap, arith, false, refl, subst, sym, ℕ, ◌++◌, ◌+◌, ◌∙◌, ◌∷◌, ◌≡◌, HasRow, IsRow, SameButLinks}
+use Rattle.lhm_ring.proofs.Names.{SparesRow, StartsAt, onto, triple_of, AreLinked, HasContent, IsJoined, IsOwned, IsRing, IsSpan}
+use Rattle.lhm_ring.proofs.Names.{IsSpareList, IsThere, content_at, listed, next_at, prev_at, ring_cells, ring_list, span_triples, Cell}
+use Rattle.lhm_ring.proofs.Names.{same_ptr, target, triples, Link, Ends, Links, AllByRecursion, Ptr, null_ptr}
+use Rattle.lhm_ring.proofs.lists.Apart.{IsApart-left, IsApart-tail, IsFresh, IsFresh-head}
+use Rattle.lhm_ring.proofs.lists.ForAll.{AllByRecursion-left, AllByRecursion-map, AllByRecursion-right}
+use Rattle.lhm_ring.proofs.lists.{Last.last_from, LinkRows.RowCut-linked}
+use Rattle.lhm_ring.proofs.rings.Joins.{AreLinked-unchanged, AreNeighbours-made, AvoidsSource-fresh, AvoidsTarget-fresh}
+use Rattle.lhm_ring.proofs.rings.{Joins.IsSpareList-unchanged, Joins.listed-unchanged, RingNodes.ring_list-listed, SameNodes.AreLinked-same}
+use Rattle.lhm_ring.proofs.rings.RingCells.{AllByRecursion-there_in_nodes, AreLinked-in_nodes, IsSpareList-in_nodes, IsSpareList-in_ring}
+use Rattle.lhm_ring.proofs.rings.{RingCells.is_there-null, RingCells.next_at-null, SpareRows.some_still, SpareRows.triples-one_of}
+use Rattle.lhm_ring.proofs.rings.Spans.{AreLinked-tail, HasEnds-behind, last_pointer-last_from, pointers_from-span}
+use Rattle.lhm_ring.proofs.rings.SpareRows.{AllByRecursion-onto, IsApart-onto, SameButLinks-in_ring, StartsAt-next, length-onto, one_triple}
 
 -- all that a ring holds becomes spare
 module _ {B : Type 0} (e : Ends) (nodes : List (Cell Links B)) {spare : Link} {n m : ℕ} (o : IsOwned (ring_cells e nodes) spare n m) where

@@ -1,16 +1,10 @@
 -- Nodes are made on top of others.
-use Rattle.std.proofs.Common.{◌≡◌, ℕ, suc, zero, ◌+◌, ◌≤◌, ◌^◌, List, ◌∷◌, length, Option, Some, None, refl, sym, ap, ◌∙◌, subst, arith}
-use denote.RawPtr.{Ptr}
-use Rattle.lhm_ring.specs.declared.pointer.NodePointer.{NodePointer}
-use Rattle.lhm_ring.specs.declared.ring.Links.{Links}
-use Rattle.lhm_ring.specs.declared.ring.Ends.{Ends}
-use Rattle.lhm_ring.specs.declared.pointer.Link.{Link}
-use Rattle.lhm_ring.proofs.lists.Apart.{IsApart-tail}
+use Rattle.lhm_ring.proofs.Names.{List, None, Option, Some, ap, arith, length, refl, subst, suc, sym, zero, ℕ, ◌+◌, ◌^◌, ◌∙◌, ◌∷◌, ◌≡◌, ◌≤◌}
+use Rattle.lhm_ring.proofs.Names.{IsOwned, IsRing, IsStacked, listed, ring_cells, ring_list, AreBlocks, Cell, IsApart, cell, pointers}
+use Rattle.lhm_ring.proofs.Names.{target, Link, Ends, Links, Ptr}
+use Rattle.lhm_ring.proofs.{lists.Apart.IsApart-tail, rings.RingNodes.ring_list-listed}
 use Rattle.lhm_ring.proofs.memory.NodeAdded.{IsRing-added, listed-added}
-use Rattle.lhm_ring.proofs.rings.RingNodes.{ring_list-listed}
-use Rattle.lhm_ring.specs.Nodes.{Cell, cell, pointers, IsApart, AreBlocks}
-use Rattle.lhm_ring.specs.Links.{ring_cells, IsRing, listed, ring_list, IsOwned, IsStacked}
-use Rattle.lhm_ring.specs.Pointer.{target}
+use Rattle.lhm_ring.specs.declared.pointer.NodePointer.{NodePointer}
 
 module _ {B : Type 0} where
   pub IsStacked-none : (cs : List (Cell Links B)) (s : Link) → IsStacked cs s 0 cs s

@@ -1,13 +1,9 @@
 -- What a write of links changes, and what it leaves.
-use Rattle.std.proofs.Common.{◌≡◌, Bool, true, false, cond, List, [], ◌∷◌, length, Option, Some, None, refl, sym, ap, ◌∙◌, subst, arith}
-use denote.RawPtr.{Ptr}
-use Rattle.lhm_ring.specs.declared.pointer.Link.{Link}
-use Rattle.lhm_ring.specs.declared.ring.Links.{Links}
-use Rattle.lhm_ring.proofs.lists.Apart.{same_ptr-equal}
-use Rattle.lhm_ring.proofs.lists.Options.{none_some, Some-injective}
-use Rattle.lhm_ring.specs.Nodes.{Cell, cell, same_ptr, cell_at, links_of, body_of, links_at, body_at, IsAt, change, with_links}
-use Rattle.lhm_ring.specs.Links.{leading_on, leading_back, LeadsOn, LeadsBack, next_of, prev_of, link_of, has_links, is_there, content_of}
-use Rattle.lhm_ring.specs.Links.{content_at, IsJoined, IsThere}
+use Rattle.lhm_ring.proofs.Names.{Bool, List, None, Option, Some, [], ap, arith, cond, false, length, refl, subst, sym, true, ◌∙◌, ◌∷◌, ◌≡◌}
+use Rattle.lhm_ring.proofs.Names.{IsJoined, IsThere, LeadsBack, LeadsOn, content_at, content_of, has_links, is_there, leading_back}
+use Rattle.lhm_ring.proofs.Names.{leading_on, link_of, next_of, prev_of, Cell, IsAt, body_at, body_of, cell, cell_at, change, links_at}
+use Rattle.lhm_ring.proofs.Names.{links_of, same_ptr, with_links, Link, Links, Ptr}
+use Rattle.lhm_ring.proofs.lists.{Apart.same_ptr-equal, Options.Some-injective, Options.none_some}
 
 pub cond-ap : {X Y : Type 0} (f : X → Y) (y : Bool) (u v : X) → f (cond y u v) ≡ cond y (f u) (f v)
 cond-ap f y u v = grind arith

@@ -1,6 +1,6 @@
 -- What a closure returns at a call, and at those after it.
-use Rattle.std.proofs.Common.{[], ◌∷◌}
-use Rattle.std.specs.Fn.{Mut, Called, AlwaysReturns}
+use Rattle.lhm_ring.proofs.Names.{[], ◌∷◌}
+use Rattle.std.specs.Fn.{AlwaysReturns, Called, Mut}
 
 module _ {F X R : Type 0} (g : Mut F X R) (P : X → R → Type 0) where
   pub AlwaysReturns-called : (f : F) (a : X) (r : R) (f' : F) → Called g f a r f' → AlwaysReturns g P f → P a r × AlwaysReturns g P f'

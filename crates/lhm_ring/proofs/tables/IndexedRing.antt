@@ -1,14 +1,8 @@
 -- A ring with its index, after the ring's own calls.
-use Rattle.std.proofs.Common.{◌≡◌, ◌+◌, ◌<◌, List, [], ◌++◌, refl, ◌∙◌, ap, subst, arith, length}
-use Rattle.std.proofs.lemmas.List.{length-map}
-use denote.RawPtr.{Ptr}
-use Rattle.lhm_ring.proofs.indexes.BucketCounts.{buckets-zero, buckets-at_least}
-use Rattle.lhm_ring.proofs.indexes.IndexMoves.{spots-value}
-use Rattle.lhm_ring.proofs.indexes.WholeBuckets.{Indexes-none, Indexes-moved}
-use Rattle.lhm_ring.specs.Ring.{State, Held, IsHeld}
-use Rattle.lhm_ring.specs.RingAfterLoan.{with_value}
-use Rattle.lhm_ring.specs.Buckets.{BucketState, HasNoChain, buckets}
-use Rattle.lhm_ring.specs.Index.{Indexes, PutsIn, spot, spots, IsIndexed}
+use Rattle.lhm_ring.proofs.Names.{List, [], ap, arith, length, refl, subst, ◌++◌, ◌+◌, ◌<◌, ◌∙◌, ◌≡◌, BucketState, HasNoChain, buckets}
+use Rattle.lhm_ring.proofs.Names.{Indexes, IsIndexed, PutsIn, spot, spots, Held, IsHeld, State, with_value, length-map, Ptr}
+use Rattle.lhm_ring.proofs.indexes.{BucketCounts.buckets-at_least, BucketCounts.buckets-zero, IndexMoves.spots-value}
+use Rattle.lhm_ring.proofs.indexes.WholeBuckets.{Indexes-moved, Indexes-none}
 
 -- nothing is held
 module _ {K V : Type 0} (i : BucketState) (s : State (K × V)) where

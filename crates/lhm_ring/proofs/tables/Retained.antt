@@ -1,17 +1,13 @@
 -- A table as a closure goes over its pairs and keeps some.
-use Rattle.std.proofs.Common.{◌≡◌, ℕ, ◌<◌, Bool, true, false, cond, List, [], ◌∷◌, ◌++◌, map, length, remove, Option, Some, None, refl, sym}
-use Rattle.std.proofs.Common.{ap, ◌∙◌, subst, append_assoc, arith}
-use Rattle.std.specs.Map.Calls.{CallableOnEachPair, SomeCallAtPair}
-use denote.RawPtr.{Ptr}
-use Rattle.lhm_ring.proofs.lists.Apart.{same_ptr-reflexive, IsFresh-head, IsApart-tail}
-use Rattle.lhm_ring.proofs.rings.Ends.{First, First-first_at}
-use Rattle.lhm_ring.proofs.rings.HeldPointers.{pointers_of, pointers_of-append, same_ptr-fresh, IsApart-without_node}
-use Rattle.lhm_ring.proofs.indexes.Entries.{EntriesCut-split}
+use Rattle.lhm_ring.proofs.Names.{Bool, List, None, Option, Some, [], ap, append_assoc, arith, cond, false, length, map, refl, remove}
+use Rattle.lhm_ring.proofs.Names.{subst, sym, true, ℕ, ◌++◌, ◌<◌, ◌∙◌, ◌∷◌, ◌≡◌, Cell, IsApart, cell, change, same_ptr, with_body, AtHeld}
+use Rattle.lhm_ring.proofs.Names.{Held, IsHeld, State, change_at, first_at, revalued, CallsAt, RetainsAt, RetainsHeld, TableState, TakesAt}
+use Rattle.lhm_ring.proofs.Names.{WritesOnly, table_of, CallableOnEachPair, SomeCallAtPair, Ptr}
+use Rattle.lhm_ring.proofs.{indexes.Entries.EntriesCut-split, rings.Ends.First, rings.Ends.First-first_at}
+use Rattle.lhm_ring.proofs.lists.Apart.{IsApart-tail, IsFresh-head, same_ptr-reflexive}
+use Rattle.lhm_ring.proofs.rings.HeldPointers.{IsApart-without_node, pointers_of, pointers_of-append, same_ptr-fresh}
 use Rattle.lhm_ring.proofs.tables.Positions.{IsAt-split, remove-append}
 use Rattle.lhm_ring.specs.Positions.{IsAt}
-use Rattle.lhm_ring.specs.Nodes.{Cell, cell, same_ptr, IsApart, change, with_body}
-use Rattle.lhm_ring.specs.Ring.{State, Held, IsHeld, AtHeld, first_at, change_at, revalued}
-use Rattle.lhm_ring.specs.Table.{TableState, table_of, WritesOnly, TakesAt, CallsAt, RetainsAt, RetainsHeld}
 
 -- how many are held from the one at a pointer on
 abbrev pub left_from : {B : Type 0} → Option Ptr → List (Held B) → ℕ

@@ -1,14 +1,11 @@
 -- The nodes of a table, of which the first ones are reversed.
-use Rattle.std.proofs.Common.{◌≡◌, ℕ, ◌+◌, List, [], ◌∷◌, ◌++◌, length, take, drop, reverse, slice_get, Option, Some}
-use Rattle.std.proofs.Common.{refl, sym, ap, ap₂, ◌∙◌, append-nil}
-use Rattle.std.specs.Option.{option_to_list}
-use Rattle.std.proofs.lemmas.List.{reverse-append}
-use Rattle.std.proofs.Math.Seq.{take-length, drop-length}
-use denote.RawPtr.{Ptr}
-use Rattle.lhm_ring.proofs.tables.Positions.{CutAt, cut_at, slice_get-at, take-through, drop-from, PlaceAt-first_at, first_at-drop}
-use Rattle.lhm_ring.proofs.tables.Positions.{IsAt-split, slice_get-append, slice_get-behind, remove-append}
-use Rattle.lhm_ring.specs.Positions.{IsAt, PlaceAt, to_front_at}
-use Rattle.lhm_ring.specs.Ring.{Held, IsHeld, first_at}
+use Rattle.lhm_ring.proofs.Names.{List, Option, Some, [], ap, append-nil, ap₂, length, refl, reverse, slice_get, sym, take, ℕ, ◌++◌, ◌+◌}
+use Rattle.lhm_ring.proofs.Names.{◌∙◌, ◌∷◌, ◌≡◌, PlaceAt, to_front_at, Held, IsHeld, first_at, drop-length, take-length, reverse-append}
+use Rattle.lhm_ring.proofs.Names.{option_to_list, Ptr}
+use Rattle.std.proofs.Common.{drop}
+use Rattle.lhm_ring.proofs.tables.Positions.{CutAt, IsAt-split, PlaceAt-first_at, cut_at, drop-from, first_at-drop, remove-append}
+use Rattle.lhm_ring.proofs.tables.Positions.{slice_get-append, slice_get-at, slice_get-behind, take-through}
+use Rattle.lhm_ring.specs.Positions.{IsAt}
 
 module _ {B : Type 0} (hs : List (Held B)) where
   -- the first n of hs are reversed, and the others are behind them, from the pointer on

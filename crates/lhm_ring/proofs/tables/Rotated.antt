@@ -1,16 +1,11 @@
 -- The first of some nodes, moved behind the others.
-use Rattle.std.proofs.Common.{◌≡◌, ℕ, ◌+◌, ◌<◌, List, [], ◌∷◌, ◌++◌, length, take, drop, get_or, Option, Some}
-use Rattle.std.proofs.Common.{refl, sym, ap, ap₂, ◌∙◌, arith, append-nil, append_assoc}
-use Rattle.std.specs.Option.{IsSome, option_to_list}
-use Rattle.std.proofs.lemmas.List.{drop_more, take_more}
-use Rattle.std.proofs.Math.Seq.{take-length, drop-length}
-use denote.RawPtr.{Ptr}
-use Rattle.lhm_ring.specs.declared.pointer.Position.{Position}
+use Rattle.lhm_ring.proofs.Names.{append-nil, append_assoc, pointer_of_some, to_front_at, last_at, drop-length, take-length, option_to_list}
+use Rattle.lhm_ring.proofs.Names.{Option, get_or, length, pointer_of, to_back_at, IsHeld, first_at, last_of, Position, drop_more, take_more}
+use Rattle.lhm_ring.proofs.Names.{List, Some, [], ap, ap₂, arith, refl, sym, take, ℕ, ◌++◌, ◌+◌, ◌<◌, ◌∙◌, ◌∷◌, ◌≡◌, Held, IsSome, Ptr}
+use Rattle.std.proofs.Common.{drop}
 use Rattle.lhm_ring.proofs.lists.Options.{Some-injective}
-use Rattle.lhm_ring.specs.Pointer.{pointer_of, pointer_of_some}
-use Rattle.lhm_ring.proofs.tables.Positions.{IsAt-split, slice_get-append, remove-append}
-use Rattle.lhm_ring.specs.Positions.{IsAt, to_back_at, to_front_at}
-use Rattle.lhm_ring.specs.Ring.{Held, IsHeld, first_at, last_at, last_of}
+use Rattle.lhm_ring.proofs.tables.Positions.{IsAt-split, remove-append, slice_get-append}
+use Rattle.lhm_ring.specs.Positions.{IsAt}
 
 -- the first n behind the others
 abbrev pub rotated : {X : Type 0} → ℕ → List X → List X

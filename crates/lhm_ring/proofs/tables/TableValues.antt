@@ -1,12 +1,7 @@
 -- Other values in a table's nodes.
-use Rattle.std.proofs.Common.{◌≡◌, ℕ, List, [], ◌∷◌, map, refl, sym, ap, ◌∙◌, length, arith}
-use Rattle.std.proofs.lemmas.List.{length-map}
-use Rattle.lhm_ring.proofs.indexes.IndexMoves.{spots-values}
-use Rattle.lhm_ring.proofs.tables.IndexedRing.{IsIndexed-same_spots}
-use Rattle.lhm_ring.specs.Ring.{State, Held, set_held_values}
-use Rattle.lhm_ring.specs.Buckets.{BucketState}
-use Rattle.lhm_ring.specs.Index.{spot, entries}
-use Rattle.lhm_ring.specs.Table.{TableState, IsTable, table_of}
+use Rattle.lhm_ring.proofs.Names.{List, [], ap, arith, length, map, refl, sym, ℕ, ◌∙◌, ◌∷◌, ◌≡◌, BucketState, entries, spot, Held, State}
+use Rattle.lhm_ring.proofs.Names.{set_held_values, IsTable, TableState, table_of, length-map}
+use Rattle.lhm_ring.proofs.{indexes.IndexMoves.spots-values, tables.IndexedRing.IsIndexed-same_spots}
 
 module _ {K V : Type 0} where
   entries-set_held_values : (hs : List (Held (K × V))) (vs : List V) → entries (set_held_values hs vs) ≡ set_held_values (entries hs) vs

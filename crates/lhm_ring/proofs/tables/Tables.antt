@@ -1,28 +1,17 @@
 -- A table: what it shows of the nodes of its ring, which stand there without their links.
-use Rattle.std.proofs.Common.{◌≡◌, ℕ, ◌+◌, ◌-◌, ◌^◌, ◌<◌, ◌≤◌, ◌≢◌, cond, List, [], ◌∷◌, ◌++◌, length, length-append, map, Option, None}
-use Rattle.std.proofs.Common.{refl, sym, ap, ◌∙◌, subst, arith}
-use Rattle.std.specs.Prelude.{max, Result, OnOk, OnErr, IfSome}
-use Rattle.std.proofs.lemmas.Bool.{eq-eqb, ne_eqb}
-use Rattle.std.proofs.lemmas.List.{length-map}
-use denote.RawPtr.{Ptr}
-use Rattle.lhm_ring.proofs.indexes.BucketCounts.{buckets-raised, buckets-below, buckets-at_least, rechained-within, made_raised-higher}
-use Rattle.lhm_ring.proofs.indexes.Entries.{AtHeld-entries, IsHeld-entries, entries-append, entries-change_at}
-use Rattle.lhm_ring.proofs.indexes.Entries.{last_at-entries, length-entries, length-same_entries, pointers-entries, triples-entries}
-use Rattle.lhm_ring.proofs.indexes.IndexMoves.{spots-value, spots-rekeyed}
-use Rattle.lhm_ring.proofs.indexes.Spots.{PutsIn-spots}
-use Rattle.lhm_ring.proofs.tables.IndexedRing.{IsIndexed-value, IsIndexed-same_spots, IsIndexed-moved}
+use Rattle.lhm_ring.proofs.Names.{List, None, Option, [], ap, arith, cond, eq-eqb, length, length-append, map, max, refl, subst, sym, ℕ}
+use Rattle.lhm_ring.proofs.Names.{◌++◌, ◌+◌, ◌-◌, ◌<◌, ◌^◌, ◌∙◌, ◌∷◌, ◌≡◌, ◌≢◌, ◌≤◌, IfSome, OnErr, OnOk, Result, BucketState, buckets}
+use Rattle.lhm_ring.proofs.Names.{made_raised, rechained_raised, ChangesLinks, HoldsOthers, Indexes, PutsIn, entries, spot, spots}
+use Rattle.lhm_ring.proofs.Names.{least_more, most_nodes, nodes_grown, IsApart, pointer_of, AtHeld, ChangesOnly, Held, IsHeld, State}
+use Rattle.lhm_ring.proofs.Names.{change_at, last_at, linked_to, rekeyed, revalued, state, triples, with_value, IsTable, KeepsCounts}
+use Rattle.lhm_ring.proofs.Names.{TableState, WritesOnly, table_of, Position, ne_eqb, length-map, Ptr}
+use Rattle.lhm_ring.proofs.indexes.BucketCounts.{buckets-at_least, buckets-below, buckets-raised, made_raised-higher, rechained-within}
+use Rattle.lhm_ring.proofs.indexes.Entries.{AtHeld-entries, IsHeld-entries, entries-append, entries-change_at, last_at-entries}
+use Rattle.lhm_ring.proofs.indexes.Entries.{length-entries, length-same_entries, pointers-entries, triples-entries}
+use Rattle.lhm_ring.proofs.indexes.{IndexMoves.spots-rekeyed, IndexMoves.spots-value, Spots.PutsIn-spots}
+use Rattle.lhm_ring.proofs.tables.IndexedRing.{IsIndexed-moved, IsIndexed-same_spots, IsIndexed-value}
 use Rattle.lhm_ring.proofs.tables.Positions.{MovedTo, length-moved_to}
-use Rattle.lhm_ring.specs.declared.pointer.Position.{Position}
-use Rattle.lhm_ring.specs.Nodes.{IsApart}
-use Rattle.lhm_ring.specs.Pointer.{pointer_of}
-use Rattle.lhm_ring.specs.Ring.{Held, State, state, IsHeld, AtHeld, ChangesOnly, linked_to, last_at}
-use Rattle.lhm_ring.specs.Ring.{change_at, triples, revalued, rekeyed}
-use Rattle.lhm_ring.specs.RingAfterLoan.{with_value}
-use Rattle.lhm_ring.specs.Index.{Indexes, PutsIn, spot, spots, entries, ChangesLinks, HoldsOthers}
-use Rattle.lhm_ring.specs.Buckets.{BucketState, buckets, rechained_raised, made_raised}
-use Rattle.lhm_ring.specs.Links.{nodes_grown, least_more, most_nodes}
 use Rattle.lhm_ring.specs.TableAfterLoan.{with_value as write}
-use Rattle.lhm_ring.specs.Table.{IsTable, KeepsCounts, TableState, WritesOnly, table_of}
 
 -- a table that is seen as m
 module _ {K V : Type 0} (s : State (K × V)) (r : ℕ) {m : TableState (K × V)} (seen : table_of s r ≡ m) where

@@ -1,5 +1,6 @@
 -- What is said of an option, once its case is known.
-use Rattle.std.proofs.Common.{◌≡◌, Bool, true, cond, Option, Some, None, IfSome, IfNone, arith, OnSome, is_some, unwrap_or, subst}
+use Rattle.linked_hash_map.proofs.Names.{Bool, IfNone, IfSome, None, OnSome, Option, Some, arith, cond, is_some, subst, true, unwrap_or}
+use Rattle.linked_hash_map.proofs.Names.{◌≡◌}
 
 pub of-Some : {X : Type 0} (P : X → Type 0) {o : Option X} {x : X} → o ≡ Some x → IfSome o P → P x
 of-Some P e h = subst (λ (r : Option _). IfSome r P) e h

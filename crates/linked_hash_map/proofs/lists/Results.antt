@@ -1,5 +1,5 @@
 -- What is said of a result, in either case.
-use Rattle.std.proofs.Common.{Result, OnOk, OnErr, IsTrue, arith}
+use Rattle.linked_hash_map.proofs.Names.{IsTrue, OnErr, OnOk, Result, arith}
 use Rattle.std.specs.Result.{is_ok}
 
 pub OnOk-given : {A E : Type 0} (Given P : Type 0) (r : Result A E) → OnOk r P → OnOk r (Given → P)

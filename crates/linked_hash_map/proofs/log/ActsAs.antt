@@ -1,8 +1,5 @@
 -- Calls by a key that is the same as a stored one: they do what those by the stored key do.
-use Rattle.std.proofs.Common.{◌≡◌, Bool, true, List, Option, arith, is_some}
-use Rattle.std.specs.Cmp.{IsEquivalence}
-use Rattle.linked_hash_map.specs.Pairs.{key_or, find, ActsAs, put}
-use Rattle.linked_hash_map.specs.declared.map.Mode.{Mode}
+use Rattle.linked_hash_map.proofs.Names.{Bool, List, Option, arith, is_some, true, ◌≡◌, ActsAs, find, key_or, put, Mode, IsEquivalence}
 use Rattle.linked_hash_map.proofs.pairs.Calls.{set_or_push-present}
 
 module _ {K V : Type 0} where

@@ -1,16 +1,11 @@
 -- The definitions, computed on short logs.
-use Rattle.std.proofs.Common.{◌≡◌, ℕ, ◌%◌, Bool, false, List, [], ◌∷◌, Some, None, nat_eq, refl, arith}
-use Rattle.linked_hash_map.specs.declared.map.Mode.TheVariants.{Touch, Keep}
-use Rattle.linked_hash_map.specs.Log.{Log, Put, Write, Refresh, Remove, RemoveAll, Need, Fit, SetMode, mode, live, stored, value, pair_of}
-use Rattle.linked_hash_map.specs.Log.{standing_in, standing, pairs, size, high}
-use Rattle.linked_hash_map.specs.Pairs.{find, value_at, without, to_back, set_value}
-use Rattle.linked_hash_map.specs.AllowedAnswers.{effects, IsAllowed}
-use Rattle.linked_hash_map.specs.Run.{last_log, IsRun}
-use Rattle.linked_hash_map.specs.declared.replay.Command.{Command}
-use Rattle.linked_hash_map.specs.declared.replay.Command.TheVariants.{Insert, PopBack, Drain, Extend, Reserve}
+use Rattle.linked_hash_map.proofs.Names.{Bool, List, None, Some, [], arith, eqb as nat_eq, false, refl, ℕ, ◌%◌, ◌∷◌, ◌≡◌, IsAllowed}
+use Rattle.linked_hash_map.proofs.Names.{effects, Fit, Log, Need, Put, Refresh, Remove, RemoveAll, SetMode, Write, high, live, mode}
+use Rattle.linked_hash_map.proofs.Names.{pair_of, pairs, size, standing, standing_in, stored, value, find, set_value, to_back, value_at}
+use Rattle.linked_hash_map.proofs.Names.{without, IsRun, last_log, Keep, Touch, Absent, Done, Missing, New, Old, Pair, Pairs, Refused}
+use Rattle.linked_hash_map.proofs.Names.{Stopped, Command, Extend, Insert, PopBack, Reserve, Reply}
+use Rattle.linked_hash_map.specs.declared.replay.Command.TheVariants.{Drain}
 use Rattle.linked_hash_map.specs.declared.replay.Command.TheVariants as command
-use Rattle.linked_hash_map.specs.declared.replay.Answer.TheVariants.{New, Old, Missing, Absent, Refused, Pair, Pairs, Stopped, Done}
-use Rattle.linked_hash_map.specs.declared.replay.Reply.{Reply}
 
 -- numbers are the same key if they end in the same digit
 same_digit : ℕ → ℕ → Bool

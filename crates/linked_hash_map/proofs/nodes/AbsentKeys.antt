@@ -1,14 +1,7 @@
 -- A key that a lookup does not find.
-use Rattle.std.proofs.Common.{◌≡◌, ℕ, Bool, false, ◌||◌, ◌&&◌, eqb, List, [], ◌∷◌, None, arith, IsTrue, refl, ap, ◌∙◌}
-use Rattle.std.specs.List.{list_any, AllByRecursion}
-use Rattle.std.specs.Map.{keys_of}
-use Rattle.std.proofs.lemmas.Bool.{eq-eqb}
-use Rattle.linked_hash_map.specs.Hashers.{hash_by}
-use Rattle.linked_hash_map.specs.Nodes.{pairs_of, bare}
-use Rattle.linked_hash_map.specs.Pairs.{find}
+use Rattle.linked_hash_map.proofs.Names.{Bool, IsTrue, List, None, [], ap, arith, eq-eqb, eqb, false, refl, ℕ, ◌&&◌, ◌||◌, ◌∙◌, ◌∷◌, ◌≡◌}
+use Rattle.linked_hash_map.proofs.Names.{Held, LacksKey, hash_by, bare, pairs_of, find, AllByRecursion, list_any, keys_of}
 use Rattle.linked_hash_map.proofs.pairs.Calls.{lookup_entry-none}
-use Rattle.lhm_ring.specs.Ring.{Held}
-use Rattle.lhm_ring.specs.Search.{LacksKey}
 
 -- no node with the hash of a key has that key
 module _ {A K V : Type 0} (eq : A → K → Bool) (hash_of : A → ℕ) (hash : K → ℕ)

@@ -1,17 +1,10 @@
 -- The bookmark of a cursor: it goes from one pair on to the next.
-use Rattle.std.proofs.Common.{◌≡◌, ℕ, ◌+◌, ◌-◌, ◌<◌, ◌≤◌, ◌⊎◌, inl, inr, ⊎_elim, Bool, List, ◌∷◌, map, length, slice_get, Option}
-use Rattle.std.proofs.Common.{Some, None, sym, ap, ◌∙◌, subst, arith}
-use Rattle.std.specs.Map.{keys_of}
-use denote.RawPtr.{Ptr}
-use Rattle.linked_hash_map.specs.Nodes.{VisitState, IsKept, bookmark_at, bare, pairs_of}
-use Rattle.lhm_ring.proofs.tables.Positions.{IsAt-index_of, PlaceAt-within}
-use Rattle.lhm_ring.specs.Positions.{IsAt, PlaceAt, index_of}
-use Rattle.linked_hash_map.proofs.nodes.HeldPairs.{index_of-bare, length-bare}
-use Rattle.linked_hash_map.proofs.nodes.CutNodes.{index_of-at}
-use Rattle.linked_hash_map.proofs.nodes.Outside.{IsElsewhere, to_visit_of}
+use Rattle.linked_hash_map.proofs.Names.{Bool, List, None, Option, Some, ap, arith, inl, inr, length, map, slice_get, subst, sym, ℕ, ⊎_elim}
+use Rattle.linked_hash_map.proofs.Names.{◌+◌, ◌-◌, ◌<◌, ◌∙◌, ◌∷◌, ◌≡◌, ◌≤◌, ◌⊎◌, IsAt-index_of, PlaceAt-within, IsApart, IsAt, PlaceAt}
+use Rattle.linked_hash_map.proofs.Names.{index_of, Held, IsKept, VisitState, bare, bookmark_at, pairs_of, keys_of, Ptr}
 use Rattle.linked_hash_map.proofs.lists.Stretches.{stretch-step, take-none}
-use Rattle.lhm_ring.specs.Nodes.{IsApart}
-use Rattle.lhm_ring.specs.Ring.{Held}
+use Rattle.linked_hash_map.proofs.nodes.{CutNodes.index_of-at, Outside.IsElsewhere, Outside.to_visit_of}
+use Rattle.linked_hash_map.proofs.nodes.HeldPairs.{index_of-bare, length-bare}
 
 module _ {K V : Type 0} where
   pub bookmark-bare : (o : Option Ptr) (hs : List (Held (K × V))) → bookmark_at o (bare hs) ≡ bookmark_at o hs

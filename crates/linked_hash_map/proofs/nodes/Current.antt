@@ -1,19 +1,10 @@
 -- The pair at the current index.
-use Rattle.std.proofs.Common.{◌≡◌, ℕ, ◌<◌, Bool, cond, List, length, Option, Some, None, slice_get, refl, sym, ap, ◌∙◌, subst, arith}
-use denote.RawPtr.{Ptr}
-use Rattle.lhm_ring.specs.declared.pointer.Position.{Position}
-use Rattle.linked_hash_map.specs.LinkedMap.{LinkedMap}
-use Rattle.linked_hash_map.specs.Changes.{MovesCurrent}
-use Rattle.linked_hash_map.specs.Cursor.{IsOutside}
-use Rattle.linked_hash_map.specs.Nodes.{VisitState, Beside, bare, current_at, cursor_at, pairs_of, map_of, Lies, IsKept}
-use Rattle.linked_hash_map.proofs.nodes.Kept.{no_visit, IsValid-kept}
-use Rattle.lhm_ring.specs.Positions.{IsAt, index_of}
-use Rattle.linked_hash_map.proofs.nodes.HeldPairs.{length-bare, index_of-bare}
-use Rattle.lhm_ring.proofs.tables.Positions.{IsAt-index_of}
-use Rattle.linked_hash_map.proofs.nodes.Outside.{IsElsewhere, IsCurrent, to_visit_of}
-use Rattle.lhm_ring.specs.Pointer.{pointer_of, pointer_of_some}
-use Rattle.lhm_ring.specs.Ring.{Held}
-use Rattle.lhm_ring.specs.Table.{TableState, KeepsCounts}
+use Rattle.linked_hash_map.proofs.Names.{Bool, List, None, Option, Some, ap, arith, cond, length, refl, slice_get, subst, sym, ℕ, ◌<◌, ◌∙◌}
+use Rattle.linked_hash_map.proofs.Names.{◌≡◌, IsAt-index_of, pointer_of, pointer_of_some, IsAt, index_of, Held, KeepsCounts, TableState}
+use Rattle.linked_hash_map.proofs.Names.{Position, MovesCurrent, IsOutside, LinkedMap, Beside, IsKept, Lies, VisitState, bare, current_at}
+use Rattle.linked_hash_map.proofs.Names.{cursor_at, map_of, pairs_of, Ptr}
+use Rattle.linked_hash_map.proofs.nodes.{HeldPairs.index_of-bare, HeldPairs.length-bare, Kept.IsValid-kept, Kept.no_visit}
+use Rattle.linked_hash_map.proofs.nodes.Outside.{IsCurrent, IsElsewhere, to_visit_of}
 
 -- the index is the number of nodes before the pointer
 pub current_at-Some : {K V : Type 0} {o : Option Ptr} {p : Ptr} → o ≡ Some p

@@ -1,20 +1,12 @@
 -- The nodes, cut at one of them: the pair there, and its index.
-use Rattle.std.proofs.Common.{◌≡◌, ℕ, ◌+◌, ◌<◌, cond, List, [], ◌∷◌, ◌++◌, map}
-use Rattle.std.proofs.Common.{length, slice_get, option_map, Some, sym, ap, ◌∙◌, subst, arith}
-use denote.RawPtr.{Ptr}
-use Rattle.lhm_ring.proofs.lists.Apart.{same_ptr-reflexive, IsFresh-head, IsApart-tail}
+use Rattle.linked_hash_map.proofs.Names.{List, Some, [], ap, arith, cond, length, map, option_map, slice_get, subst, sym, ℕ, ◌++◌, ◌+◌, ◌<◌}
+use Rattle.linked_hash_map.proofs.Names.{◌∙◌, ◌∷◌, ◌≡◌, IsApart-tail, IsFresh-head, same_ptr-reflexive, CutAt-IsAt, IsAt-index_of, cut_at}
+use Rattle.linked_hash_map.proofs.Names.{slice_get-append, IsApart, IsAt, index_of, AtHeld, Held, IsHeld, change_at, revalued, TableState}
+use Rattle.linked_hash_map.proofs.Names.{WritesOnly, set_value_at, Beside, map_of, pairs_of, Ptr}
 use Rattle.lhm_ring.proofs.rings.HeldPointers.{same_ptr-fresh}
-use Rattle.linked_hash_map.specs.Nodes.{Beside, pairs_of, map_of}
-use Rattle.lhm_ring.specs.Positions.{index_of, IsAt}
-use Rattle.linked_hash_map.specs.Indexes.{set_value_at}
 use Rattle.linked_hash_map.proofs.nodes.HeldPairs.{bare-change, length-pairs_of, pairs_of-append}
-use Rattle.linked_hash_map.proofs.nodes.Kept.{map_of-revalued}
-use Rattle.linked_hash_map.proofs.pairs.Indexes.{set_value_at-append}
-use Rattle.lhm_ring.proofs.tables.Positions.{slice_get-append, CutAt-IsAt, IsAt-index_of, cut_at}
+use Rattle.linked_hash_map.proofs.{nodes.Kept.map_of-revalued, pairs.Indexes.set_value_at-append}
 use Rattle.lhm_ring.proofs.tables.Positions as Positions
-use Rattle.lhm_ring.specs.Nodes.{IsApart}
-use Rattle.lhm_ring.specs.Ring.{Held, AtHeld, change_at, IsHeld, revalued}
-use Rattle.lhm_ring.specs.Table.{TableState, WritesOnly}
 
 -- nodes, cut at one of them: what is at its index
 module _ {K V : Type 0} {hs : List (Held (K × V))} {p : Ptr} (held : IsHeld hs p) where

@@ -1,12 +1,8 @@
 -- Runs of a `Drain`, and what is left of one.
-use Rattle.std.proofs.Common.{◌≡◌, ℕ, List, [], ◌∷◌, map, length, Option, sym, ap, ◌∙◌}
-use Rattle.std.specs.Iterator.Runs.{YieldsInOrder, YieldsInReverse}
-use Rattle.std.proofs.iter.runs.Sources.{from_front, from_back, as_is, as_is_back}
-use Rattle.linked_hash_map.specs.Drains.{drain_rest, drain_name, DrainSteps, DrainStepsBack, DrainKeepsAlong}
-use Rattle.linked_hash_map.specs.Nodes.{pairs_of}
-use Rattle.linked_hash_map.specs.declared.drain.Drain.{Drain}
+use Rattle.linked_hash_map.proofs.Names.{List, Option, [], ap, length, map, sym, ℕ, ◌∙◌, ◌∷◌, ◌≡◌, Held, triples, DrainKeepsAlong}
+use Rattle.linked_hash_map.proofs.Names.{DrainSteps, DrainStepsBack, drain_name, drain_rest, pairs_of, Drain, as_is, as_is_back, from_back}
+use Rattle.linked_hash_map.proofs.Names.{from_front, YieldsInOrder, YieldsInReverse}
 use Rattle.linked_hash_map.proofs.nodes.HeldPairs.{pairs-triples}
-use Rattle.lhm_ring.specs.Ring.{Held, triples}
 
 module _ {K V : Type 0} where
   pub drains_in_order : YieldsInOrder (DrainSteps {K = K} {V = V}) drain_rest

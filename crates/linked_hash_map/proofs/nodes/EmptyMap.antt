@@ -1,10 +1,6 @@
 -- A map with no pairs.
-use Rattle.std.proofs.Common.{◌≡◌, ℕ, ◌≤◌, Bool, List, [], arith}
-use Rattle.std.specs.List.{IsDistinct}
-use Rattle.linked_hash_map.specs.Nodes.{IsKept}
+use Rattle.linked_hash_map.proofs.Names.{Bool, List, [], arith, ℕ, ◌≡◌, ◌≤◌, Held, IsKept, LIMIT, IsDistinct}
 use Rattle.linked_hash_map.proofs.nodes.Kept.{no_visit}
-use Rattle.linked_hash_map.specs.declared.map.TheConstants.{LIMIT}
-use Rattle.lhm_ring.specs.Ring.{Held}
 
 -- no node
 pub IsKept-none : {K : Type 0} {eq : K → K → Bool} {hash : K → ℕ} {us : List (Held K)} {capacity : ℕ}

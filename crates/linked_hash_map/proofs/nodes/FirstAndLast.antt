@@ -1,16 +1,9 @@
 -- The node at an end: its index.
-use Rattle.std.proofs.Common.{◌≡◌, ◌-◌, ◌<◌, List, [], map, length, Option, Some, None, sym, subst, arith, length-append}
-use denote.RawPtr.{Ptr}
-use Rattle.lhm_ring.proofs.lists.Apart.{same_ptr-reflexive}
-use Rattle.lhm_ring.proofs.rings.Ends.{First, Last}
-use Rattle.lhm_ring.proofs.tables.Positions.{index_of-held, IsAt-last_at}
-use Rattle.linked_hash_map.specs.Nodes.{pairs_of, bare}
-use Rattle.linked_hash_map.specs.Pairs.{first, last}
-use Rattle.linked_hash_map.proofs.nodes.HeldPairs.{index_of-bare, length-bare, length-pairs_of}
+use Rattle.linked_hash_map.proofs.Names.{List, None, Option, Some, [], arith, length, length-append, map, subst, sym, ◌-◌, ◌<◌, ◌≡◌}
+use Rattle.linked_hash_map.proofs.Names.{same_ptr-reflexive, First, Last, IsAt-last_at, index_of-held, IsApart, IsAt, index_of, Held}
+use Rattle.linked_hash_map.proofs.Names.{IsHeld, first_at, last_at, bare, pairs_of, first, last, Ptr}
 use Rattle.linked_hash_map.proofs.nodes.CutNodes.{index_of-append}
-use Rattle.lhm_ring.specs.Nodes.{IsApart}
-use Rattle.lhm_ring.specs.Positions.{IsAt, index_of}
-use Rattle.lhm_ring.specs.Ring.{Held, IsHeld, first_at, last_at}
+use Rattle.linked_hash_map.proofs.nodes.HeldPairs.{index_of-bare, length-bare, length-pairs_of}
 
 pub IsAt-last : {K V : Type 0} (hs : List (Held (K × V))) {p : Ptr} → Some p ≡ last_at hs → IsAt hs p (length (pairs_of hs) - 1)
 IsAt-last hs {p} is = subst (λ n. IsAt hs p (n - 1)) (sym (length-pairs_of hs)) (IsAt-last_at hs is)

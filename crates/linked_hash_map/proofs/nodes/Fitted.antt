@@ -1,12 +1,8 @@
 -- A map whose pairs moved into other nodes.
-use Rattle.std.proofs.Common.{◌≡◌, ℕ, Bool, List, [], ◌∷◌, map, length, refl, sym, ap, ◌∙◌, subst, arith}
-use Rattle.std.specs.List.{IsDistinct, AllByRecursion}
-use Rattle.std.specs.Map.{keys_of}
+use Rattle.linked_hash_map.proofs.Names.{Bool, List, [], ap, arith, length, map, refl, subst, sym, ℕ, ◌∙◌, ◌∷◌, ◌≡◌, Held, triples, IsKept}
+use Rattle.linked_hash_map.proofs.Names.{VisitState, bare, pairs_of, AllByRecursion, IsDistinct, keys_of}
 use Rattle.lhm_ring.proofs.indexes.Entries.{length-same_triples}
-use Rattle.linked_hash_map.specs.Nodes.{VisitState, IsKept, pairs_of, bare}
-use Rattle.linked_hash_map.proofs.nodes.Kept.{no_visit}
-use Rattle.linked_hash_map.proofs.nodes.HeldPairs.{length-bare, keys-bare, pairs-triples}
-use Rattle.lhm_ring.specs.Ring.{Held, triples}
+use Rattle.linked_hash_map.proofs.nodes.{HeldPairs.keys-bare, HeldPairs.length-bare, HeldPairs.pairs-triples, Kept.no_visit}
 
 module _ {K V : Type 0} where
   -- the pairs and the hashes are those of the triples

@@ -1,14 +1,7 @@
 -- A key that a lookup finds: the index of its node.
-use Rattle.std.proofs.Common.{ℕ, ◌<◌, Bool, List, length, slice_get, sym, ap, ◌∙◌, subst, arith}
-use denote.RawPtr.{Ptr}
-use Rattle.linked_hash_map.specs.Indexes.{IsIndex}
-use Rattle.linked_hash_map.specs.Nodes.{pairs_of, bare}
-use Rattle.lhm_ring.specs.Positions.{index_of}
-use Rattle.linked_hash_map.proofs.nodes.HeldPairs.{length-bare, index_of-bare}
-use Rattle.linked_hash_map.proofs.nodes.CutNodes.{CutAt-index_of, slice_get-held}
-use Rattle.lhm_ring.proofs.tables.Positions.{index_of-held}
-use Rattle.lhm_ring.specs.Ring.{Held}
-use Rattle.lhm_ring.specs.Search.{HasKey}
+use Rattle.linked_hash_map.proofs.Names.{Bool, List, ap, arith, length, slice_get, subst, sym, ℕ, ◌<◌, ◌∙◌, index_of-held, index_of, Held}
+use Rattle.linked_hash_map.proofs.Names.{HasKey, IsIndex, bare, pairs_of, Ptr}
+use Rattle.linked_hash_map.proofs.nodes.{CutNodes.CutAt-index_of, CutNodes.slice_get-held, HeldPairs.index_of-bare, HeldPairs.length-bare}
 
 module _ {K V : Type 0} {is_key : K → Bool} {hash : ℕ} {hs : List (Held (K × V))} {p : Ptr} (h : HasKey is_key hash hs p) where
   pub index_of-HasKey : index_of p hs < length hs

@@ -1,15 +1,10 @@
 -- What a lookup counts of the nodes, by the pairs: each stored hash is that of its key.
-use Rattle.std.proofs.Common.{◌≡◌, ℕ, ◌%◌, Bool, List, [], ◌∷◌, cond, refl, ap, ◌∙◌, eqb, arith}
-use Rattle.std.specs.Prelude.{count_by}
-use Rattle.std.specs.List.{AllByRecursion}
-use Rattle.lhm_ring.specs.Index as nodes
-use Rattle.lhm_ring.proofs.lists.RearrangedCounts.{count_by-cons}
-use Rattle.linked_hash_map.specs.Counts.{buckets, same, beside}
-use Rattle.linked_hash_map.specs.Nodes.{VisitState, IsKept, pairs_of, bare}
-use Rattle.lhm_ring.specs.Buckets as table
+use Rattle.linked_hash_map.proofs.Names.{Bool, List, [], ap, arith, cond, count_by, eqb, refl, ℕ, ◌%◌, ◌∙◌, ◌∷◌, ◌≡◌, count_by-cons, Spot}
+use Rattle.linked_hash_map.proofs.Names.{spot, spots, Held, buckets, same, IsKept, VisitState, bare, pairs_of, AllByRecursion}
 use Rattle.linked_hash_map.proofs.pairs.RehashCounts.{buckets-table}
-use Rattle.lhm_ring.specs.Index.{Spot, spot, spots}
-use Rattle.lhm_ring.specs.Ring.{Held}
+use Rattle.linked_hash_map.specs.Counts.{beside}
+use Rattle.lhm_ring.specs.Index as nodes
+use Rattle.lhm_ring.specs.Buckets as table
 
 module _ {K V : Type 0} (hash : K → ℕ) where
   count_by-spots : (test : ℕ → Bool) (hs : List (Held (K × V))) → AllByRecursion (λ u. u.hash ≡ hash u.pair) (bare hs)

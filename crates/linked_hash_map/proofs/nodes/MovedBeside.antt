@@ -1,27 +1,14 @@
 -- A node that is moved before another, or behind all.
-use Rattle.std.proofs.Common.{◌≡◌, ℕ, ◌+◌, ◌-◌, Bool, cond, List, ◌++◌, filter, not, length, take, drop, remove, slice_get}
-use Rattle.std.proofs.Common.{Option, Some, None, IsTrue, option_to_list, sym, ap, ◌∙◌, subst, arith}
-use Rattle.std.specs.Prelude.{nat_lt, IfSome}
-use Rattle.std.specs.Cmp.{IsEquivalence}
-use Rattle.std.specs.List.{IsDistinct, position_or_len}
-use Rattle.std.specs.List.Sorted.{IsPermutation}
-use Rattle.std.specs.Map.{keys_of, lookup_entry}
-use Rattle.std.proofs.lemmas.List.{take-append-drop, append_assoc}
-use Rattle.std.proofs.lemmas.List.Sorted.{length_permutation, IsPermutation-trans, IsPermutation-append_comm, IsPermutation-append_left}
-use denote.RawPtr.{Ptr}
-use Rattle.lhm_ring.proofs.tables.Positions.{CutAt-IsAt, IsPermutation-to_front_at, map-to_before_at}
-use Rattle.lhm_ring.specs.Positions.{PlaceAt, index_of, to_front_at, to_before_at}
-use Rattle.lhm_ring.specs.Ring.{Held, IsHeld}
-use Rattle.lhm_ring.specs.Search.{HasKey}
-use Rattle.lhm_ring.specs.Pointer.{pointer_of, pointer_of_some}
-use Rattle.lhm_ring.specs.declared.pointer.Position.{Position}
-use Rattle.linked_hash_map.specs.Nodes.{VisitState, pairs_of, bare, bare_node, IsKept}
-use Rattle.linked_hash_map.proofs.nodes.Current.{IsKept-visited}
-use Rattle.linked_hash_map.proofs.nodes.FoundKeys.{IsIndex-index_of}
-use Rattle.linked_hash_map.proofs.nodes.HeldPairs.{length-pairs_of}
-use Rattle.linked_hash_map.proofs.nodes.Kept.{no_visit, IsKept-same}
-use Rattle.linked_hash_map.proofs.nodes.MovedNode.{IsKept-permuted}
-use Rattle.linked_hash_map.proofs.nodes.StoredKeys.{eq-stored, HasKey-stored}
+use Rattle.linked_hash_map.proofs.Names.{Bool, IfSome, IsTrue, List, None, Option, Some, ap, append_assoc, arith, cond, drop, filter}
+use Rattle.linked_hash_map.proofs.Names.{length, nat_lt, not, option_to_list, remove, slice_get, subst, sym, take, ℕ, ◌++◌, ◌+◌, ◌-◌, ◌∙◌}
+use Rattle.linked_hash_map.proofs.Names.{◌≡◌, CutAt-IsAt, IsPermutation-to_front_at, map-to_before_at, pointer_of, pointer_of_some, PlaceAt}
+use Rattle.linked_hash_map.proofs.Names.{index_of, to_before_at, to_front_at, Held, IsHeld, HasKey, Position, IsKept, VisitState, bare}
+use Rattle.linked_hash_map.proofs.Names.{bare_node, pairs_of, take-append-drop, IsPermutation-append_comm, IsPermutation-append_left}
+use Rattle.linked_hash_map.proofs.Names.{IsPermutation-trans, length_permutation, IsEquivalence, IsDistinct, position_or_len, IsPermutation}
+use Rattle.linked_hash_map.proofs.Names.{keys_of, lookup_entry, Ptr}
+use Rattle.linked_hash_map.proofs.nodes.{Current.IsKept-visited, FoundKeys.IsIndex-index_of, HeldPairs.length-pairs_of}
+use Rattle.linked_hash_map.proofs.nodes.{Kept.IsKept-same, Kept.no_visit, MovedNode.IsKept-permuted}
+use Rattle.linked_hash_map.proofs.nodes.StoredKeys.{HasKey-stored, eq-stored}
 use Rattle.linked_hash_map.proofs.pairs.Places.{count_before-index, to_behind-index}
 
 module _ {X : Type 0} (xs : List X) (i j : ℕ) where

@@ -1,24 +1,13 @@
 -- A node that is moved behind the others.
-use Rattle.std.proofs.Common.{◌≡◌, ℕ, ◌+◌, ◌<◌, ◌≤◌, Bool, List, map, length, remove, slice_get, Some, None}
-use Rattle.std.proofs.Common.{refl, sym, ap, ◌∙◌, subst, arith}
-use Rattle.std.specs.Cmp.{IsEquivalence}
-use Rattle.std.specs.List.Sorted.{IsPermutation}
-use Rattle.std.specs.Option.{option_to_list}
-use Rattle.std.proofs.lemmas.List.Edits.{length-remove}
-use Rattle.std.proofs.lemmas.List.Elements.{All-from_recursion, recursion_from_All}
-use Rattle.std.proofs.lemmas.List.Sorted.{IsPermutation-map, length_permutation, All-permutation}
-use Rattle.std.proofs.lemmas.Map.Keys.{IsDistinct-IsPermutation}
-use denote.RawPtr.{Ptr}
-use Rattle.lhm_ring.proofs.tables.Positions.{map-to_back_at, IsPermutation-to_back_at}
-use Rattle.linked_hash_map.specs.Nodes.{VisitState, Lies, pairs_of, bare, bare_node, bookmark_at, IsKept}
-use Rattle.linked_hash_map.proofs.nodes.Kept.{no_visit, IsKept-same}
-use Rattle.linked_hash_map.proofs.nodes.HeldPairs.{length-bare, index_of-bare}
-use Rattle.linked_hash_map.proofs.nodes.Outside.{IsElsewhere, to_visit_at, to_visit_of, to_visit-bare, to_visit-out}
-use Rattle.linked_hash_map.proofs.nodes.TakenNode.{IsKept-out}
+use Rattle.linked_hash_map.proofs.Names.{Bool, List, None, Some, ap, arith, length, map, option_to_list, refl, remove, slice_get, subst}
+use Rattle.linked_hash_map.proofs.Names.{sym, ℕ, ◌+◌, ◌<◌, ◌∙◌, ◌≡◌, ◌≤◌, IsPermutation-to_back_at, map-to_back_at, index_of, to_back_at}
+use Rattle.linked_hash_map.proofs.Names.{Held, IsKept, Lies, VisitState, bare, bare_node, bookmark_at, pairs_of, length-remove}
+use Rattle.linked_hash_map.proofs.Names.{All-from_recursion, recursion_from_All, All-permutation, IsPermutation-map, length_permutation}
+use Rattle.linked_hash_map.proofs.Names.{IsDistinct-IsPermutation, IsEquivalence, IsPermutation, Ptr}
+use Rattle.linked_hash_map.proofs.nodes.{Current.IsKept-visited, TakenNode.IsKept-out, Kept.IsKept-same, Kept.no_visit}
+use Rattle.linked_hash_map.proofs.nodes.HeldPairs.{index_of-bare, length-bare}
+use Rattle.linked_hash_map.proofs.nodes.Outside.{IsElsewhere, to_visit-bare, to_visit-out, to_visit_at, to_visit_of}
 use Rattle.linked_hash_map.proofs.nodes.PushedPair.{bookmark_at-append, to_visit-append}
-use Rattle.linked_hash_map.proofs.nodes.Current.{IsKept-visited}
-use Rattle.lhm_ring.specs.Positions.{index_of, to_back_at}
-use Rattle.lhm_ring.specs.Ring.{Held}
 
 -- the same nodes in another order
 pub IsKept-permuted : {K : Type 0} {eq : K → K → Bool} {hash : K → ℕ} → IsEquivalence eq → {us ws : List (Held K)} {capacity : ℕ}

@@ -1,23 +1,13 @@
 -- A node that is moved before the others.
-use Rattle.std.proofs.Common.{◌≡◌, ℕ, suc, ◌+◌, ◌<◌, ◌⊎◌, inl, inr, ⊎_elim, Bool, List, map, length, take, drop, remove, ◌++◌}
-use Rattle.std.proofs.Common.{Some, None, sym, ap, ◌∙◌, subst, arith}
-use Rattle.std.specs.Cmp.{IsEquivalence}
-use Rattle.std.proofs.lemmas.List.Sorted.{length_permutation}
-use denote.RawPtr.{Ptr}
-use Rattle.lhm_ring.proofs.tables.Positions.{map-to_front_at, IsPermutation-to_front_at, IsAt-index_of}
-use Rattle.lhm_ring.proofs.tables.Positions.{slice_get-at, index_of-front, index_of-behind_front}
-use Rattle.linked_hash_map.specs.Nodes.{VisitState, Lies, pairs_of, bare, bare_node, bookmark_at, IsKept}
-use Rattle.linked_hash_map.proofs.nodes.Kept.{no_visit, IsKept-same}
-use Rattle.linked_hash_map.proofs.nodes.Current.{IsKept-visited}
-use Rattle.linked_hash_map.proofs.nodes.HeldPairs.{index_of-bare, length-bare}
-use Rattle.linked_hash_map.proofs.nodes.MovedNode.{IsKept-permuted}
-use Rattle.linked_hash_map.proofs.nodes.Outside.{IsElsewhere, IsCurrent, to_visit_at, to_visit_of, to_visit-bare, to_visit-out}
-use Rattle.linked_hash_map.proofs.nodes.TakenNode.{IsKept-out}
+use Rattle.linked_hash_map.proofs.Names.{Bool, List, None, Some, ap, arith, drop, inl, inr, length, map, option_to_list, remove, subst, suc}
+use Rattle.linked_hash_map.proofs.Names.{sym, take, ℕ, ⊎_elim, ◌++◌, ◌+◌, ◌<◌, ◌∙◌, ◌≡◌, ◌⊎◌, IsAt-index_of, IsPermutation-to_front_at}
+use Rattle.linked_hash_map.proofs.Names.{index_of-behind_front, index_of-front, map-to_front_at, slice_get-at, index_of, to_front_at, Held}
+use Rattle.linked_hash_map.proofs.Names.{IsKept, Lies, VisitState, bare, bare_node, bookmark_at, pairs_of, length-remove}
+use Rattle.linked_hash_map.proofs.Names.{length_permutation, IsEquivalence, Ptr}
 use Rattle.linked_hash_map.proofs.lists.Stretches.{take-none}
-use Rattle.std.specs.Option.{option_to_list}
-use Rattle.std.proofs.lemmas.List.Edits.{length-remove}
-use Rattle.lhm_ring.specs.Positions.{index_of, to_front_at}
-use Rattle.lhm_ring.specs.Ring.{Held}
+use Rattle.linked_hash_map.proofs.nodes.{Current.IsKept-visited, MovedNode.IsKept-permuted, TakenNode.IsKept-out}
+use Rattle.linked_hash_map.proofs.nodes.{HeldPairs.index_of-bare, HeldPairs.length-bare, Kept.IsKept-same, Kept.no_visit}
+use Rattle.linked_hash_map.proofs.nodes.Outside.{IsCurrent, IsElsewhere, to_visit-bare, to_visit-out, to_visit_at, to_visit_of}
 
 -- the nodes with one that is not to be visited moved before the others
 module _ {K : Type 0} {eq : K → K → Bool} {hash : K → ℕ} {us : List (Held K)} {capacity : ℕ} {visit : VisitState}

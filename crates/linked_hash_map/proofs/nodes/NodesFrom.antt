@@ -1,27 +1,15 @@
 -- The pairs from that of a node on: what an iterator that begins at a pair has left.
-use Rattle.std.proofs.Common.{◌≡◌, ℕ, ◌+◌, ◌≤◌, Bool, List, [], ◌∷◌, ◌++◌, map, length, take, drop, reverse, slice_get, Option, Some, None}
-use Rattle.std.proofs.Common.{IsTrue, refl, sym, ap, ◌∙◌, subst, arith, append_assoc, length-append, length-drop, length-take}
-use Rattle.std.specs.Cmp.{IsEquivalence}
-use Rattle.std.specs.List.{IsDistinct}
-use Rattle.std.specs.Map.{keys_of}
+use Rattle.linked_hash_map.proofs.Names.{Bool, IsTrue, List, None, Option, Some, [], ap, append_assoc, arith, drop, length, length-append}
+use Rattle.linked_hash_map.proofs.Names.{length-drop, length-take, map, refl, reverse, slice_get, subst, sym, take, ℕ, ◌++◌, ◌+◌, ◌∙◌, ◌∷◌}
+use Rattle.linked_hash_map.proofs.Names.{◌≡◌, ◌≤◌, Last-last_at, none-last_at, IsAt-index_of, IsAt-split, IsAt-within, cut_at, drop-from}
+use Rattle.linked_hash_map.proofs.Names.{index_of-held, take-through, IsApart, pointer_of, pointer_of_some, IsAt, PlaceAt, index_of, AtHeld}
+use Rattle.linked_hash_map.proofs.Names.{Held, IsHeld, last_at, HasKey, Position, Lies, pairs_back_from, pairs_from, pairs_of, from_first}
+use Rattle.linked_hash_map.proofs.Names.{length-map, length-reverse, reverse-append, take-append-drop, slice_get_cases, IsEquivalence}
+use Rattle.linked_hash_map.proofs.Names.{IsDistinct, keys_of, Ptr}
+use Rattle.linked_hash_map.proofs.lists.FromFirst.{IsDistinct-reverse, from_first-own, reverse-middle}
+use Rattle.linked_hash_map.proofs.nodes.CutNodes.{held-at, index_of-at, slice_get-at}
+use Rattle.linked_hash_map.proofs.nodes.{FoundKeys.index_of-HasKey, HeldPairs.length-pairs_of}
 use Rattle.std.proofs.Math.ListN.{drop_of_length-le}
-use Rattle.std.proofs.lemmas.List.{reverse-append, length-reverse, length-map, take-append-drop}
-use Rattle.std.proofs.lemmas.Option.{slice_get_cases}
-use denote.RawPtr.{Ptr}
-use Rattle.lhm_ring.specs.Nodes.{IsApart}
-use Rattle.lhm_ring.specs.declared.pointer.Position.{Position}
-use Rattle.lhm_ring.specs.Pointer.{pointer_of, pointer_of_some}
-use Rattle.lhm_ring.specs.Positions.{IsAt, PlaceAt, index_of}
-use Rattle.lhm_ring.specs.Ring.{Held, IsHeld, AtHeld, last_at}
-use Rattle.lhm_ring.specs.Search.{HasKey}
-use Rattle.lhm_ring.proofs.rings.Ends.{Last-last_at, none-last_at}
-use Rattle.lhm_ring.proofs.tables.Positions.{IsAt-index_of, IsAt-split, IsAt-within, index_of-held, cut_at, drop-from, take-through}
-use Rattle.linked_hash_map.specs.Nodes.{pairs_of, pairs_from, pairs_back_from, Lies}
-use Rattle.linked_hash_map.specs.Pairs.{from_first}
-use Rattle.linked_hash_map.proofs.lists.FromFirst.{from_first-own, IsDistinct-reverse, reverse-middle}
-use Rattle.linked_hash_map.proofs.nodes.CutNodes.{held-at, slice_get-at, index_of-at}
-use Rattle.linked_hash_map.proofs.nodes.FoundKeys.{index_of-HasKey}
-use Rattle.linked_hash_map.proofs.nodes.HeldPairs.{length-pairs_of}
 
 reverse-last : {X : Type 0} (xs : List X) (x : X) → reverse (xs ++ x ∷ []) ≡ x ∷ reverse xs
 reverse-last xs x = reverse-append xs (x ∷ [])

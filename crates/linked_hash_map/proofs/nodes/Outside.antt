@@ -1,18 +1,9 @@
 -- What a cursor has still to visit, and nodes elsewhere: once one of them is out.
-use Rattle.std.proofs.Common.{◌≡◌, ℕ, suc, ◌+◌, ◌<◌, ◌≤◌, ◌⊎◌, Bool, true, false, cond, List, [], ◌∷◌, ◌++◌, map, length, take, drop}
-use Rattle.std.proofs.Common.{remove, Option, Some, None, refl, sym, ap, ◌∙◌, arith}
-use Rattle.std.specs.Map.{keys_of}
-use Rattle.std.proofs.Math.Nat.{pos_of_ne-zero}
-use Rattle.std.proofs.lemmas.List.{length-map}
-use denote.RawPtr.{Ptr}
-use Rattle.std.proofs.lemmas.List.Edits.{length-remove}
-use Rattle.lhm_ring.proofs.tables.Positions.{index_of-later, index_of-earlier, map-remove}
-use Rattle.linked_hash_map.specs.Nodes.{VisitState, IsKept, pairs_of, bare, bookmark_at}
-use Rattle.lhm_ring.specs.Positions.{index_of}
-use Rattle.linked_hash_map.proofs.nodes.HeldPairs.{keys-bare}
-use Rattle.linked_hash_map.proofs.lists.Stretches.{stretch-removed}
-use Rattle.lhm_ring.specs.Nodes.{same_ptr}
-use Rattle.lhm_ring.specs.Ring.{Held}
+use Rattle.linked_hash_map.proofs.Names.{Bool, List, None, Option, Some, [], ap, arith, cond, drop, false, length, map, refl, remove, suc}
+use Rattle.linked_hash_map.proofs.Names.{sym, take, true, ℕ, ◌++◌, ◌+◌, ◌<◌, ◌∙◌, ◌∷◌, ◌≡◌, ◌≤◌, ◌⊎◌, index_of-earlier, index_of-later}
+use Rattle.linked_hash_map.proofs.Names.{map-remove, same_ptr, index_of, Held, IsKept, VisitState, bare, bookmark_at, pairs_of}
+use Rattle.linked_hash_map.proofs.Names.{pos_of_ne-zero, length-map, length-remove, keys_of, Ptr}
+use Rattle.linked_hash_map.proofs.{lists.Stretches.stretch-removed, nodes.HeldPairs.keys-bare}
 
 -- a node among the first ones is where it was
 pub index_of-among_first : {B : Type 0} (p : Ptr) (front back : List (Held B)) → index_of p front < length front

@@ -1,19 +1,10 @@
 -- A pair that is put at the back.
-use Rattle.std.proofs.Common.{◌≡◌, ℕ, ◌<◌, Bool, false, List, [], ◌∷◌, ◌++◌, map, length, Option, None, sym, ap, ◌∙◌, arith, length-append}
-use Rattle.std.specs.List.{list_any}
-use Rattle.std.specs.Cmp.{IsEquivalence}
-use Rattle.std.proofs.lemmas.List.{map-append, length-map}
-use Rattle.std.proofs.lemmas.Map.Keys.{IsDistinct-push}
-use denote.RawPtr.{Ptr}
-use Rattle.lhm_ring.proofs.lists.ForAll.{AllByRecursion-append}
-use Rattle.linked_hash_map.specs.Nodes.{VisitState, IsKept, Lies, pairs_of, bare, bare_node, bookmark_at, current_at}
-use Rattle.linked_hash_map.specs.Pairs.{find}
-use Rattle.linked_hash_map.proofs.nodes.HeldPairs.{length-bare, keys-bare, pairs_of-append}
-use Rattle.linked_hash_map.proofs.pairs.Calls.{list_any-none}
-use Rattle.linked_hash_map.proofs.nodes.Kept.{IsKept-same}
-use Rattle.linked_hash_map.proofs.nodes.Outside.{index_of-among_first, to_visit_at, to_visit_of, to_visit-bare}
-use Rattle.linked_hash_map.proofs.lists.Stretches.{stretch-front}
-use Rattle.lhm_ring.specs.Ring.{Held}
+use Rattle.linked_hash_map.proofs.Names.{Bool, List, None, Option, [], ap, arith, false, length, length-append, map, sym, ℕ, ◌++◌, ◌<◌, ◌∙◌}
+use Rattle.linked_hash_map.proofs.Names.{◌∷◌, ◌≡◌, AllByRecursion-append, Held, IsKept, Lies, VisitState, bare, bare_node, bookmark_at}
+use Rattle.linked_hash_map.proofs.Names.{current_at, pairs_of, find, length-map, map-append, IsDistinct-push, IsEquivalence, list_any, Ptr}
+use Rattle.linked_hash_map.proofs.{lists.Stretches.stretch-front, nodes.Kept.IsKept-same, pairs.Calls.list_any-none}
+use Rattle.linked_hash_map.proofs.nodes.HeldPairs.{keys-bare, length-bare, pairs_of-append}
+use Rattle.linked_hash_map.proofs.nodes.Outside.{index_of-among_first, to_visit-bare, to_visit_at, to_visit_of}
 
 -- what lies among the first nodes is where it was
 module _ {B : Type 0} where

@@ -1,33 +1,17 @@
 -- The pair at a position, once it is moved by a mode and its value is written.
-use Rattle.std.proofs.Common.{◌≡◌, ℕ, ◌+◌, ◌<◌, inr, Bool, List, [], ◌∷◌, ◌++◌, length, slice_get, remove, Some, None, option_map}
-use Rattle.std.proofs.Common.{refl, sym, ap, ◌∙◌, subst, arith}
-use Rattle.std.specs.List.{IsDistinct}
-use Rattle.std.specs.Map.{keys_of}
-use Rattle.std.specs.Option.{option_to_list}
-use Rattle.std.proofs.lemmas.List.Edits.{length-remove}
-use Rattle.std.specs.Cmp.{IsEquivalence}
-use denote.RawPtr.{Ptr}
-use Rattle.linked_hash_map.specs.declared.map.Mode.{Mode}
-use Rattle.linked_hash_map.specs.declared.map.Mode.TheVariants.{Touch, Keep}
-use Rattle.linked_hash_map.specs.Nodes.{VisitState, pairs_of, bare, IsKept}
-use Rattle.linked_hash_map.proofs.nodes.Kept.{no_visit, IsKept-same}
-use Rattle.lhm_ring.specs.Positions.{IsAt, index_of, to_back_at}
-use Rattle.linked_hash_map.specs.Pairs.{value_at, put}
-use Rattle.linked_hash_map.specs.Indexes.{IsIndex, set_value_at}
-use Rattle.linked_hash_map.specs.Touches.{IsTouched}
-use Rattle.linked_hash_map.proofs.pairs.Indexes.{slice_get-set_value_at, set_value_at-pushed, slice_get-pushed}
-use Rattle.linked_hash_map.proofs.pairs.Indexes.{set_value-index, is_some-index, to_back-index, value_at-slice_get}
-use Rattle.linked_hash_map.proofs.pairs.Calls.{set_or_push-present}
+use Rattle.linked_hash_map.proofs.Names.{Bool, List, None, Some, [], ap, arith, inr, length, option_map, option_to_list, refl, remove}
+use Rattle.linked_hash_map.proofs.Names.{slice_get, subst, sym, ℕ, ◌++◌, ◌+◌, ◌<◌, ◌∙◌, ◌∷◌, ◌≡◌, IsAt-index_of, IsAt, index_of, to_back_at}
+use Rattle.linked_hash_map.proofs.Names.{AtHeld, Held, change_at, revalued, HasKey, WritesOnly, IsIndex, set_value_at, IsKept, VisitState}
+use Rattle.linked_hash_map.proofs.Names.{bare, pairs_of, put, value_at, IsTouched, Mode, Keep, Touch, length-remove, IsEquivalence}
+use Rattle.linked_hash_map.proofs.Names.{IsDistinct, keys_of, Ptr}
+use Rattle.linked_hash_map.proofs.nodes.{Current.IsKept-visited, FoundKeys.index_of-HasKey, Kept.IsKept-same, Kept.no_visit}
+use Rattle.linked_hash_map.proofs.nodes.CutNodes.{pairs_of-written, part-at, slice_get-at}
 use Rattle.linked_hash_map.proofs.nodes.HeldPairs.{bare-change, index_of-bare, length-bare, length-pairs_of, length-same}
-use Rattle.linked_hash_map.proofs.nodes.FoundKeys.{index_of-HasKey}
-use Rattle.linked_hash_map.proofs.nodes.CutNodes.{slice_get-at, part-at, pairs_of-written}
-use Rattle.lhm_ring.proofs.tables.Positions.{IsAt-index_of}
-use Rattle.linked_hash_map.proofs.nodes.Current.{IsKept-visited}
-use Rattle.linked_hash_map.proofs.nodes.MovedNode.{pairs-moved, length-moved, IsKept-moved, to_visit-moved, behind-moved}
-use Rattle.linked_hash_map.proofs.nodes.Outside.{IsElsewhere, IsCurrent, to_visit_at, to_visit_of, to_visit-bare}
-use Rattle.lhm_ring.specs.Ring.{Held, AtHeld, change_at, revalued}
-use Rattle.lhm_ring.specs.Search.{HasKey}
-use Rattle.lhm_ring.specs.Table.{WritesOnly}
+use Rattle.linked_hash_map.proofs.nodes.MovedNode.{IsKept-moved, behind-moved, length-moved, pairs-moved, to_visit-moved}
+use Rattle.linked_hash_map.proofs.nodes.Outside.{IsCurrent, IsElsewhere, to_visit-bare, to_visit_at, to_visit_of}
+use Rattle.linked_hash_map.proofs.pairs.Calls.{set_or_push-present}
+use Rattle.linked_hash_map.proofs.pairs.Indexes.{is_some-index, set_value-index, set_value_at-pushed, slice_get-pushed}
+use Rattle.linked_hash_map.proofs.pairs.Indexes.{slice_get-set_value_at, to_back-index, value_at-slice_get}
 
 -- hs are the nodes before, and ks those after
 module _ {K V : Type 0} (hs ks : List (Held (K × V))) (p : Ptr) (lies : index_of p hs < length hs) where

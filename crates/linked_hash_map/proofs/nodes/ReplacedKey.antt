@@ -1,25 +1,12 @@
 -- A node whose key is replaced by one that is the same.
-use Rattle.std.proofs.Common.{◌≡◌, ℕ, ◌+◌, Bool, cond, IsTrue, List, [], ◌∷◌, ◌++◌, map, length, slice_get}
-use Rattle.std.proofs.Common.{Option, Some, None, length-append, refl, sym, ap, ◌∙◌, subst, arith}
-use Rattle.std.specs.Prelude.{slice_set}
-use Rattle.std.specs.Cmp.{IsEquivalence}
-use Rattle.std.specs.List.{IsDistinct}
-use Rattle.std.specs.Map.{keys_of}
-use Rattle.std.proofs.Math.Seq.{set-append_seam}
-use Rattle.std.proofs.lemmas.List.{map-append, map-set}
-use denote.RawPtr.{Ptr}
-use Rattle.linked_hash_map.specs.Nodes.{VisitState, Lies, bookmark_at, current_at, cursor_at, IsKept, pairs_of, bare, bare_node}
-use Rattle.linked_hash_map.proofs.nodes.Kept.{no_visit}
-use Rattle.lhm_ring.specs.Positions.{index_of}
-use Rattle.linked_hash_map.specs.Pairs.{set_key}
+use Rattle.linked_hash_map.proofs.Names.{[], length-append, VisitState, bookmark_at, current_at, set-append_seam, map-append, IsEquivalence}
+use Rattle.linked_hash_map.proofs.Names.{map, slice_get, slice_set, same_ptr, index_of, rekeyed, bare_node, cursor_at, pairs_of, IsDistinct}
+use Rattle.linked_hash_map.proofs.Names.{Bool, IsTrue, Option, arith, length, subst, sym, AtHeld, IsHeld, IsKept, set_key, map-set, keys_of}
+use Rattle.linked_hash_map.proofs.Names.{List, None, Some, ap, cond, refl, ℕ, ◌++◌, ◌+◌, ◌∙◌, ◌∷◌, ◌≡◌, Held, held, Lies, bare, Ptr}
 use Rattle.linked_hash_map.proofs.lists.Distinct.{AllByRecursion-replaced, IsDistinct-replaced}
-use Rattle.linked_hash_map.proofs.lists.Stretches.{stretch-set}
-use Rattle.linked_hash_map.proofs.nodes.CutNodes.{slice_get-held, pairs_of-held}
+use Rattle.linked_hash_map.proofs.{lists.Stretches.stretch-set, nodes.Kept.no_visit, pairs.Indexes.set_key_by_index}
+use Rattle.linked_hash_map.proofs.nodes.{CutNodes.pairs_of-held, CutNodes.slice_get-held, Outside.IsElsewhere, Outside.to_visit_of}
 use Rattle.linked_hash_map.proofs.nodes.HeldPairs.{index_of-bare, length-pairs_of, pairs_of-append}
-use Rattle.linked_hash_map.proofs.nodes.Outside.{IsElsewhere, to_visit_of}
-use Rattle.linked_hash_map.proofs.pairs.Indexes.{set_key_by_index}
-use Rattle.lhm_ring.specs.Nodes.{same_ptr}
-use Rattle.lhm_ring.specs.Ring.{Held, held, AtHeld, IsHeld, rekeyed}
 
 -- the node u among bare nodes gets the key k
 module _ {K : Type 0} (front : List (Held K)) (u : Held K) (back : List (Held K)) (k : K) where

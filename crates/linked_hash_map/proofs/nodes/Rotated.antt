@@ -1,15 +1,9 @@
 -- The first nodes, moved behind the others.
-use Rattle.std.proofs.Common.{◌≡◌, ℕ, Bool, List, ◌++◌, length, None, take, drop, refl, sym, ap, subst, arith, length-append}
-use Rattle.std.specs.List.Sorted.{IsPermutation}
-use Rattle.std.specs.Cmp.{IsEquivalence}
-use Rattle.std.proofs.lemmas.List.{take-append-drop, take-map, drop-map}
-use Rattle.std.proofs.lemmas.List.Sorted.{IsPermutation-append_comm, IsPermutation-map}
-use Rattle.linked_hash_map.specs.Nodes.{VisitState, pairs_of, bare, bare_node, IsKept}
-use Rattle.linked_hash_map.proofs.nodes.Kept.{no_visit, IsKept-same}
+use Rattle.linked_hash_map.proofs.Names.{Bool, List, None, ap, arith, drop, length, length-append, refl, subst, sym, take, ℕ, ◌++◌, ◌≡◌}
+use Rattle.linked_hash_map.proofs.Names.{Held, IsKept, VisitState, bare, bare_node, pairs_of, drop-map, take-append-drop, take-map}
+use Rattle.linked_hash_map.proofs.Names.{IsPermutation-append_comm, IsPermutation-map, IsEquivalence, IsPermutation}
+use Rattle.linked_hash_map.proofs.nodes.{Current.IsKept-visited, MovedNode.IsKept-permuted, Kept.IsKept-same, Kept.no_visit}
 use Rattle.linked_hash_map.proofs.nodes.HeldPairs.{length-pairs_of, pairs_of-append}
-use Rattle.linked_hash_map.proofs.nodes.Current.{IsKept-visited}
-use Rattle.linked_hash_map.proofs.nodes.MovedNode.{IsKept-permuted}
-use Rattle.lhm_ring.specs.Ring.{Held}
 
 -- hs are the nodes before, and ks those where the first are behind the others
 module _ {K V : Type 0} (count : ℕ) (hs ks : List (Held (K × V))) (is : ks ≡ drop count hs ++ take count hs) where

@@ -1,28 +1,14 @@
 -- A key that a lookup finds: what looks it up finds what the stored key finds.
-use Rattle.std.proofs.Common.{◌≡◌, ℕ, ◌+◌, ◌-◌, Bool, cond, not, filter, map, List, [], ◌∷◌, ◌++◌, length, Option, Some, None}
-use Rattle.std.proofs.Common.{option_map, is_some, IsTrue, slice_get, length-append, refl, sym, ap, ◌∙◌, subst, arith}
-use Rattle.std.specs.Cmp.{IsEquivalence}
-use Rattle.std.specs.List.{IsDistinct}
-use Rattle.std.specs.Map.{keys_of, lookup_entry}
-use denote.RawPtr.{Ptr}
-use Rattle.linked_hash_map.specs.declared.map.Mode.TheVariants.{Touch}
-use Rattle.linked_hash_map.specs.Cursor.{without_cursor}
-use Rattle.linked_hash_map.specs.Indexes.{set_value_at}
-use Rattle.linked_hash_map.specs.LinkedMap.{LinkedMap}
-use Rattle.linked_hash_map.specs.Nodes.{pairs_of}
-use Rattle.linked_hash_map.specs.Pairs.{find, with_value, without, to_back, last}
-use Rattle.linked_hash_map.specs.Updates.{UpdatesBy}
-use Rattle.linked_hash_map.specs.Validity.{IsValid}
+use Rattle.linked_hash_map.proofs.Names.{length-append, slice_get, IsAt-index_of, without_cursor, set_value_at, IsEquivalence, lookup_entry}
+use Rattle.linked_hash_map.proofs.Names.{Bool, is_some, option_map, remove-at, LinkedMap, pairs_of, to_back, without, UpdatesBy, IsDistinct}
+use Rattle.linked_hash_map.proofs.Names.{IsTrue, List, None, Option, arith, filter, length, subst, AtHeld, HasKey, IsValid, Touch, keys_of}
+use Rattle.linked_hash_map.proofs.Names.{Some, [], ap, cond, map, not, refl, sym, ℕ, ◌++◌, ◌+◌, ◌-◌, ◌∙◌, ◌∷◌, ◌≡◌, Held, find, last, Ptr}
 use Rattle.linked_hash_map.proofs.Callers.Keys.{length-to_back_present, length-without_present}
 use Rattle.linked_hash_map.proofs.Callers.Updates.{Updates-put, Updates-set_value, Updates-without}
-use Rattle.linked_hash_map.proofs.nodes.CutNodes.{slice_get-held}
-use Rattle.linked_hash_map.proofs.nodes.FoundKeys.{index_of-HasKey, IsIndex-index_of}
-use Rattle.linked_hash_map.proofs.nodes.TakenNode.{pairs-removed}
-use Rattle.linked_hash_map.proofs.pairs.Indexes.{find-own, without-index, set_value-own_at, slice_get-last}
-use Rattle.linked_hash_map.proofs.pairs.Inserts.{distinct-to_back}
-use Rattle.lhm_ring.proofs.tables.Positions.{IsAt-index_of, remove-at}
-use Rattle.lhm_ring.specs.Ring.{Held, AtHeld}
-use Rattle.lhm_ring.specs.Search.{HasKey}
+use Rattle.linked_hash_map.proofs.{nodes.CutNodes.slice_get-held, nodes.TakenNode.pairs-removed, pairs.Inserts.distinct-to_back}
+use Rattle.linked_hash_map.proofs.nodes.FoundKeys.{IsIndex-index_of, index_of-HasKey}
+use Rattle.linked_hash_map.proofs.pairs.Indexes.{find-own, set_value-own_at, slice_get-last, without-index}
+use Rattle.linked_hash_map.specs.Pairs.{with_value}
 
 with_value-found : {K V : Type 0} (as_key : Option K) (pair : K × V) (v : V) → with_value as_key (Some pair) v ≡ (pair.0, v) ∷ []
 with_value-found as_key pair v = grind arith

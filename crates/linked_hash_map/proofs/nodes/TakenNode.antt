@@ -1,15 +1,9 @@
 -- A pair that is removed.
-use Rattle.std.proofs.Common.{◌≡◌, ℕ, ◌<◌, inr, Bool, List, map, length, remove, None, sym, ap, ◌∙◌, subst, arith}
-use Rattle.std.specs.List.{IsDistinct}
-use Rattle.std.proofs.lemmas.List.Edits.{length-remove}
-use Rattle.lhm_ring.proofs.tables.Positions.{map-remove}
-use Rattle.linked_hash_map.specs.Nodes.{VisitState, pairs_of, bare, bare_node, IsKept}
-use Rattle.linked_hash_map.proofs.nodes.Kept.{no_visit, IsKept-same}
+use Rattle.linked_hash_map.proofs.Names.{Bool, List, None, ap, arith, inr, length, map, remove, subst, sym, ℕ, ◌<◌, ◌∙◌, ◌≡◌, map-remove}
+use Rattle.linked_hash_map.proofs.Names.{Held, IsKept, VisitState, bare, bare_node, pairs_of, length-remove, IsDistinct}
 use Rattle.linked_hash_map.proofs.lists.Distinct.{all_removed, distinct_removed}
-use Rattle.linked_hash_map.proofs.nodes.Current.{IsKept-visited}
-use Rattle.linked_hash_map.proofs.nodes.HeldPairs.{length-bare}
-use Rattle.linked_hash_map.proofs.nodes.Outside.{IsElsewhere, to_visit_at, to_visit_of, to_visit-bare, in_reach-out, to_visit-out}
-use Rattle.lhm_ring.specs.Ring.{Held}
+use Rattle.linked_hash_map.proofs.nodes.{Current.IsKept-visited, HeldPairs.length-bare, Kept.IsKept-same, Kept.no_visit}
+use Rattle.linked_hash_map.proofs.nodes.Outside.{IsElsewhere, in_reach-out, to_visit-bare, to_visit-out, to_visit_at, to_visit_of}
 
 -- the nodes without one that is not to be visited, which is spare
 pub IsKept-out : {K : Type 0} {eq : K → K → Bool} {hash : K → ℕ} {us : List (Held K)} {capacity : ℕ} {visit : VisitState}

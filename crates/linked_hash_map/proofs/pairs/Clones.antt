@@ -1,24 +1,12 @@
 -- Clones of pairs, inserted one after another.
-use Rattle.std.proofs.Common.{◌≡◌, ℕ, map, ◌+◌, ◌≤◌, Bool, true, false, IsTrue, List, [], ◌∷◌, ◌++◌, length, append_assoc, append-nil, max}
-use Rattle.std.proofs.Common.{Option, Some, None, OnSome, IfNone, refl, sym, ap, ◌∙◌, subst, arith, length-append}
-use Rattle.std.specs.List.{AllZip, AllByRecursion, IsDistinct}
-use Rattle.std.specs.Map.{keys_of}
-use Rattle.std.specs.Cmp.{IsEquivalence}
+use Rattle.linked_hash_map.proofs.Names.{Bool, IfNone, IsTrue, List, None, OnSome, Option, Some, [], ap, append-nil, append_assoc, arith}
+use Rattle.linked_hash_map.proofs.Names.{false, length, length-append, map, max, refl, subst, sym, true, ℕ, ◌++◌, ◌+◌, ◌∙◌, ◌∷◌, ◌≡◌, ◌≤◌}
+use Rattle.linked_hash_map.proofs.Names.{AllZip-last, IsTripleClone, KeepsSettings, AreClones, IsClone, rechained_raised, to_visit}
+use Rattle.linked_hash_map.proofs.Names.{insert_each, LinkedMap, put, to_back, IsValid, Touch, IsEquivalence, AllByRecursion, AllZip}
+use Rattle.linked_hash_map.proofs.Names.{IsDistinct, keys_of}
+use Rattle.linked_hash_map.proofs.pairs.{ExtendSteps.to_visit-none, RehashCounts.rechained_raised-same}
+use Rattle.linked_hash_map.proofs.pairs.Inserts.{insert_each-distinct, insert_each-last, length-put_most}
 use Rattle.std.proofs.lemmas.Map.Entries.{entries_from_clone}
-use Rattle.lhm_ring.proofs.rings.Ends.{AllZip-last}
-use Rattle.linked_hash_map.specs.Changes.{KeepsSettings}
-use Rattle.linked_hash_map.specs.declared.map.Mode.TheVariants.{Touch}
-use Rattle.linked_hash_map.specs.LinkedMap.{LinkedMap}
-use Rattle.linked_hash_map.specs.Pairs.{to_back, put}
-use Rattle.linked_hash_map.specs.Cursor.{to_visit}
-use Rattle.linked_hash_map.specs.Inserts.{insert_each}
-use Rattle.linked_hash_map.specs.Validity.{IsValid}
-use Rattle.linked_hash_map.specs.Counts.{rechained_raised}
-use Rattle.linked_hash_map.specs.Clones.{AreClones, IsClone}
-use Rattle.linked_hash_map.proofs.pairs.Inserts.{insert_each-last, insert_each-distinct, length-put_most}
-use Rattle.linked_hash_map.proofs.pairs.ExtendSteps.{to_visit-none}
-use Rattle.linked_hash_map.proofs.pairs.RehashCounts.{rechained_raised-same}
-use Rattle.lhm_ring.specs.Ring.{IsTripleClone}
 
 -- triples of a hash and a pair, and clones of them: their pairs
 module _ {K V : Type 0} (IsKeyClone : K → K → Type 0) (IsValueClone : V → V → Type 0) where

@@ -1,17 +1,9 @@
 -- The value of the first pair, or of the last, is set.
-use Rattle.std.proofs.Common.{◌≡◌, ℕ, ◌-◌, Bool, List, [], ◌∷◌, ◌++◌, length, take, slice_get, Some}
-use Rattle.std.proofs.Common.{IfSome, option_to_list, option_map, refl, sym, ap, ◌∙◌, subst, arith}
-use Rattle.std.specs.List.{IsDistinct}
-use Rattle.std.specs.Map.{keys_of}
-use Rattle.std.specs.Cmp.{IsEquivalence}
-use Rattle.std.proofs.lemmas.List.{length-map}
-use Rattle.linked_hash_map.specs.Indexes.{IsIndex, set_value_at}
-use Rattle.linked_hash_map.specs.LinkedMap.{LinkedMap}
-use Rattle.linked_hash_map.specs.Pairs.{first, last, set_first, set_last}
-use Rattle.linked_hash_map.specs.Updates.{Updates}
-use Rattle.linked_hash_map.specs.Validity.{IsValid}
+use Rattle.linked_hash_map.proofs.Names.{Bool, IfSome, List, Some, [], ap, arith, length, option_map, option_to_list, refl, slice_get}
+use Rattle.linked_hash_map.proofs.Names.{subst, sym, take, ℕ, ◌++◌, ◌-◌, ◌∙◌, ◌∷◌, ◌≡◌, IsIndex, set_value_at, LinkedMap, first, last}
+use Rattle.linked_hash_map.proofs.Names.{set_first, set_last, Updates, IsValid, length-map, IsEquivalence, IsDistinct, keys_of}
 use Rattle.linked_hash_map.proofs.Callers.Updates.{Updates-set_value}
-use Rattle.linked_hash_map.proofs.pairs.Indexes.{keys_of-set_value_at, set_value-index, is_some-index}
+use Rattle.linked_hash_map.proofs.pairs.Indexes.{is_some-index, keys_of-set_value_at, set_value-index}
 
 module _ {K V : Type 0} where
   pub set_value_at-first : (pairs : List (K × V)) (v : V) → set_value_at pairs 0 v ≡ set_first pairs v

@@ -1,24 +1,12 @@
 -- What `extend` and `extend_refs` have inserted, one step after another.
-use Rattle.std.proofs.Common.{◌≡◌, ◌+◌, ◌-◌, ◌≤◌, ℕ, Bool, List, [], ◌∷◌, ◌++◌, length, max, map, Option, Some, None}
-use Rattle.std.proofs.Common.{OnSome, IfNone, IsSome, sym, subst, arith, length-append}
-use Rattle.std.proofs.Math.Nat.{eq-or-lt_of_le}
-use Rattle.std.proofs.Math.Seq.{drop-nil, take-nil}
-use Rattle.std.specs.List.{IsDistinct}
-use Rattle.std.specs.Map.{keys_of}
-use Rattle.std.specs.Iterator.{Count, IsFinite, size, MakesProgress, YieldsThen}
-use Rattle.std.specs.Cmp.{IsEquivalence}
-use Rattle.std.proofs.lemmas.List.{map-append, length-map}
-use Rattle.linked_hash_map.specs.LinkedMap.{LinkedMap}
-use Rattle.linked_hash_map.specs.Changes.{KeepsSettings}
-use Rattle.linked_hash_map.specs.Counts.{rechained_each}
-use Rattle.linked_hash_map.specs.Inserts.{insert_each, InsertsUntil, LeavesVisit, ExtendsWith, CollectsInto, IsNewDefault}
-use Rattle.linked_hash_map.specs.Cursor.{to_visit}
-use Rattle.linked_hash_map.specs.Pairs.{find, value_at}
-use Rattle.linked_hash_map.specs.Validity.{IsValid}
-use Rattle.linked_hash_map.proofs.pairs.Inserts.{HasInserted, HasPut, HasInserted-none, HasInserted-put}
-use Rattle.linked_hash_map.proofs.pairs.Inserts.{AreWithinBound, AreWithinBound-next}
-use Rattle.linked_hash_map.proofs.runs.Extends.{find-insert_each_absent}
-use Rattle.linked_hash_map.proofs.Callers.Collected.{length-insert_each_most}
+use Rattle.linked_hash_map.proofs.Names.{Bool, IfNone, IsSome, List, None, OnSome, Option, Some, [], arith, length, length-append, map, max}
+use Rattle.linked_hash_map.proofs.Names.{subst, sym, ℕ, ◌++◌, ◌+◌, ◌-◌, ◌∷◌, ◌≡◌, ◌≤◌, KeepsSettings, rechained_each, to_visit}
+use Rattle.linked_hash_map.proofs.Names.{CollectsInto, ExtendsWith, InsertsUntil, IsNewDefault, LeavesVisit, insert_each, LinkedMap, find}
+use Rattle.linked_hash_map.proofs.Names.{value_at, IsValid, eq-or-lt_of_le, drop-nil, take-nil, length-map, map-append, IsEquivalence}
+use Rattle.linked_hash_map.proofs.Names.{Count, IsFinite, MakesProgress, YieldsThen, IsDistinct, keys_of}
+use Rattle.linked_hash_map.proofs.{Callers.Collected.length-insert_each_most, pairs.Inserts.HasPut, runs.Extends.find-insert_each_absent}
+use Rattle.linked_hash_map.proofs.pairs.Inserts.{AreWithinBound, AreWithinBound-next, HasInserted, HasInserted-none, HasInserted-put}
+use Rattle.std.specs.Iterator.{size}
 
 -- the items that came so far, from one state of an iterator to another, went into one map, and left
 -- another

@@ -1,21 +1,10 @@
 -- The pair of a key, put between the first pairs and the others, at the index of the key.
-use Rattle.std.proofs.Common.{◌≡◌, ℕ, zero, suc, ◌+◌, ◌-◌, ◌<◌, ◌≤◌, ⊎_elim, Bool, true, cond, not, List, [], ◌∷◌, ◌++◌, take, drop, remove}
-use Rattle.std.proofs.Common.{slice_get, Option, Some, None, is_some, option_to_list, sym, ap, ◌∙◌, subst, true≢false, arith}
-use Rattle.std.specs.Prelude.{nat_lt}
-use Rattle.std.specs.List.{IsDistinct}
-use Rattle.std.specs.Map.{keys_of}
-use Rattle.std.specs.Option.{option_or}
-use Rattle.std.specs.Cmp.{IsEquivalence}
-use Rattle.std.proofs.lemmas.Bool.{cases_lt, lt-ltb, le-ltb}
-use Rattle.std.proofs.lemmas.List.{take-append-drop}
-use Rattle.std.proofs.lemmas.Map.Keys.{IsDistinct-tail}
-use Rattle.lhm_ring.specs.Positions.{to_before_at}
-use Rattle.linked_hash_map.specs.Indexes.{IsIndex}
-use Rattle.linked_hash_map.specs.Pairs.{find, without, count_before, to_behind}
-use Rattle.linked_hash_map.proofs.Callers.Lookups.{lookup_entry-append}
-use Rattle.linked_hash_map.proofs.lists.Stretches.{take-none}
-use Rattle.linked_hash_map.proofs.pairs.Calls.{without-absent}
-use Rattle.linked_hash_map.proofs.pairs.Indexes.{first_differs, others_differ, without_at, find-index}
+use Rattle.linked_hash_map.proofs.Names.{Bool, List, None, Option, Some, [], ap, arith, cond, drop, is_some, nat_lt, not, option_to_list}
+use Rattle.linked_hash_map.proofs.Names.{remove, slice_get, subst, suc, sym, take, true, true≢false, zero, ℕ, ⊎_elim, ◌++◌, ◌+◌, ◌-◌, ◌<◌}
+use Rattle.linked_hash_map.proofs.Names.{◌∙◌, ◌∷◌, ◌≡◌, ◌≤◌, to_before_at, IsIndex, count_before, find, to_behind, without, cases_lt}
+use Rattle.linked_hash_map.proofs.Names.{le-ltb, lt-ltb, take-append-drop, IsDistinct-tail, IsEquivalence, IsDistinct, keys_of, option_or}
+use Rattle.linked_hash_map.proofs.{Callers.Lookups.lookup_entry-append, lists.Stretches.take-none, pairs.Calls.without-absent}
+use Rattle.linked_hash_map.proofs.pairs.Indexes.{find-index, first_differs, others_differ, without_at}
 
 -- what neither of two lists has
 first_none : {X : Type 0} (o p : Option X) → option_or o p ≡ None → o ≡ None

@@ -1,9 +1,6 @@
 -- The pairs with a value written in that of a key.
-use Rattle.std.proofs.Common.{◌≡◌, Bool, true, false, cond, map, List, [], ◌∷◌, refl, ap₂, arith}
-use Rattle.std.proofs.lemmas.List.{length-map}
-use Rattle.std.specs.Map.{keys_of}
-use Rattle.linked_hash_map.specs.LinkedMap.{LinkedMap}
-use Rattle.linked_hash_map.specs.Validity.{IsValid}
+use Rattle.linked_hash_map.proofs.Names.{Bool, List, [], ap₂, arith, cond, false, map, refl, true, ◌∷◌, ◌≡◌, LinkedMap, IsValid, length-map}
+use Rattle.linked_hash_map.proofs.Names.{keys_of}
 
 -- the keys stay
 keys_of-written : {K V : Type 0} (is_key : K → Bool) (v : V) (pairs : List (K × V))

@@ -1,23 +1,11 @@
 -- Pairs inserted one after another: a key that is absent then, and a log that defines the map.
-use Rattle.std.proofs.Common.{◌≡◌, ℕ, ◌+◌, ◌-◌, ◌≤◌, max, Bool, true, false, ◌||◌, List, [], ◌∷◌, ◌++◌, length, slice_get, take, Some, None}
-use Rattle.std.proofs.Common.{is_some, true≢false, refl, sym, ap, ap₂, subst, ◌∙◌, append_assoc, length-append, arith}
-use Rattle.std.specs.Cmp.{IsEquivalence}
-use Rattle.std.proofs.lemmas.List.{map-append}
-use Rattle.std.proofs.Math.Seq.{take-append_seam}
-use Rattle.linked_hash_map.specs.Changes.{KeepsSettings}
-use Rattle.linked_hash_map.specs.Counts.{rechained_raised, rechained_each}
-use Rattle.linked_hash_map.specs.LinkedMap.{LinkedMap}
-use Rattle.linked_hash_map.specs.Log.{Log, Put, put_each, Defines}
-use Rattle.linked_hash_map.specs.declared.map.Mode.{Mode}
-use Rattle.linked_hash_map.specs.Pairs.{find, put}
-use Rattle.linked_hash_map.specs.Inserts.{insert_each}
-use Rattle.linked_hash_map.specs.AllowedAnswers.{HasNoRoom}
-use Rattle.lhm_ring.proofs.tables.Positions.{slice_get-append}
-use Rattle.linked_hash_map.proofs.log.LiveKeys.{none_is}
-use Rattle.linked_hash_map.proofs.runs.Effects.{IsFull-contents, IsAbsent-found, Defines-put}
-use Rattle.linked_hash_map.proofs.Callers.Collected.{is_some-insert_each}
-use Rattle.linked_hash_map.proofs.pairs.Inserts.{length-put_most}
-use Rattle.linked_hash_map.proofs.pairs.RehashCounts.{rechained_each-put}
+use Rattle.linked_hash_map.proofs.Names.{length-append, slice_get-append, KeepsSettings, rechained_each, rechained_raised, take-append_seam}
+use Rattle.linked_hash_map.proofs.Names.{append_assoc, slice_get, true≢false, HasNoRoom, insert_each, LinkedMap, map-append, IsEquivalence}
+use Rattle.linked_hash_map.proofs.Names.{Bool, List, None, Some, arith, false, is_some, length, refl, subst, take, true, Defines, put_each}
+use Rattle.linked_hash_map.proofs.Names.{[], ap, ap₂, max, sym, ℕ, ◌++◌, ◌+◌, ◌-◌, ◌||◌, ◌∙◌, ◌∷◌, ◌≡◌, ◌≤◌, Log, Put, find, put, Mode}
+use Rattle.linked_hash_map.proofs.{Callers.Collected.is_some-insert_each, log.LiveKeys.none_is}
+use Rattle.linked_hash_map.proofs.pairs.{Inserts.length-put_most, RehashCounts.rechained_each-put}
+use Rattle.linked_hash_map.proofs.runs.Effects.{Defines-put, IsAbsent-found, IsFull-contents}
 
 -- a key that is absent after insertions was absent before them
 pub find-insert_each_absent : {K V : Type 0} {eq : K → K → Bool} → IsEquivalence eq → (mode : Mode) (pairs items : List (K × V)) (q : K)

@@ -1,9 +1,6 @@
 -- The nodes that runs rehash: a run that goes on by one command.
-use Rattle.std.proofs.Common.{◌≡◌, List, [], ◌∷◌, ◌++◌, length, ap₂, sym, ◌∙◌, append_assoc}
-use Rattle.linked_hash_map.specs.LinkedMap.{LinkedMap}
-use Rattle.linked_hash_map.specs.Rehashes.{rechained_after, rechained_after_all}
-use Rattle.linked_hash_map.specs.declared.replay.Command.{Command}
-use Rattle.linked_hash_map.specs.declared.replay.Reply.{Reply}
+use Rattle.linked_hash_map.proofs.Names.{List, [], append_assoc, ap₂, length, sym, ◌++◌, ◌∙◌, ◌∷◌, ◌≡◌, LinkedMap, rechained_after}
+use Rattle.linked_hash_map.proofs.Names.{rechained_after_all, Command, Reply}
 
 module _ {K V S : Type 0} where
   -- whatever commands come after these, they go on from the counts of the map that these leave

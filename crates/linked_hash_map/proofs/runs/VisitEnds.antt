@@ -1,6 +1,5 @@
 -- What calls in turn leave to be visited, as `MayEndVisit` says it.
-use Rattle.std.proofs.Common.{◌≡◌, List, [], Option, arith}
-use Rattle.std.specs.Prelude.{◌⊎◌, OnSome, IfNone}
+use Rattle.linked_hash_map.proofs.Names.{IfNone, List, OnSome, Option, [], arith, ◌≡◌, ◌⊎◌}
 
 module _ {K : Type 0} where
   pub MayEndVisit-trans : {old now new : List K} → (now ≡ []) ⊎ (now ≡ old) → (new ≡ []) ⊎ (new ≡ now) → (new ≡ []) ⊎ (new ≡ old)

@@ -1,15 +1,8 @@
 -- The sessions that a closure is handed.
-use Rattle.std.proofs.Common.{◌≡◌, ℕ, zero, suc, ◌+◌, ◌<◌, ◌≤◌, Bool, true, false, List, [], ◌∷◌, ◌++◌, length, take, drop, Vec}
-use Rattle.std.proofs.Common.{Global, vec_capacity, refl, sym, ap, ◌∙◌, arith, add-one, length-append}
-use Rattle.std.specs.Borrow.{MutBor}
-use Rattle.std.specs.Fn.{Takes}
-use Rattle.std.specs.List.{FoldsTo}
-use Rattle.std.specs.Prelude.{nat_le, if◌then◌else◌}
-use denote.Param.Members.{Mut}
-use Rattle.std.proofs.lemmas.Fn.{chained_keeps}
-use Rattle.std.proofs.lemmas.List.{append_assoc, append-nil}
-use Rattle.linked_hash_map.specs.SessionHandOuts.{CalledWithSession, CallableWithEachSession}
-use Rattle.linked_hash_map.specs.SessionTables.{Session, total_weight, fit, leaving}
+use Rattle.linked_hash_map.proofs.Names.{Bool, Global, List, Vec, [], add-one, ap, append-nil, append_assoc, arith, drop, false, length}
+use Rattle.linked_hash_map.proofs.Names.{length-append, nat_le, refl, suc, sym, take, true, vec_capacity, zero, ℕ, ◌++◌, ◌+◌, ◌<◌, ◌∙◌, ◌∷◌}
+use Rattle.linked_hash_map.proofs.Names.{◌≡◌, ◌≤◌, if◌then◌else◌, CallableWithEachSession, CalledWithSession, Session, fit, leaving}
+use Rattle.linked_hash_map.proofs.Names.{total_weight, chained_keeps, MutBor, Takes, FoldsTo, Mut}
 
 module _ {X : Type 0} where
   -- the first elements, and the one behind them

@@ -1,11 +1,8 @@
 -- The loop past the sessions that go.
-use Rattle.std.proofs.Common.{◌≡◌, ℕ, ◌+◌, ◌-◌, ◌<◌, ◌≤◌, cond, not, List, ◌∷◌, length, drop, sym, ap, ◌∙◌, arith}
-use Rattle.std.proofs.lemmas.Bool.{ne_eqb}
-use Rattle.std.proofs.lemmas.List.{drop-drop}
-use Rattle.std.proofs.lemmas.List.Sums.{length-filter, count_by-le-length}
-use Rattle.linked_hash_map.specs.SessionPuts.{AreLeaving}
-use Rattle.linked_hash_map.specs.SessionTables.{Session, total_weight, without, fit}
-use Rattle.linked_hash_map.proofs.session_table.Lists.{total_weight-cons, fit-all, fit-more}
+use Rattle.linked_hash_map.proofs.Names.{List, ap, arith, cond, drop, length, ne_eqb, not, sym, ℕ, ◌+◌, ◌-◌, ◌<◌, ◌∙◌, ◌∷◌, ◌≡◌, ◌≤◌}
+use Rattle.linked_hash_map.proofs.Names.{AreLeaving, Session, fit, total_weight, drop-drop, count_by-le-length, length-filter}
+use Rattle.linked_hash_map.proofs.session_table.Lists.{fit-all, fit-more, total_weight-cons}
+use Rattle.linked_hash_map.specs.SessionTables.{without}
 
 module _ {T : Type 0} (id weight_left : ℕ) (all : List (Session T)) where
   -- count of the sessions except that with the id were passed, all of which go; the rest are to

@@ -1,25 +1,14 @@
 -- The sessions that a map's pairs stand for, after each call of the map.
-use Rattle.std.proofs.Common.{◌≡◌, ℕ, suc, ◌+◌, ◌-◌, Bool, true, false, cond, not, List, [], ◌∷◌, ◌++◌, length, nat_eq, Option, Some}
-use Rattle.std.proofs.Common.{option_map, is_some, refl, sym, ap, ap₂, ◌∙◌, subst, arith}
-use Rattle.std.specs.Prelude.{unwrap_or}
-use Rattle.std.specs.Cmp.{nat_eq_equiv}
-use Rattle.std.specs.List.{IsDistinct}
-use Rattle.std.specs.Map.{keys_of}
-use Rattle.std.proofs.lemmas.Bool.{eqb-true}
-use Rattle.std.proofs.lemmas.List.{map-append}
-use Rattle.linked_hash_map.specs.LinkedMap.{LinkedMap}
-use Rattle.linked_hash_map.specs.declared.map.Mode.TheVariants.{Touch}
+use Rattle.linked_hash_map.proofs.Names.{Bool, List, Option, Some, [], ap, ap₂, arith, cond, eqb as nat_eq, false, is_some, length, not}
+use Rattle.linked_hash_map.proofs.Names.{option_map, refl, subst, suc, sym, true, unwrap_or, ℕ, ◌++◌, ◌+◌, ◌-◌, ◌∙◌, ◌∷◌, ◌≡◌, refreshed}
+use Rattle.linked_hash_map.proofs.Names.{LinkedMap, IsValidTable, Session, ids_of, payload_of, session_of, session_table, to_end}
+use Rattle.linked_hash_map.proofs.Names.{total_weight, weight_of, with_last, IsKeptWithin, sessions_of, IsValid, Touch, Weighted, eqb-true}
+use Rattle.linked_hash_map.proofs.Names.{map-append, nat_eq_equiv, IsDistinct, keys_of}
+use Rattle.linked_hash_map.proofs.Callers.{Keys.IsSome-find, Keys.length-to_back_present, Valid.IsValid-put}
+use Rattle.linked_hash_map.proofs.Callers.Lookups.{eq-stored, value_at-to_back_apart, value_at-to_back_here}
+use Rattle.linked_hash_map.proofs.session_table.Lists.{total_weight-with_last, total_weight-without}
+use Rattle.linked_hash_map.specs.SessionTables.{without}
 use Rattle.linked_hash_map.specs.Pairs as pairs
-use Rattle.linked_hash_map.specs.Validity.{IsValid}
-use Rattle.linked_hash_map.specs.SessionTables.{Session, session_table, ids_of, total_weight, session_of, payload_of, weight_of, without}
-use Rattle.linked_hash_map.specs.SessionTables.{with_last, to_end, IsValidTable}
-use Rattle.linked_hash_map.specs.SessionsKept.{sessions_of, IsKeptWithin}
-use Rattle.linked_hash_map.specs.declared.sessions.storage.Weighted.{Weighted}
-use Rattle.linked_hash_map.specs.Changes.{refreshed}
-use Rattle.linked_hash_map.proofs.Callers.Keys.{IsSome-find, length-to_back_present}
-use Rattle.linked_hash_map.proofs.Callers.Lookups.{eq-stored, value_at-to_back_here, value_at-to_back_apart}
-use Rattle.linked_hash_map.proofs.Callers.Valid.{IsValid-put}
-use Rattle.linked_hash_map.proofs.session_table.Lists.{total_weight-without, total_weight-with_last}
 
 module _ {T : Type 0} where
   abbrev session : ℕ × Weighted T → Session T

@@ -1,23 +1,12 @@
 -- What a planned put leaves of a table.
-use Rattle.std.proofs.Common.{◌≡◌, ℕ, ◌+◌, ◌-◌, ◌≤◌, true, false, List, ◌++◌, length, take, drop, nat_eq}
-use Rattle.std.proofs.Common.{sym, ap, ◌∙◌, subst, arith, length-take-le}
-use Rattle.std.specs.Prelude.{max}
-use Rattle.std.specs.List.{IsDistinct}
-use Rattle.std.specs.Map.{keys_of}
-use Rattle.std.specs.Option.{IsSome}
-use Rattle.std.proofs.lemmas.List.{append_cancel_right, take-append-drop}
-use Rattle.linked_hash_map.specs.Pairs.{last}
-use Rattle.linked_hash_map.specs.SessionPuts.{IsPutPlan, HasPut}
-use Rattle.linked_hash_map.specs.SessionTables.{Session, session_table, payload_of, total_weight, without, with_last, fit, leaving}
-use Rattle.linked_hash_map.specs.SessionTables.{IsLongestEnd}
-use Rattle.linked_hash_map.specs.SessionsKept.{sessions_of}
-use Rattle.linked_hash_map.specs.declared.sessions.storage.PutPlan.{PutPlan}
-use Rattle.linked_hash_map.specs.declared.sessions.storage.Weighted.{Weighted}
-use Rattle.linked_hash_map.proofs.Callers.Lookups.{last-append}
-use Rattle.linked_hash_map.proofs.session_table.HandOuts.{leaving-fit}
-use Rattle.linked_hash_map.proofs.session_table.Lists.{total_weight-fit, IsLongestEnd-fit}
-use Rattle.linked_hash_map.proofs.session_table.Puts.{drop-with_last, fit-with_last, length-with_last, total_weight-put}
-use Rattle.linked_hash_map.proofs.session_table.Puts.{payload_of-put, payload_of-stays, capacity-put}
+use Rattle.linked_hash_map.proofs.Names.{IsSome, List, ap, arith, drop, eqb as nat_eq, false, length, length-take-le, max, subst, sym, take}
+use Rattle.linked_hash_map.proofs.Names.{true, ℕ, ◌++◌, ◌+◌, ◌-◌, ◌∙◌, ◌≡◌, ◌≤◌, last, HasPut, IsPutPlan, IsLongestEnd, Session, fit}
+use Rattle.linked_hash_map.proofs.Names.{leaving, payload_of, session_table, total_weight, with_last, sessions_of, Weighted}
+use Rattle.linked_hash_map.proofs.Names.{append_cancel_right, take-append-drop, IsDistinct, keys_of}
+use Rattle.linked_hash_map.proofs.{Callers.Lookups.last-append, session_table.Lists.IsLongestEnd-fit, session_table.Lists.total_weight-fit}
+use Rattle.linked_hash_map.proofs.session_table.{HandOuts.leaving-fit, Puts.payload_of-stays, Puts.total_weight-put}
+use Rattle.linked_hash_map.proofs.session_table.Puts.{capacity-put, drop-with_last, fit-with_last, length-with_last, payload_of-put}
+use Rattle.linked_hash_map.specs.{SessionTables.without, declared.sessions.storage.PutPlan.PutPlan}
 
 module _ {T : Type 0} {sessions : List (Session T)} {limit id weight : ℕ} {plan : PutPlan} (light : weight ≤ limit)
     (planned : IsPutPlan sessions id (limit - weight) plan) where

@@ -1,25 +1,16 @@
 -- What a put does to the pairs of a table's map.
-use Rattle.std.proofs.Common.{◌≡◌, ℕ, zero, suc, ◌+◌, ◌-◌, ◌<◌, ◌≤◌, Bool, true, false, cond, not, List, [], ◌∷◌}
-use Rattle.std.proofs.Common.{◌++◌, length, take, drop, nat_eq}
-use Rattle.std.proofs.Common.{Option, Some, None, is_some, option_map, true≢false, refl, sym, ap, ◌∙◌, arith, length-append, length-drop}
-use Rattle.std.specs.Prelude.{max}
-use Rattle.std.specs.Cmp.{IsEquivalence, nat_eq_equiv}
-use Rattle.std.specs.List.{IsDistinct}
-use Rattle.std.specs.Map.{keys_of}
-use Rattle.std.specs.Option.{IsSome}
-use Rattle.std.proofs.lemmas.List.{drop-map, drop-append-le, take-append-le}
-use Rattle.std.proofs.lemmas.Map.Keys.{IsDistinct-tail}
-use Rattle.linked_hash_map.specs.Pairs as pairs
-use Rattle.linked_hash_map.specs.SessionTables.{Session, total_weight, session_of, payload_of, without, with_last, fit}
-use Rattle.linked_hash_map.specs.SessionsKept.{sessions_of}
-use Rattle.linked_hash_map.specs.declared.sessions.storage.Weighted.{Weighted}
+use Rattle.linked_hash_map.proofs.Names.{Bool, IsSome, List, None, Option, Some, [], ap, arith, cond, drop, eqb as nat_eq, false, is_some}
+use Rattle.linked_hash_map.proofs.Names.{length, length-append, length-drop, max, not, option_map, refl, suc, sym, take, true, true≢false}
+use Rattle.linked_hash_map.proofs.Names.{zero, ℕ, ◌++◌, ◌+◌, ◌-◌, ◌<◌, ◌∙◌, ◌∷◌, ◌≡◌, ◌≤◌, Session, fit, payload_of, session_of}
+use Rattle.linked_hash_map.proofs.Names.{total_weight, with_last, sessions_of, Weighted, drop-append-le, drop-map, take-append-le}
+use Rattle.linked_hash_map.proofs.Names.{IsDistinct-tail, IsEquivalence, nat_eq_equiv, IsDistinct, keys_of}
 use Rattle.linked_hash_map.proofs.Callers.Keys.{distinct-to_back, find-drop, length-to_back_present, without-absent}
-use Rattle.linked_hash_map.proofs.Callers.Lookups.{find-without_here, value_at-to_back_apart}
-use Rattle.linked_hash_map.proofs.Callers.Turns.{find-others}
-use Rattle.linked_hash_map.proofs.log.LiveKeys.{none_is}
-use Rattle.linked_hash_map.proofs.session_table.Lists.{total_weight-append, total_weight-last, fit-append, session_of-append}
-use Rattle.linked_hash_map.proofs.session_table.Pairs.{sessions_of-without, sessions_of-to_back, length-sessions_of, is_some-session_of}
-use Rattle.linked_hash_map.proofs.session_table.Pairs.{payload_of-sessions_of}
+use Rattle.linked_hash_map.proofs.Callers.{Lookups.find-without_here, Lookups.value_at-to_back_apart, Turns.find-others}
+use Rattle.linked_hash_map.proofs.{log.LiveKeys.none_is, session_table.Pairs.sessions_of-without}
+use Rattle.linked_hash_map.proofs.session_table.Lists.{fit-append, session_of-append, total_weight-append, total_weight-last}
+use Rattle.linked_hash_map.proofs.session_table.Pairs.{is_some-session_of, length-sessions_of, payload_of-sessions_of, sessions_of-to_back}
+use Rattle.linked_hash_map.specs.SessionTables.{without}
+use Rattle.linked_hash_map.specs.Pairs as pairs
 
 -- a key that is found among the last pairs has there the pair that it has among all
 find-drop_present : {K V : Type 0} {eq : K → K → Bool} → IsEquivalence eq → (ps : List (K × V)) (q : K) (n : ℕ) → IsDistinct eq (keys_of ps)

@@ -1,18 +1,9 @@
 -- The sessions that a closure keeps.
-use Rattle.std.proofs.Common.{◌≡◌, ℕ, ◌+◌, ◌≤◌, Bool, cond, List, [], ◌∷◌, ap, ◌∙◌, arith}
-use Rattle.std.specs.Borrow.{MutBor}
-use Rattle.std.specs.List.{FoldsTo}
-use Rattle.std.specs.Map.Calls.{CallableOnEachPair, SomeCallAtPair, RetainsPairs}
-use denote.Param.Members.{Mut}
-use Rattle.std.proofs.lemmas.List.{map-append}
-use Rattle.linked_hash_map.specs.Retains.{IsSublist}
-use Rattle.linked_hash_map.specs.SessionTables.{Session, total_weight}
-use Rattle.linked_hash_map.specs.SessionsKept.{sessions_of}
-use Rattle.linked_hash_map.specs.SessionRetains.{weights_of, TakesSession, CalledAtSession, SomeCallAtSession}
-use Rattle.linked_hash_map.specs.SessionRetains.{CallableOnEachSession, RetainsSessions}
-use Rattle.linked_hash_map.specs.declared.sessions.storage.Weighted.{Weighted}
-use Rattle.linked_hash_map.proofs.nodes.Retained.{first-retained}
-use Rattle.linked_hash_map.proofs.session_table.Lists.{total_weight-cons}
+use Rattle.linked_hash_map.proofs.Names.{Bool, List, [], ap, arith, cond, ℕ, ◌+◌, ◌∙◌, ◌∷◌, ◌≡◌, ◌≤◌, IsSublist, CallableOnEachSession}
+use Rattle.linked_hash_map.proofs.Names.{CalledAtSession, RetainsSessions, SomeCallAtSession, TakesSession, weights_of, Session}
+use Rattle.linked_hash_map.proofs.Names.{total_weight, sessions_of, Weighted, map-append, MutBor, FoldsTo, CallableOnEachPair, RetainsPairs}
+use Rattle.linked_hash_map.proofs.Names.{SomeCallAtPair, Mut}
+use Rattle.linked_hash_map.proofs.{nodes.Retained.first-retained, session_table.Lists.total_weight-cons}
 
 module _ {F T : Type 0} (g : Mut F (ℕ × (ℕ × (MutBor T × Unit {0}))) (Bool × (MutBor T × Unit {0}))) where
   -- whatever the closure does, some of the sessions stay, in order, each with its weight

@@ -1,40 +1,22 @@
 -- `join_block` takes the memory of heads and words back. Assumes `Logic`.
-use Rattle.lhm_ring.proofs.memory.Steps.{◌≡◌, ℕ, ◌*◌, ◌<◌, ◌^◌, [], ◌∷◌, ◌++◌, refl, arith, length, Val}
-use Rattle.lhm_ring.proofs.memory.Steps.{SProp, ◌∵◌, ‵, raw, ◌⊛◌, ◌$◌, !, qed, by, move, keep}
-use Rattle.lhm_ring.proofs.memory.Steps.{use0, use1, use2, split, fsplit, fsplit3, fjoin, rewrite}
-use Rattle.lhm_ring.proofs.memory.Steps.{no_more, and_then, returns, alloc_all, pass_all, Logic, ent, sem}
-use Rattle.lhm_ring.proofs.memory.Steps.{free_all, look_at, get, sets, agg, tables, fact, yes, owns}
-use Rattle.lhm_ring.proofs.memory.Steps.{types_at, plain, Ptr, ptr_val, room_for, heard, Stays, Ura}
-use Rattle.lhm_ring.proofs.memory.Steps.{stay_dropped, walk_of, Goes-dropped, proved_at, leaves, RawPtr}
-use Rattle.lhm_ring.proofs.memory.Steps.{flt_l, flt_i, vstruct, vnil, all_spent, runs_with, states, param, RattleType}
-use contract.Monad.{Fun}
-use base.Logic.{apply∗}
-use denote.Laws.{Are, Ises}
-use denote.RawPtr.{rawptr_Lawful}
-use denote.Triple.Clauses.{Clauses}
-use denote.Triple.Entry.{alive}
-use prog.Memory.{Memory}
-use prog.Routine.{Routine}
-use prog.Wp.{Calls, Loops, WpFn}
-use Rattle.std.specs.Allocator.{array_of}
-use Rattle.std.specs.Vec.Ownership.{lodged, owns_if}
-use Rattle.std.specs.contracts.alloc.Global as heap
+use Rattle.lhm_ring.proofs.Names.{[], arith, length, refl, ℕ, ◌*◌, ◌++◌, ◌<◌, ◌^◌, ◌∷◌, ◌≡◌, behind, block_dealloc, block_heads, parts_own}
+use Rattle.lhm_ring.proofs.Names.{Goes-blank, leaves, proved_at, array_of, lodged, owns_if, is_live, SProp, apply∗, ent, Fun, fact, tables}
+use Rattle.lhm_ring.proofs.Names.{yes, param, RattleType, owns, Ptr, RawPtr, ptr_val, rawptr_Lawful, room_for, plain, types_at, heard}
+use Rattle.lhm_ring.proofs.Names.{Clauses, alive, Goes-dropped, Stays, stay_dropped, walk_of, Val, vnil, vstruct, Memory, Routine, Calls}
+use Rattle.lhm_ring.proofs.Names.{Loops, WpFn, Ura, alloc_all, free_all, get, look_at, pass_all, sets, !, by, fjoin, flt_i, flt_l, fsplit}
+use Rattle.lhm_ring.proofs.Names.{fsplit3, keep, move, qed, raw, rewrite, split, use0, use1, use2, ‵, ◌$◌, ◌∵◌, ◌⊛◌, Logic, sem, agg}
+use Rattle.lhm_ring.proofs.Names.{and_then, no_more, returns}
+use Rattle.lhm_ring.proofs.{bucket_block.join_block.Statement.statement, memory.NodeFields.marker}
+use Rattle.lhm_ring.proofs.memory.BlockValues.{BlockFields, BlockType, block_Good, block_made, block_val}
+use Rattle.lhm_ring.proofs.memory.ElementsOwned.{Owner, elements_known}
+use Rattle.lhm_ring.proofs.memory.{Lodging.none_had, Lodging.room_of_vector, Steps.all_spent, Steps.runs_with, Steps.states}
+use Rattle.lhm_ring.specs.contracts.bucket_block.{Dealloc.the_row as dealloc, Head.the_row as head, Word.the_row as word}
+use Rattle.lhm_ring.specs.contracts.bucket_block.join_block.{clauses, ended, Key.name as #self}
 use Rattle.std.specs.contracts.impls.GlobalAllocator.TheImpl.{ghosts}
-use Rattle.std.proofs.alloc.Calls.{Goes-blank}
-use Rattle.std_alloc.proofs.VecSteps.Opens.{is_live}
-use Rattle.lhm_ring.specs.contracts.bucket_block.Head.{the_row as head}
-use Rattle.lhm_ring.specs.contracts.bucket_block.Word.{the_row as word}
-use Rattle.lhm_ring.specs.contracts.bucket_block.Dealloc.{the_row as dealloc}
+use denote.Laws.{Are, Ises}
+use Rattle.std.specs.contracts.alloc.Global as heap
 use Rattle.lhm_ring.proofs.bucket_block.Head.TheLaws as head-laws
 use Rattle.lhm_ring.proofs.bucket_block.Word.TheLaws as word-laws
-use Rattle.lhm_ring.proofs.memory.BlockValues.{block_val, block_Good, BlockType, BlockFields, block_made}
-use Rattle.lhm_ring.proofs.memory.ElementsOwned.{Owner, elements_known}
-use Rattle.lhm_ring.proofs.memory.Lodging.{none_had, room_of_vector}
-use Rattle.lhm_ring.proofs.memory.NodeFields.{marker}
-use Rattle.lhm_ring.specs.BucketBlock.{behind, block_heads, block_dealloc, parts_own}
-use Rattle.lhm_ring.specs.contracts.bucket_block.join_block.{ended, clauses}
-use Rattle.lhm_ring.specs.contracts.bucket_block.join_block.Key.{name as #self}
-use Rattle.lhm_ring.proofs.bucket_block.join_block.Statement.{statement}
 use Rattle.lhm_ring.proofs.bucket_block.join_block.Code as code
 
 abbrev Block : RattleType

@@ -1,58 +1,29 @@
 -- `split_block` gives the memory of a block to two vectors. Assumes `Logic`.
-use Rattle.lhm_ring.proofs.memory.Steps.{◌≡◌, ℕ, ◌+◌, ◌*◌, ◌<◌, ◌^◌, [], ◌∷◌, ◌++◌, refl, sym, ap, ◌∙◌}
-use Rattle.lhm_ring.proofs.memory.Steps.{subst, arith, Val, vint, w64, SProp, ◌∵◌, ‵, raw, ◌⊛◌, at_ret}
-use Rattle.lhm_ring.proofs.memory.Steps.{◌$◌, !, qed, by, move, keep, use1, split, fsplit, fsplit3}
-use Rattle.lhm_ring.proofs.memory.Steps.{fjoin, rewrite, stop, fld, bin, of_opd, no_more, and_then}
-use Rattle.lhm_ring.proofs.memory.Steps.{first, blocks, exec, returns, alloc_all, pass_all, free_all}
-use Rattle.lhm_ring.proofs.memory.Steps.{look_at, get, get_in, sets, sets_last, is, env, sub, whole}
-use Rattle.lhm_ring.proofs.memory.Steps.{agg, tables, fact, usize, yes, owns, types_at, plain, Ptr}
-use Rattle.lhm_ring.proofs.memory.Steps.{block_ptr, ptr_val, room_for, heard, Stays, stay_dropped}
-use Rattle.lhm_ring.proofs.memory.Steps.{walk_of, Goes-dropped, after, proved_at, leaves, id⊢}
-use Rattle.lhm_ring.proofs.memory.Steps.{flt_l, flt_i, in_a_block, later, pick, await, some, given}
-use Rattle.lhm_ring.proofs.memory.Steps.{learn, framed, vstruct, vcons, vnil, all_spent, runs_with}
-use Rattle.lhm_ring.proofs.memory.Steps.{states, states_also, param, param_laws, layout, Fml}
-use Rattle.lhm_ring.proofs.memory.Steps.{RattleType, Laws, Ura, Logic, ent}
-use base.Fml.{fwand}
-use denote.Steps.{only}
-use denote.Struct.Struct.{as_fields}
-use denote.Triple.Call.{calls_at}
-use denote.Laws.{Are, Ises}
-use denote.Triple.Clauses.{Clauses}
-use denote.Triple.Entry.{alive}
-use denote.Triple.Statement.{Triple}
-use prog.Memory.{Memory}
-use prog.Routine.{Routine}
-use prog.Wp.{Calls, Loops, WpFn}
-use contract.Monad.{Fun}
-use sound.WpLaws.{FmC}
-use types.ByLocal.{lands_as}
-use types.Run.{lit}
-use Rattle.std.specs.Allocator.{array_of}
-use Rattle.std.specs.Vec.Ownership.{lodged, owns_if}
-use Rattle.std.specs.contracts.alloc.Global as heap
+use Rattle.lhm_ring.proofs.Names.{block_dealloc, block_heads, parts_own, chunk_token, Goes-blank, timeless_laws, Goes-dropped, stay_dropped}
+use Rattle.lhm_ring.proofs.Names.{behind, timeless, proved_at, array_of, RattleType, block_ptr, in_a_block, as_fields, alloc_all, sets_last}
+use Rattle.lhm_ring.proofs.Names.{ℕ, leaves, lodged, Lodged, tables, walk_of, vstruct, Routine, look_at, fsplit3, rewrite, no_more, returns}
+use Rattle.lhm_ring.proofs.Names.{[], sym, ◌*◌, ◌+◌, ◌-◌, ◌<◌, ◌^◌, ◌∙◌, ◌∷◌, ◌≡◌, ◌≤◌, Vec, Fml, ent, id⊢, Fun, yes, Ptr, use1, exec, stop}
+use Rattle.lhm_ring.proofs.Names.{owns_if, is_live, ptr_val, room_for, types_at, calls_at, Clauses, free_all, lands_as, pass_all, and_then}
+use Rattle.lhm_ring.proofs.Names.{arith, subst, after, fwand, SProp, usize, layout, framed, Memory, get_in, at_ret, fsplit, blocks, of_opd}
+use Rattle.lhm_ring.proofs.Names.{refl, ◌++◌, fact, owns, only, vint, vnil, WpFn, sets, keep, move, pick, some, split, Logic, whole, first}
+use Rattle.lhm_ring.proofs.Names.{param, plain, heard, alive, Stays, vcons, Calls, Loops, await, fjoin, flt_i, flt_l, given, later, learn}
+use Rattle.lhm_ring.proofs.Names.{ap, w64, Val, Ura, env, get, is, !, by, qed, raw, ‵, ◌$◌, ◌∵◌, ◌⊛◌, agg, sub, bin, fld, lit}
+use Rattle.lhm_ring.proofs.bucket_block.split_block.Statement.{statement}
+use Rattle.lhm_ring.proofs.indexes.BlockSizes.{block_heads-enough, block_heads-roomy}
+use Rattle.lhm_ring.proofs.memory.BlockValues.{BlockType, block_Good, block_known, block_val}
+use Rattle.lhm_ring.proofs.memory.BucketParts.{block_parts, head₀, head₀-laws, word₀, word₀-laws}
+use Rattle.lhm_ring.proofs.memory.Lodging.{IsLodged, Lodges, Lodging, at_lodge, lodge_gives, lodge_goes, lodge_key, lodging_laws, none_made}
+use Rattle.lhm_ring.proofs.memory.Lodging.{row_of_room, tells, three_made}
+use Rattle.lhm_ring.proofs.memory.Steps.{all_spent, runs_with, states, states_also}
+use Rattle.lhm_ring.specs.contracts.bucket_block.{Dealloc.the_row as dealloc, Head.the_row as head, Word.the_row as word}
+use Rattle.lhm_ring.specs.contracts.bucket_block.split_block.{clauses, ended, Key.name as #self}
 use Rattle.std.specs.contracts.impls.GlobalAllocator.TheImpl.{ghosts}
-use Rattle.std.proofs.alloc.Calls.{Goes-blank}
-use Rattle.std.proofs.mem.Timeless.{timeless, timeless_laws}
-use Rattle.std_alloc.proofs.VecSteps.Opens.{is_live}
+use denote.{Laws.Are, Laws.Ises, Triple.Statement.Triple, Param.Laws.Laws, Param.Laws.param_laws}
+use sound.WpLaws.{FmC}
+use Rattle.std.specs.contracts.alloc.Global as heap
 use Rattle.std_alloc.proofs.vec.lodge.Met as lodge_met
-use Rattle.std_alloc.specs.declared.vec.Vec.{Vec}
-use Rattle.std_alloc.specs.declared.vec.lodged.Lodged.{Lodged}
-use Rattle.lhm_ring.specs.contracts.bucket_block.Head.{the_row as head}
-use Rattle.lhm_ring.specs.contracts.bucket_block.Word.{the_row as word}
-use Rattle.lhm_ring.specs.contracts.bucket_block.Dealloc.{the_row as dealloc}
 use Rattle.lhm_ring.proofs.bucket_block.Head.TheLaws as head-laws
 use Rattle.lhm_ring.proofs.bucket_block.Word.TheLaws as word-laws
-use Rattle.lhm_ring.proofs.memory.BlockValues.{block_val, block_Good, BlockType, block_known}
-use Rattle.lhm_ring.proofs.memory.BucketParts.{block_parts, head₀, word₀, head₀-laws, word₀-laws}
-use Rattle.lhm_ring.proofs.memory.Lodging.{Lodging, lodging_laws, tells, none_made, three_made, row_of_room}
-use Rattle.lhm_ring.proofs.memory.Lodging.{lodge_key, Lodges, at_lodge, IsLodged, lodge_goes, lodge_gives}
-use Rattle.lhm_ring.specs.BucketBlock.{behind, block_heads, block_dealloc, parts_own}
-use Rattle.lhm_ring.specs.Nodes.{chunk_token}
-use Rattle.std.proofs.Common.{◌≤◌, ◌-◌}
-use Rattle.lhm_ring.proofs.indexes.BlockSizes.{block_heads-enough, block_heads-roomy}
-use Rattle.lhm_ring.specs.contracts.bucket_block.split_block.{ended, clauses}
-use Rattle.lhm_ring.specs.contracts.bucket_block.split_block.Key.{name as #self}
-use Rattle.lhm_ring.proofs.bucket_block.split_block.Statement.{statement}
 use Rattle.lhm_ring.proofs.bucket_block.split_block.Code as code
 
 abbrev Block : RattleType

@@ -1,5 +1,4 @@
-use Rattle.std.proofs.Common.{◌≡◌, ◌-◌, vec_len}
-use Rattle.std.specs.Vec.{vec_capacity, vec_ptr}
+use Rattle.lhm_ring.proofs.Names.{vec_len, ◌-◌, ◌≡◌, vec_capacity, vec_ptr}
 use Rattle.lhm_ring.proofs.bucket_parts.clear_words.Given as goal
 
 abbrev pub invariant-words : goal.invariant-words

@@ -1,8 +1,6 @@
-use Rattle.std.proofs.Common.{◌≡◌, ◌∙◌, ℕ, List, arith, get_or, map, None, sym, subst}
-use Rattle.lhm_ring.specs.declared.bucket_block.Head.{Head}
+use Rattle.lhm_ring.proofs.Names.{List, None, arith, get_or, map, subst, sym, ℕ, ◌∙◌, ◌≡◌, leads_to, Head}
 use Rattle.lhm_ring.proofs.indexes.BucketHeads.{get_or-pushed}
 use Rattle.lhm_ring.proofs.bucket_parts.fill_heads.Goals as goal
-use Rattle.lhm_ring.specs.Buckets.{leads_to}
 
 pub heads-preserved : goal.heads-preserved
 heads-preserved c = record {

@@ -1,7 +1,5 @@
-use Rattle.std.proofs.Common.{◌≡◌, ℕ, ◌≤◌, ◌-◌, get_or, map, None, vec_len}
-use Rattle.std.specs.Vec.{vec_capacity, vec_ptr}
+use Rattle.lhm_ring.proofs.Names.{None, get_or, map, vec_len, ℕ, ◌-◌, ◌≡◌, ◌≤◌, leads_to, vec_capacity, vec_ptr}
 use Rattle.lhm_ring.proofs.bucket_parts.fill_heads.Given as goal
-use Rattle.lhm_ring.specs.Buckets.{leads_to}
 
 abbrev pub invariant-heads : goal.invariant-heads
 invariant-heads l = record {

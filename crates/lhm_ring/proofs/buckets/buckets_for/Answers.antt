@@ -1,7 +1,6 @@
-use Rattle.std.proofs.Common.{ap, sym, ◌∙◌, arith}
+use Rattle.lhm_ring.proofs.Names.{ap, arith, sym, ◌∙◌, buckets}
 use Rattle.lhm_ring.proofs.indexes.BucketCounts.{buckets-least_power, buckets-zero}
 use Rattle.lhm_ring.proofs.buckets.buckets_for.Goals as goal
-use Rattle.lhm_ring.specs.Buckets.{buckets}
 
 pub returns-then-capacity-eq0-clause-value : goal.returns-then-capacity-eq0-clause-value
 returns-then-capacity-eq0-clause-value c = sym buckets-zero ∙ ap buckets (sym c.if-capacity-eq0.true)

@@ -1,4 +1,4 @@
-use Rattle.std.proofs.Common.{◌+◌, ◌*◌, ◌<◌, ◌^◌, arith, leb→le, subst, sym, T}
+use Rattle.lhm_ring.proofs.Names.{T, arith, leb→le, subst, sym, ◌*◌, ◌+◌, ◌<◌, ◌^◌}
 use Rattle.lhm_ring.proofs.memory.ChunkSizes.{AreSizes-measured}
 use Rattle.lhm_ring.proofs.chunks.fits.Goals as goal
 

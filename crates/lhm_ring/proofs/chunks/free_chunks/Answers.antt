@@ -1,5 +1,5 @@
-use Rattle.std.proofs.Common.{◌∙◌, sym, ap, arith, length}
-use Rattle.lhm_ring.proofs.memory.Places.{IsChain-comparable, IsChain-null, IsChain-first, IsChain-rest}
+use Rattle.lhm_ring.proofs.Names.{ap, arith, length, sym, ◌∙◌}
+use Rattle.lhm_ring.proofs.memory.Places.{IsChain-comparable, IsChain-first, IsChain-null, IsChain-rest}
 use Rattle.lhm_ring.proofs.chunks.free_chunks.Goals as goal
 
 pub is_null-requires : goal.is_null-requires

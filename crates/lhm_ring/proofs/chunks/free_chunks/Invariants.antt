@@ -1,6 +1,6 @@
-use Rattle.std.proofs.Common.{◌≡◌, [], length}
-use Rattle.lhm_ring.proofs.chunks.free_chunks.Given as goal
+use Rattle.lhm_ring.proofs.Names.{[], length, ◌≡◌}
 use Rattle.lhm_ring.specs.Links.{IsChain}
+use Rattle.lhm_ring.proofs.chunks.free_chunks.Given as goal
 
 abbrev pub invariant-each : goal.invariant-each
 invariant-each g l = record {

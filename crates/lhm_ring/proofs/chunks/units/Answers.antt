@@ -1,4 +1,4 @@
-use Rattle.std.proofs.Common.{arith}
+use Rattle.lhm_ring.proofs.Names.{arith}
 use Rattle.lhm_ring.proofs.memory.ChunkSizes.{all-units, few-units}
 use Rattle.lhm_ring.proofs.chunks.units.Goals as goal
 

@@ -1,9 +1,7 @@
-use Rattle.std.proofs.Common.{◌∙◌, ◌-◌, Some, sym, subst, arith}
-use Rattle.lhm_ring.proofs.memory.BlockPointers.{is_block-links_at}
-use Rattle.lhm_ring.proofs.rings.Writes.{IsAt-there}
-use Rattle.lhm_ring.proofs.rings.SpareRows.{is_there-row, HasRow-next, SparesRow-step, SparesRow-done}
+use Rattle.lhm_ring.proofs.Names.{Some, arith, subst, sym, ◌-◌, ◌∙◌, HasRow, SparesRow}
+use Rattle.lhm_ring.proofs.{memory.BlockPointers.is_block-links_at, rings.Writes.IsAt-there}
+use Rattle.lhm_ring.proofs.rings.SpareRows.{HasRow-next, SparesRow-done, SparesRow-step, is_there-row}
 use Rattle.lhm_ring.proofs.drain.spare_row.Goals as goal
-use Rattle.lhm_ring.specs.Drain.{HasRow, SparesRow}
 
 pub links-requires : goal.links-requires
 links-requires g c = IsAt-there _ _ (is_there-row c.row-test.true c.row.invariant.row)

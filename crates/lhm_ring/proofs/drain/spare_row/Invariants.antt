@@ -1,10 +1,5 @@
-use Rattle.std.proofs.Common.{◌≡◌, List, Option}
-use denote.RawPtr.{Ptr}
-use Rattle.lhm_ring.specs.declared.ring.Links.{Links}
+use Rattle.lhm_ring.proofs.Names.{List, Option, ◌≡◌, HasRow, SparesRow, Cell, target, Links, Ptr}
 use Rattle.lhm_ring.proofs.drain.spare_row.Given as goal
-use Rattle.lhm_ring.specs.Nodes.{Cell}
-use Rattle.lhm_ring.specs.Drain.{HasRow, SparesRow}
-use Rattle.lhm_ring.specs.Pointer.{target}
 
 abbrev pub invariant-row : goal.invariant-row
 invariant-row g l = record {

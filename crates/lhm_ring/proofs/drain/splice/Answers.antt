@@ -1,11 +1,8 @@
-use Rattle.std.proofs.Common.{◌∙◌, ap, sym, subst}
-use denote.RawPtr.{Ptr}
-use Rattle.lhm_ring.proofs.rings.RingCells.{is_there-nowhere, next_at-null, prev_at-null, led_to-none, IsJoined-same}
+use Rattle.lhm_ring.proofs.Names.{ap, subst, sym, ◌∙◌, IsSpan, span_triples, triples, Ptr}
+use Rattle.lhm_ring.proofs.rings.RingCells.{IsJoined-same, is_there-nowhere, led_to-none, next_at-null, prev_at-null}
 use Rattle.lhm_ring.proofs.rings.RingSpans.{IsSpan-in_nodes, listed-span}
 use Rattle.lhm_ring.proofs.rings.Splicing.{HasRow-ring, IsOwned-spliced, IsSpan-spliced, span_triples-spliced}
 use Rattle.lhm_ring.proofs.drain.splice.Goals as goal
-use Rattle.lhm_ring.specs.Links.{span_triples, IsSpan}
-use Rattle.lhm_ring.specs.Ring.{triples}
 
 pub spare_row-spare-requires : goal.spare_row-spare-requires
 spare_row-spare-requires g c = let a = c.args in HasRow-ring a.ends.now a.nodes.now.cells c.requires.1 c.address-first.ensures

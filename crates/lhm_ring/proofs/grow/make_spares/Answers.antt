@@ -1,9 +1,6 @@
-use Rattle.std.proofs.Common.{ℕ, ◌≡◌, ◌∙◌, ◌+◌, ◌-◌, ◌<◌, ◌^◌, ap, sym, refl, subst, arith}
-use Rattle.lhm_ring.proofs.memory.Places.{row-none, row-less}
-use Rattle.lhm_ring.proofs.rings.Stacking.{IsStacked-none, IsStacked-push}
+use Rattle.lhm_ring.proofs.Names.{ap, arith, refl, subst, sym, ℕ, ◌+◌, ◌-◌, ◌<◌, ◌^◌, ◌∙◌, ◌≡◌, IsStacked, row}
+use Rattle.lhm_ring.proofs.{memory.Places.row-less, memory.Places.row-none, rings.Stacking.IsStacked-none, rings.Stacking.IsStacked-push}
 use Rattle.lhm_ring.proofs.grow.make_spares.Goals as goal
-use Rattle.lhm_ring.specs.Nodes.{row}
-use Rattle.lhm_ring.specs.Links.{IsStacked}
 
 pub each-init : goal.each-init
 each-init g c =

@@ -1,7 +1,5 @@
-use Rattle.std.proofs.Common.{◌-◌, ◌≡◌, ◌≤◌, ◌<◌, ◌^◌}
+use Rattle.lhm_ring.proofs.Names.{◌-◌, ◌<◌, ◌^◌, ◌≡◌, ◌≤◌, IsStacked, row}
 use Rattle.lhm_ring.proofs.grow.make_spares.Given as goal
-use Rattle.lhm_ring.specs.Nodes.{row}
-use Rattle.lhm_ring.specs.Links.{IsStacked}
 
 abbrev pub invariant-each : goal.invariant-each
 invariant-each g l = record {

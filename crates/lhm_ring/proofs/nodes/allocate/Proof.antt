@@ -1,47 +1,24 @@
 -- `allocate` asks for a block of many values. Assumes `Logic`.
-use Rattle.lhm_ring.proofs.memory.Steps.{◌≡◌, ℕ, ◌*◌, ◌<◌, ◌^◌, true, [], ◌∷◌, refl, ap, ◌∙◌, T}
-use Rattle.lhm_ring.proofs.memory.Steps.{Val, vptr, vint, w64, inst_fn, SProp, flft, size-raw, ◌∵◌}
-use Rattle.lhm_ring.proofs.memory.Steps.{‵, raw, ◌⊛◌, at_ret, ◌$◌, !, qed, by, move, keep, use0}
-use Rattle.lhm_ring.proofs.memory.Steps.{use1, use2, split, join, fsplit, fjoin, stop, fld, bin}
-use Rattle.lhm_ring.proofs.memory.Steps.{size_lit, of_opd, no_more, and_then, first, exec, returns}
-use Rattle.lhm_ring.proofs.memory.Steps.{alloc_all, pass_all, free_all, look_at, get, get_in, sets}
-use Rattle.lhm_ring.proofs.memory.Steps.{sets_last, env, whole, agg, tables, fact, usize, yes, owns}
-use Rattle.lhm_ring.proofs.memory.Steps.{layout, types_at, plain, Ptr, block_ptr, heard, Stays}
-use Rattle.lhm_ring.proofs.memory.Steps.{stay_dropped, walk_of, Goes-dropped, after, leaves}
-use Rattle.lhm_ring.proofs.memory.Steps.{ty_array, flt_i, RattleType, one_below, fjoin3, named}
-use Rattle.lhm_ring.proofs.memory.Steps.{vstruct, vcons, vnil, Lft, Incl-trans, later, await, ◌⊑◌}
-use Rattle.lhm_ring.proofs.memory.Steps.{enter, Ty, capped, capped_fits, RefOf, framed, false}
-use Rattle.lhm_ring.proofs.memory.Steps.{has_ty, WT, Is, Struct, states, tokens, all_spent}
-use Rattle.std.proofs.Common.{lit<}
-use mir.Syntax.{Body}
-use mir.Raw.{raw as bare}
-use base.Fml.{Share}
-use prog.Memory.{align}
-use prog.Capped.{capped_is}
-use prog.RawLaws.{align-raw}
-use prog.Wp.{Wp, after_seq, at_return}
-use types.Kit.{any_q}
-use types.Match.{live, vrt, in_variant}
-use types.Run.{lit, align_word, switches_on}
-use types.ByLocal.{get_tag, lands_as}
-use denote.Plain.{uint_vals, uint_Tells}
-use denote.Ref.{shr_vals, shr_Tells}
-use denote.Steps.{owned}
-use denote.Struct.Struct.{Struct-Makes}
+use Rattle.lhm_ring.proofs.Names.{T, [], ap, false, lit<, refl, true, ℕ, ◌*◌, ◌<◌, ◌^◌, ◌∙◌, ◌∷◌, ◌≡◌, Err, Ok, El, P, R, args, elτ, sz}
+use Rattle.lhm_ring.proofs.Names.{wider, after, arm_body, head, Answer-typed, Answered, Takes, Takes-gives, Takes-goes, answers, at_takes}
+use Rattle.lhm_ring.proofs.Names.{one_below, leaves, proved, Incl-trans, Lft, Share, flft, SProp, ◌⊑◌, fact, tables, RefOf, usize, yes}
+use Rattle.lhm_ring.proofs.Names.{layout, RattleType, owns, Ptr, block_ptr, shr_Tells, shr_vals, plain, types_at, heard, owned, Struct}
+use Rattle.lhm_ring.proofs.Names.{Struct-Makes, calls_at, framed, Goes-dropped, Stays, stay_dropped, walk_of, inst_fn, Ty, named, ty_array}
+use Rattle.lhm_ring.proofs.Names.{w64, Val, WT, has_ty, vcons, vint, vnil, vptr, vstruct, capped_fits, capped_is, align, capped, align-raw}
+use Rattle.lhm_ring.proofs.Names.{size-raw, Wp, after_seq, at_return, alloc_all, env, free_all, get, get_in, get_tag, lands_as, look_at}
+use Rattle.lhm_ring.proofs.Names.{pass_all, sets, sets_last, !, any_q, at_ret, await, by, fjoin, fjoin3, flt_i, fsplit, join, keep, later}
+use Rattle.lhm_ring.proofs.Names.{move, qed, raw, split, use0, use1, use2, ‵, ◌$◌, ◌∵◌, ◌⊛◌, agg, whole, align_word, and_then, bin, enter}
+use Rattle.lhm_ring.proofs.Names.{exec, first, fld, lit, no_more, of_opd, returns, size_lit, stop, switches_on}
+use Rattle.lhm_ring.proofs.memory.BlockValues.{BlockFields, BlockType, block_Good, block_made, block_val}
+use Rattle.lhm_ring.proofs.{memory.Steps.all_spent, memory.Steps.states, memory.Steps.tokens, nodes.allocate.Statement.statement}
+use Rattle.lhm_ring.specs.contracts.nodes.allocate.{clauses, ended, Key.name as #self}
+use Rattle.std.proofs.ResultValues.{err_of, ok_of}
+use denote.{Laws.Is, Plain.uint_Tells, Plain.uint_vals}
+use mir.{Raw.raw as bare, Syntax.Body}
+use types.Match.{in_variant, live, vrt}
 use denote.Struct.Declared as Declared
-use denote.Triple.Call.{calls_at}
-use Rattle.std.specs.Prelude.{Ok, Err}
 use Rattle.std.specs.contracts.result.Result as RS
 use Rattle.std.specs.contracts.alloc.AllocError as AE
-use Rattle.std.proofs.alloc.Calls.{Answer-typed, Takes, at_takes, Answered, Takes-goes, Takes-gives, answers}
-use Rattle.std.proofs.ResultValues.{ok_of, err_of}
-use Rattle.std.proofs.VecSteps.El.{El, R, P, args, elτ, sz, wider}
-use Rattle.std.proofs.VecSteps.Shapes.{head, arm_body}
-use Rattle.std.proofs.raw_atomic.Walks.{proved}
-use Rattle.lhm_ring.proofs.memory.BlockValues.{block_val, block_Good, BlockType, BlockFields, block_made}
-use Rattle.lhm_ring.specs.contracts.nodes.allocate.{ended, clauses}
-use Rattle.lhm_ring.specs.contracts.nodes.allocate.Key.{name as #self}
-use Rattle.lhm_ring.proofs.nodes.allocate.Statement.{statement}
 use Rattle.lhm_ring.proofs.nodes.allocate.Code as code
 
 pub allocate_spec : {M : Type 1} → statement M

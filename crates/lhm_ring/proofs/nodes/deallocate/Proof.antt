@@ -1,34 +1,17 @@
 -- `deallocate` gives a block back whose places are all joined. Assumes `Logic`.
-use Rattle.lhm_ring.proofs.memory.Steps.{◌≡◌, ℕ, ◌*◌, ◌<◌, ◌^◌, List, [], ◌∷◌, ◌++◌, refl, sym, ap}
-use Rattle.lhm_ring.proofs.memory.Steps.{◌∙◌, subst, T, Val, vptr, vint, w64, inst_fn, SProp, flft}
-use Rattle.lhm_ring.proofs.memory.Steps.{size-raw, ◌∵◌, ‵, raw, ◌⊛◌, at_ret, ◌$◌, !, qed, by, move}
-use Rattle.lhm_ring.proofs.memory.Steps.{keep, use0, use1, split, join, fsplit, fsplit3, rewrite}
-use Rattle.lhm_ring.proofs.memory.Steps.{feq_i, stop, fld, bin, size_lit, of_opd, no_more, and_then}
-use Rattle.lhm_ring.proofs.memory.Steps.{first, blocks, exec, returns, alloc_all, pass_all}
-use Rattle.lhm_ring.proofs.memory.Steps.{free_all, look_at, get, get_in, sets, is, env, sub, whole}
-use Rattle.lhm_ring.proofs.memory.Steps.{tables, fact, usize, yes, no, owns, types_at, plain, Ptr}
-use Rattle.lhm_ring.proofs.memory.Steps.{ptr_val, room_for, heard, Stays, stay_dropped, walk_of}
-use Rattle.lhm_ring.proofs.memory.Steps.{Goes-dropped, after, proved_at, leaves, id⊢, ty_array}
-use Rattle.lhm_ring.proofs.memory.Steps.{froom, flt_l, in_a_block, one_below, emp, vunit, unit_lit}
-use Rattle.lhm_ring.proofs.memory.Steps.{Lft, Incl-trans, later, await, group, ◌⊑◌, given, learn}
-use Rattle.lhm_ring.proofs.memory.Steps.{Ty, capped, capped_fits, RefOf, framed, has_ty, WT, tokens}
-use Rattle.lhm_ring.proofs.memory.Steps.{all_spent, runs_with}
-use mir.Syntax.{ty_unit}
+use Rattle.lhm_ring.proofs.Names.{List, T, [], ap, refl, subst, sym, ℕ, ◌*◌, ◌++◌, ◌<◌, ◌^◌, ◌∙◌, ◌∷◌, ◌≡◌, El, P, R, args, elτ, sz, wider}
+use Rattle.lhm_ring.proofs.Names.{after, Gives, Gives-Gives, Gives-goes, Goes-blank, at_gives, one_below, leaves, proved_at, array_of}
+use Rattle.lhm_ring.proofs.Names.{Incl-trans, Lft, Share, flft, froom, SProp, emp, id⊢, ◌⊑◌, fact, tables, RefOf, usize, no, yes, owns, Ptr}
+use Rattle.lhm_ring.proofs.Names.{in_a_block, ptr_val, room_for, plain, types_at, heard, calls_at_last, framed, Goes-dropped, Stays}
+use Rattle.lhm_ring.proofs.Names.{stay_dropped, walk_of, inst_fn, Ty, ty_array, ty_unit, w64, Val, WT, has_ty, vint, vptr, vunit}
+use Rattle.lhm_ring.proofs.Names.{capped_fits, capped_is, align, capped, align-raw, size-raw, alloc_all, env, free_all, get, get_in, is}
+use Rattle.lhm_ring.proofs.Names.{lands_last, look_at, pass_all, sets, !, at_ret, await, by, feq_i, flt_l, fsplit, fsplit3, given, group}
+use Rattle.lhm_ring.proofs.Names.{join, keep, later, learn, move, qed, raw, rewrite, split, use0, use1, ‵, ◌$◌, ◌∵◌, ◌⊛◌, sub, whole}
+use Rattle.lhm_ring.proofs.Names.{align_word, and_then, bin, blocks, exec, first, fld, no_more, of_opd, returns, size_lit, stop, unit_lit}
+use Rattle.lhm_ring.proofs.memory.BlockValues.{BlockType, block_Good, block_known, block_val}
+use Rattle.lhm_ring.proofs.{memory.Steps.all_spent, memory.Steps.runs_with, memory.Steps.tokens, nodes.deallocate.Statement.statement}
+use Rattle.lhm_ring.specs.contracts.nodes.deallocate.{clauses, ended, Key.name as #self}
 use mir.Raw.{raw as bare}
-use base.Fml.{Share}
-use prog.Memory.{align}
-use prog.Capped.{capped_is}
-use prog.RawLaws.{align-raw}
-use types.Run.{align_word}
-use types.ByLocal.{lands_last}
-use denote.Triple.Call.{calls_at_last}
-use Rattle.std.specs.Allocator.{array_of}
-use Rattle.std.proofs.alloc.Calls.{Gives, at_gives, Gives-goes, Gives-Gives, Goes-blank}
-use Rattle.std.proofs.VecSteps.El.{El, R, P, args, elτ, sz, wider}
-use Rattle.lhm_ring.proofs.memory.BlockValues.{block_val, block_Good, BlockType, block_known}
-use Rattle.lhm_ring.specs.contracts.nodes.deallocate.{ended, clauses}
-use Rattle.lhm_ring.specs.contracts.nodes.deallocate.Key.{name as #self}
-use Rattle.lhm_ring.proofs.nodes.deallocate.Statement.{statement}
 use Rattle.lhm_ring.proofs.nodes.deallocate.Code as code
 
 pub deallocate_spec : {M : Type 1} → statement M

@@ -1,14 +1,10 @@
 -- `size` reads the size of a type. Assumes `Logic`.
-use Rattle.lhm_ring.proofs.memory.Steps.{◌≡◌, ℕ, ◌^◌, List, [], ◌∷◌, refl, Val, vint, w64, inst_fn}
-use Rattle.lhm_ring.proofs.memory.Steps.{SProp, ftrue, flft, size, ◌∵◌, ‵, raw, ◌⊛◌, ◌$◌, !, qed}
-use Rattle.lhm_ring.proofs.memory.Steps.{by, keep, split, fjoin, feq_i, of_opd, returns, alloc_all}
-use Rattle.lhm_ring.proofs.memory.Steps.{pass_all, free_all, look_at, sets, tables, layout, Stays}
-use Rattle.lhm_ring.proofs.memory.Steps.{walk_of, proved_at, leaves, flt_i, nothing, enter, capped}
-use Rattle.lhm_ring.proofs.memory.Steps.{capped_fits, Args, a_type, layouts, states}
-use types.Run.{size_word}
-use Rattle.lhm_ring.specs.contracts.nodes.size.{ended, clauses}
-use Rattle.lhm_ring.specs.contracts.nodes.size.Key.{name as #self}
-use Rattle.lhm_ring.proofs.nodes.size.Statement.{statement}
+use Rattle.lhm_ring.proofs.Names.{List, [], refl, ℕ, ◌^◌, ◌∷◌, ◌≡◌, leaves, proved_at, flft, ftrue, SProp, tables, layout, layouts, nothing}
+use Rattle.lhm_ring.proofs.Names.{Stays, walk_of, inst_fn, Args, a_type, w64, Val, vint, capped_fits, capped, size, alloc_all, free_all}
+use Rattle.lhm_ring.proofs.Names.{look_at, pass_all, sets, !, by, feq_i, fjoin, flt_i, keep, qed, raw, split, ‵, ◌$◌, ◌∵◌, ◌⊛◌, enter}
+use Rattle.lhm_ring.proofs.Names.{of_opd, returns, size_word}
+use Rattle.lhm_ring.proofs.{memory.Steps.states, nodes.size.Statement.statement}
+use Rattle.lhm_ring.specs.contracts.nodes.size.{clauses, ended, Key.name as #self}
 use Rattle.lhm_ring.proofs.nodes.size.Code as code
 
 pub size_spec : {M : Type 1} → statement M

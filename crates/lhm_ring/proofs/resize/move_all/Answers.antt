@@ -1,7 +1,6 @@
-use Rattle.std.proofs.Common.{ℕ, ◌∙◌, ◌++◌, ◌∷◌, [], length, ap, sym, refl, arith, append_assoc}
+use Rattle.lhm_ring.proofs.Names.{[], ap, append_assoc, arith, length, refl, sym, ℕ, ◌++◌, ◌∙◌, ◌∷◌, triples}
 use Rattle.lhm_ring.proofs.rings.Ends.{First-first_at, first_held, length-removed, triples-first, triples-pushed}
 use Rattle.lhm_ring.proofs.resize.move_all.Goals as goal
-use Rattle.lhm_ring.specs.Ring.{triples}
 
 pub unlink-hash-requires : goal.unlink-hash-requires
 unlink-hash-requires g c = first_held (First-first_at c.each.from.held c.in-Some.ensures refl)

@@ -1,6 +1,5 @@
-use Rattle.std.proofs.Common.{◌≡◌, ◌+◌, ◌++◌, length}
+use Rattle.lhm_ring.proofs.Names.{length, ◌++◌, ◌+◌, ◌≡◌, triples}
 use Rattle.lhm_ring.proofs.resize.move_all.Given as goal
-use Rattle.lhm_ring.specs.Ring.{triples}
 
 abbrev pub invariant-each : goal.invariant-each
 invariant-each g l = record {

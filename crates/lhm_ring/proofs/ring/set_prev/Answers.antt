@@ -1,9 +1,7 @@
-use Rattle.std.proofs.Common.{sym, subst, refl}
-use Rattle.lhm_ring.proofs.rings.RingCells.{IsAt-in_nodes, led_to-some, led_to-none, with_links-node, with_links-end}
+use Rattle.lhm_ring.proofs.Names.{refl, subst, sym, LeadsBack, leading_back, ring_cells, IsAt}
+use Rattle.lhm_ring.proofs.rings.RingCells.{IsAt-in_nodes, led_to-none, led_to-some, with_links-end, with_links-node}
 use Rattle.lhm_ring.proofs.rings.Writes.{IsAt-there}
 use Rattle.lhm_ring.proofs.ring.set_prev.Goals as goal
-use Rattle.lhm_ring.specs.Nodes.{IsAt}
-use Rattle.lhm_ring.specs.Links.{ring_cells, leading_back, LeadsBack}
 
 pub links-links-requires : goal.links-links-requires
 links-links-requires g c =

@@ -1,6 +1,5 @@
-use Rattle.std.proofs.Common.{inl}
-use Rattle.linked_hash_map.proofs.runs.Effects.{Defines-remove_all}
-use Rattle.linked_hash_map.proofs.runs.Steps.{Serves-keeps}
+use Rattle.linked_hash_map.proofs.Names.{inl}
+use Rattle.linked_hash_map.proofs.runs.{Effects.Defines-remove_all, Steps.Serves-keeps}
 use Rattle.linked_hash_map.proofs.replay.clear.Goals as goal
 
 pub returns : goal.returns

@@ -1,9 +1,6 @@
-use Rattle.std.proofs.Common.{◌≡◌, ◌<◌, ◌++◌, ◌∷◌, [], length, refl, sym, ap, ◌∙◌, true≢false, arith, length-append, inl}
-use Rattle.std.proofs.Math.Nat.{pos_of_ne-zero}
-use Rattle.std.proofs.lemmas.List.{append-nil, append_assoc}
-use Rattle.linked_hash_map.specs.Drains.{drain_rest}
-use Rattle.linked_hash_map.proofs.runs.Effects.{size-contents, Defines-remove_all}
-use Rattle.linked_hash_map.proofs.runs.Steps.{Serves-keeps, Serves-unchanged}
+use Rattle.linked_hash_map.proofs.Names.{[], ap, append-nil, append_assoc, arith, inl, length, length-append, refl, sym, true≢false, ◌++◌}
+use Rattle.linked_hash_map.proofs.Names.{◌<◌, ◌∙◌, ◌∷◌, ◌≡◌, drain_rest, pos_of_ne-zero}
+use Rattle.linked_hash_map.proofs.runs.{Effects.Defines-remove_all, Effects.size-contents, Steps.Serves-keeps, Steps.Serves-unchanged}
 use Rattle.linked_hash_map.proofs.replay.drain.Goals as goal
 
 pub returns-in_default : goal.returns-in_default

@@ -1,5 +1,4 @@
-use Rattle.std.proofs.Common.{◌≡◌, ◌++◌, ◌≤◌, length, vec_capacity}
-use Rattle.linked_hash_map.specs.Drains.{drain_rest}
+use Rattle.linked_hash_map.proofs.Names.{length, vec_capacity, ◌++◌, ◌≡◌, ◌≤◌, drain_rest}
 use Rattle.linked_hash_map.proofs.replay.drain.Given as goal
 
 -- the pairs so far and those to come are the map's

@@ -1,17 +1,9 @@
-use Rattle.std.proofs.Common.{rules, ◌≡◌, ◌+◌, ◌++◌, ◌∷◌, [], max, length, cond, refl, sym, ap, ◌∙◌, arith}
-use Rattle.std.proofs.Common.{length-append, Some, inl, inr, subst, ◌≤◌}
-use Rattle.linked_hash_map.specs.Cursor.{to_visit}
-use Rattle.linked_hash_map.specs.Changes.{pushed}
-use Rattle.linked_hash_map.specs.Pairs.{key_or, find, put}
-use Rattle.linked_hash_map.specs.Entry.{occupied_key}
-use Rattle.linked_hash_map.proofs.log.LiveKeys.{none_is}
-use Rattle.linked_hash_map.proofs.pairs.Inserts.{length-put_most}
-use Rattle.linked_hash_map.specs.Counts.{rechained_raised}
-use Rattle.linked_hash_map.proofs.pairs.Calls.{length-put, put-absent}
-use Rattle.linked_hash_map.proofs.log.ActsAs.{put-ActsAs}
-use Rattle.linked_hash_map.proofs.runs.Effects.{IsFull-contents, IsAbsent-found, HasValue-value, Defines-put}
-use Rattle.linked_hash_map.proofs.runs.Steps.{Serves-same, Serves-unchanged}
+use Rattle.linked_hash_map.proofs.Names.{Some, [], ap, arith, cond, inl, inr, length, length-append, max, refl, rules, subst, sym, ◌++◌}
+use Rattle.linked_hash_map.proofs.Names.{◌+◌, ◌∙◌, ◌∷◌, ◌≡◌, ◌≤◌, pushed, rechained_raised, to_visit, occupied_key, find, key_or, put}
+use Rattle.linked_hash_map.proofs.{log.ActsAs.put-ActsAs, log.LiveKeys.none_is, runs.Steps.Serves-same, runs.Steps.Serves-unchanged}
+use Rattle.linked_hash_map.proofs.pairs.{Calls.length-put, Calls.put-absent, Inserts.length-put_most}
 use Rattle.linked_hash_map.proofs.pairs.RehashCounts.{rechained_each-insert, rechained_each-same}
+use Rattle.linked_hash_map.proofs.runs.Effects.{Defines-put, HasValue-value, IsAbsent-found, IsFull-contents}
 use Rattle.linked_hash_map.proofs.replay.entry_insert.Goals as goal
 
 pub returns-in-Occupied : goal.returns-in-Occupied

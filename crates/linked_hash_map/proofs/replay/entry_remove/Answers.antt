@@ -1,9 +1,6 @@
-use Rattle.std.proofs.Common.{rules, refl, sym, ap, ◌∙◌, Some, inl}
-use Rattle.linked_hash_map.specs.Cursor.{to_visit}
-use Rattle.linked_hash_map.specs.Pairs.{without}
-use Rattle.linked_hash_map.specs.Entry.{occupied_key}
-use Rattle.linked_hash_map.proofs.runs.Effects.{IsAbsent-value, HasValue-value, Defines-remove}
-use Rattle.linked_hash_map.proofs.runs.Steps.{Serves-same, Serves-keeps, Serves-unchanged}
+use Rattle.linked_hash_map.proofs.Names.{Some, ap, inl, refl, rules, sym, ◌∙◌, to_visit, occupied_key, without}
+use Rattle.linked_hash_map.proofs.runs.Effects.{Defines-remove, HasValue-value, IsAbsent-value}
+use Rattle.linked_hash_map.proofs.runs.Steps.{Serves-keeps, Serves-same, Serves-unchanged}
 use Rattle.linked_hash_map.proofs.replay.entry_remove.Goals as goal
 
 pub returns-in-Occupied : goal.returns-in-Occupied

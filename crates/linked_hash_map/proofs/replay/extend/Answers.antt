@@ -1,10 +1,7 @@
-use Rattle.std.proofs.Common.{◌-◌, ◌++◌, ◌∙◌, sym, ap, ap₂, subst, take, Some, inr}
-use Rattle.linked_hash_map.specs.Log.{put_each}
-use Rattle.linked_hash_map.specs.AllowedAnswers.{HasNoRoom}
-use Rattle.linked_hash_map.specs.Cursor.{to_visit}
-use Rattle.linked_hash_map.specs.Counts.{rechained_each}
-use Rattle.linked_hash_map.proofs.runs.Extends.{HasExtended-put, next-there, HasNoRoom-next, Defines-taken}
-use Rattle.linked_hash_map.proofs.runs.VisitEnds.{MayEndVisit-trans, MayEndVisit-insert}
+use Rattle.linked_hash_map.proofs.Names.{Some, ap, ap₂, inr, subst, sym, take, ◌++◌, ◌-◌, ◌∙◌, HasNoRoom, rechained_each, to_visit}
+use Rattle.linked_hash_map.proofs.Names.{put_each}
+use Rattle.linked_hash_map.proofs.runs.Extends.{Defines-taken, HasExtended-put, HasNoRoom-next, next-there}
+use Rattle.linked_hash_map.proofs.runs.VisitEnds.{MayEndVisit-insert, MayEndVisit-trans}
 use Rattle.linked_hash_map.proofs.replay.extend.Goals as goal
 
 pub loop-key-preserved : goal.loop-key-preserved

@@ -1,5 +1,4 @@
-use Rattle.std.specs.Vec.Iter.{into_iter_items}
-use Rattle.linked_hash_map.specs.Run.{MayEndVisit}
+use Rattle.linked_hash_map.proofs.Names.{MayEndVisit, into_iter_items}
 use Rattle.linked_hash_map.proofs.runs.Extends.{HasExtended}
 use Rattle.linked_hash_map.proofs.replay.extend.Given as goal
 

@@ -1,9 +1,7 @@
-use Rattle.std.proofs.Common.{◌+◌, ◌≤◌, length, refl, sym, ◌∙◌, subst}
-use Rattle.linked_hash_map.proofs.pairs.Inserts.{length-put_most}
-use Rattle.linked_hash_map.proofs.runs.Effects.{IsFull-contents, IsAbsent-found, IsAbsent-value, HasValue-value, Defines-put}
-use Rattle.linked_hash_map.proofs.runs.Steps.{Serves-unchanged}
-use Rattle.linked_hash_map.proofs.runs.VisitEnds.{MayEndVisit-insert}
-use Rattle.linked_hash_map.proofs.pairs.RehashCounts.{rechained_each-insert}
+use Rattle.linked_hash_map.proofs.Names.{length, refl, subst, sym, ◌+◌, ◌∙◌, ◌≤◌}
+use Rattle.linked_hash_map.proofs.pairs.{Inserts.length-put_most, RehashCounts.rechained_each-insert}
+use Rattle.linked_hash_map.proofs.runs.Effects.{Defines-put, HasValue-value, IsAbsent-found, IsAbsent-value, IsFull-contents}
+use Rattle.linked_hash_map.proofs.runs.{Steps.Serves-unchanged, VisitEnds.MayEndVisit-insert}
 use Rattle.linked_hash_map.proofs.replay.insert.Goals as goal
 
 pub returns-in-Ok-None : goal.returns-in-Ok-None

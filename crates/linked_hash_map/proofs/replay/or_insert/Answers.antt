@@ -1,19 +1,11 @@
-use Rattle.std.proofs.Common.{rules, ◌≡◌, true, false, max, length, is_some, None, Some, option_map, sym, ap, ◌∙◌}
-use Rattle.std.proofs.Common.{◌+◌, ◌≤◌, arith, subst, unwrap_or, refl, inl, inr}
-use Rattle.linked_hash_map.specs.Cursor.{to_visit}
-use Rattle.linked_hash_map.specs.Changes.{set_or_pushed}
-use Rattle.linked_hash_map.specs.Pairs.{key_or, find, value_at, put, set_or_push}
-use Rattle.linked_hash_map.specs.Entry.{is_occupied, entry_map, entry_key}
-use Rattle.linked_hash_map.proofs.log.LiveKeys.{none_is}
-use Rattle.linked_hash_map.proofs.pairs.Inserts.{length-put_most}
-use Rattle.linked_hash_map.specs.Counts.{rechained_raised}
-use Rattle.linked_hash_map.proofs.pairs.Calls.{is_some-value_at, find-none, set_or_push-present, set_or_push-absent, put-absent}
-use Rattle.linked_hash_map.proofs.pairs.Indexes.{set_value-own}
-use Rattle.linked_hash_map.proofs.lists.Options.{Some-unwrap_or}
-use Rattle.linked_hash_map.proofs.runs.Effects.{IsFull-contents, IsAbsent-found, IsAbsent-value}
-use Rattle.linked_hash_map.proofs.runs.Effects.{HasValue-value, Defines-put, Defines-nothing}
+use Rattle.linked_hash_map.proofs.Names.{None, Some, ap, arith, false, inl, inr, is_some, length, max, option_map, refl, rules, subst, sym}
+use Rattle.linked_hash_map.proofs.Names.{true, unwrap_or, ◌+◌, ◌∙◌, ◌≡◌, ◌≤◌, set_or_pushed, rechained_raised, to_visit, entry_key}
+use Rattle.linked_hash_map.proofs.Names.{entry_map, is_occupied, find, key_or, put, set_or_push, value_at}
+use Rattle.linked_hash_map.proofs.{lists.Options.Some-unwrap_or, log.LiveKeys.none_is, runs.Effects.IsFull-contents}
+use Rattle.linked_hash_map.proofs.pairs.Calls.{find-none, is_some-value_at, put-absent, set_or_push-absent, set_or_push-present}
+use Rattle.linked_hash_map.proofs.pairs.{Indexes.set_value-own, Inserts.length-put_most, RehashCounts.rechained_each-insert}
+use Rattle.linked_hash_map.proofs.runs.Effects.{Defines-nothing, Defines-put, HasValue-value, IsAbsent-found, IsAbsent-value}
 use Rattle.linked_hash_map.proofs.runs.Steps.{Serves-same, Serves-unchanged}
-use Rattle.linked_hash_map.proofs.pairs.RehashCounts.{rechained_each-insert}
 use Rattle.linked_hash_map.proofs.replay.or_insert.Goals as goal
 
 pub returns-then-present : goal.returns-then-present

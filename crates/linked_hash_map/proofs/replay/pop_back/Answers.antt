@@ -1,5 +1,5 @@
-use Rattle.std.proofs.Common.{◌-◌, ◌∙◌, sym, ap, take, length, inl}
-use Rattle.linked_hash_map.proofs.runs.Effects.{no_last_is_nil, Defines-nothing, Defines-pop_back, slice_get_last-contents, pairs-no_last}
+use Rattle.linked_hash_map.proofs.Names.{ap, inl, length, sym, take, ◌-◌, ◌∙◌}
+use Rattle.linked_hash_map.proofs.runs.Effects.{Defines-nothing, Defines-pop_back, no_last_is_nil, pairs-no_last, slice_get_last-contents}
 use Rattle.linked_hash_map.proofs.runs.Steps.{Serves-keeps}
 use Rattle.linked_hash_map.proofs.replay.pop_back.Goals as goal
 

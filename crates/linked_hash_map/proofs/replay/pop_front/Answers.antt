@@ -1,6 +1,5 @@
-use Rattle.std.proofs.Common.{inl}
-use Rattle.linked_hash_map.proofs.runs.Effects.{Defines-pop_front, slice_get-contents}
-use Rattle.linked_hash_map.proofs.runs.Steps.{Serves-keeps}
+use Rattle.linked_hash_map.proofs.Names.{inl}
+use Rattle.linked_hash_map.proofs.runs.{Effects.Defines-pop_front, Effects.slice_get-contents, Steps.Serves-keeps}
 use Rattle.linked_hash_map.proofs.replay.pop_front.Goals as goal
 
 pub returns-in-Some : goal.returns-in-Some

@@ -1,5 +1,5 @@
-use Rattle.std.proofs.Common.{sym, refl, inl}
-use Rattle.linked_hash_map.proofs.runs.Effects.{IsAbsent-value, HasValue-value, Defines-refresh}
+use Rattle.linked_hash_map.proofs.Names.{inl, refl, sym}
+use Rattle.linked_hash_map.proofs.runs.Effects.{Defines-refresh, HasValue-value, IsAbsent-value}
 use Rattle.linked_hash_map.proofs.runs.Steps.{Serves-keeps, Serves-unchanged}
 use Rattle.linked_hash_map.proofs.replay.refresh.Goals as goal
 

@@ -1,7 +1,6 @@
-use Rattle.std.proofs.Common.{sym, ◌∙◌, inl, inr}
-use Rattle.linked_hash_map.proofs.pairs.Calls.{find-none, without-absent}
-use Rattle.linked_hash_map.proofs.runs.Effects.{IsAbsent-value, HasValue-value, Defines-remove, Defines-nothing}
-use Rattle.linked_hash_map.proofs.runs.Steps.{Serves-keeps}
+use Rattle.linked_hash_map.proofs.Names.{inl, inr, sym, ◌∙◌}
+use Rattle.linked_hash_map.proofs.{pairs.Calls.find-none, pairs.Calls.without-absent, runs.Steps.Serves-keeps}
+use Rattle.linked_hash_map.proofs.runs.Effects.{Defines-nothing, Defines-remove, HasValue-value, IsAbsent-value}
 use Rattle.linked_hash_map.proofs.replay.remove.Goals as goal
 
 pub returns-in-Some : goal.returns-in-Some

@@ -1,11 +1,7 @@
-use Rattle.std.proofs.Common.{rules, ◌≡◌, refl, ◌∷◌, [], length, ap₂, append-nil, ◌∙◌, sym, subst, map-id, arith, length-append, inr}
-use Rattle.std.proofs.lemmas.Iterator.Adapters.{YieldsList-from_vec}
-use Rattle.std.proofs.lemmas.Iterator.Consumers.{YieldsList-end}
-use Rattle.linked_hash_map.specs.Rehashes.{rechained_after_all}
-use Rattle.linked_hash_map.specs.Run.{Replayed, first_log, last_log}
-use Rattle.linked_hash_map.proofs.runs.Rehashes.{GoesOn-snoc}
-use Rattle.linked_hash_map.proofs.runs.Steps.{IsRun-snoc, last_log-snoc, Defines-first_log}
-use Rattle.linked_hash_map.proofs.runs.VisitEnds.{MayEndVisit-trans}
+use Rattle.linked_hash_map.proofs.Names.{[], append-nil, ap₂, arith, inr, length, length-append, map-id, refl, rules, subst, sym, ◌∙◌, ◌∷◌}
+use Rattle.linked_hash_map.proofs.Names.{◌≡◌, rechained_after_all, Replayed, first_log, last_log, YieldsList-from_vec, YieldsList-end}
+use Rattle.linked_hash_map.proofs.runs.{Rehashes.GoesOn-snoc, VisitEnds.MayEndVisit-trans}
+use Rattle.linked_hash_map.proofs.runs.Steps.{Defines-first_log, IsRun-snoc, last_log-snoc}
 use Rattle.linked_hash_map.proofs.replay.replay.Goals as goal
 
 pub loop-command-init : goal.loop-command-init

@@ -1,7 +1,4 @@
-use Rattle.std.proofs.Common.{◌≡◌, ◌≤◌, length, vec_len, vec_capacity}
-use Rattle.linked_hash_map.specs.Log.{Defines}
-use Rattle.linked_hash_map.specs.Run.{MayEndVisit, IsRun, first_log, last_log}
-use Rattle.linked_hash_map.specs.Validity.{IsValid}
+use Rattle.linked_hash_map.proofs.Names.{length, vec_capacity, vec_len, ◌≡◌, ◌≤◌, Defines, IsRun, MayEndVisit, first_log, last_log, IsValid}
 use Rattle.linked_hash_map.proofs.runs.Rehashes.{GoesOn}
 use Rattle.linked_hash_map.proofs.replay.replay.Given as goal
 

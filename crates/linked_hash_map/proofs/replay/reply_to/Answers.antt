@@ -1,6 +1,4 @@
-use Rattle.std.proofs.Common.{length, sym, ◌∙◌, ap}
-use Rattle.linked_hash_map.specs.AllowedAnswers.{log_after}
-use Rattle.linked_hash_map.specs.Rehashes.{rechained_after}
+use Rattle.linked_hash_map.proofs.Names.{ap, length, sym, ◌∙◌, log_after, rechained_after}
 use Rattle.linked_hash_map.proofs.log.HighWater.{size-pairs}
 use Rattle.linked_hash_map.proofs.replay.reply_to.Goals as goal
 

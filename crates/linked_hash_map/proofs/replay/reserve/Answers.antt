@@ -1,6 +1,5 @@
-use Rattle.std.proofs.Common.{Err, refl, ap, arith, inr}
-use Rattle.linked_hash_map.proofs.runs.Effects.{size-contents, Defines-reserve}
-use Rattle.linked_hash_map.proofs.runs.Steps.{Serves-unchanged}
+use Rattle.linked_hash_map.proofs.Names.{Err, ap, arith, inr, refl}
+use Rattle.linked_hash_map.proofs.runs.{Effects.Defines-reserve, Effects.size-contents, Steps.Serves-unchanged}
 use Rattle.linked_hash_map.proofs.replay.reserve.Goals as goal
 
 pub returns-in-Ok : goal.returns-in-Ok

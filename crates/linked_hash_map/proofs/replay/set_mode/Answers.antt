@@ -1,7 +1,5 @@
-use Rattle.std.proofs.Common.{ap, inr}
-use Rattle.linked_hash_map.specs.Cursor.{to_visit}
-use Rattle.linked_hash_map.proofs.runs.Effects.{Defines-set_mode}
-use Rattle.linked_hash_map.proofs.pairs.RehashCounts.{rechained_each-same}
+use Rattle.linked_hash_map.proofs.Names.{ap, inr, to_visit}
+use Rattle.linked_hash_map.proofs.{pairs.RehashCounts.rechained_each-same, runs.Effects.Defines-set_mode}
 use Rattle.linked_hash_map.proofs.replay.set_mode.Goals as goal
 
 pub returns : goal.returns

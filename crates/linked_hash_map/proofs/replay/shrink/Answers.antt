@@ -1,7 +1,5 @@
-use Rattle.std.proofs.Common.{◌∙◌, refl, sym, ap, arith, inl}
-use Rattle.linked_hash_map.specs.Counts.{rechained_fitted}
-use Rattle.linked_hash_map.proofs.runs.Effects.{size-contents, Defines-shrink}
-use Rattle.linked_hash_map.proofs.runs.Steps.{Serves-unchanged}
+use Rattle.linked_hash_map.proofs.Names.{ap, arith, inl, refl, sym, ◌∙◌, rechained_fitted}
+use Rattle.linked_hash_map.proofs.runs.{Effects.Defines-shrink, Effects.size-contents, Steps.Serves-unchanged}
 use Rattle.linked_hash_map.proofs.replay.shrink.Goals as goal
 
 pub returns-in-Ok : goal.returns-in-Ok

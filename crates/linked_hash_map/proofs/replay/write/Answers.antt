@@ -1,8 +1,6 @@
-use Rattle.std.proofs.Common.{sym, ap, ◌∙◌, refl, Some, inr, take, drop}
-use Rattle.linked_hash_map.specs.Pairs.{set_value}
-use Rattle.linked_hash_map.proofs.Callers.Keys.{keys_of-set_value}
-use Rattle.linked_hash_map.proofs.runs.Effects.{IsAbsent-value, HasValue-value, Defines-write}
-use Rattle.linked_hash_map.proofs.runs.Steps.{Serves-keeps, Serves-unchanged}
+use Rattle.linked_hash_map.proofs.Names.{Some, ap, drop, inr, refl, sym, take, ◌∙◌, set_value}
+use Rattle.linked_hash_map.proofs.{Callers.Keys.keys_of-set_value, runs.Steps.Serves-keeps, runs.Steps.Serves-unchanged}
+use Rattle.linked_hash_map.proofs.runs.Effects.{Defines-write, HasValue-value, IsAbsent-value}
 use Rattle.linked_hash_map.proofs.replay.write.Goals as goal
 
 pub returns-in-Some : goal.returns-in-Some

@@ -1,14 +1,9 @@
 -- `none` owns nothing. Assumes `Logic`.
-use Rattle.lhm_ring.proofs.memory.Steps.{◌≡◌, ℕ, [], ◌∷◌, refl, Val, SProp, ftrue, ◌∵◌, ‵, raw, ◌⊛◌, ◌$◌}
-use Rattle.lhm_ring.proofs.memory.Steps.{ !, qed, by, keep, split, fjoin, no_more, returns, alloc_all}
-use Rattle.lhm_ring.proofs.memory.Steps.{pass_all, free_all, look_at, sets, agg, tables, Stays, walk_of}
-use Rattle.lhm_ring.proofs.memory.Steps.{proved_at, leaves, nothing, enter, states, null_ptr, vstruct, vnil}
-use denote.Triple.Entry.{alive}
-use Rattle.lhm_ring.specs.contracts.bucket_block.Dealloc.{the_row as dealloc}
-use Rattle.lhm_ring.proofs.memory.Lodging.{none_made}
-use Rattle.lhm_ring.specs.contracts.bucket_block.Dealloc.none.{ended, clauses}
-use Rattle.lhm_ring.specs.contracts.bucket_block.Dealloc.none.Key.{name as #self}
-use Rattle.lhm_ring.proofs.bucket_block.Dealloc.none.Statement.{statement}
+use Rattle.lhm_ring.proofs.Names.{[], refl, ℕ, ◌∷◌, ◌≡◌, leaves, proved_at, ftrue, SProp, tables, null_ptr, nothing, alive, Stays, walk_of}
+use Rattle.lhm_ring.proofs.Names.{Val, vnil, vstruct, alloc_all, free_all, look_at, pass_all, sets, !, by, fjoin, keep, qed, raw, split, ‵}
+use Rattle.lhm_ring.proofs.Names.{◌$◌, ◌∵◌, ◌⊛◌, agg, enter, no_more, returns}
+use Rattle.lhm_ring.proofs.{bucket_block.Dealloc.none.Statement.statement, memory.Lodging.none_made, memory.Steps.states}
+use Rattle.lhm_ring.specs.contracts.bucket_block.Dealloc.{the_row as dealloc, none.clauses, none.ended, none.Key.name as #self}
 use Rattle.lhm_ring.proofs.bucket_block.Dealloc.none.Code as code
 
 pub none_spec : {M : Type 1} → statement M

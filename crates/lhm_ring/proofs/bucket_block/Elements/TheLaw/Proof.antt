@@ -1,11 +1,10 @@
 -- A `&` to the elements reaches each. Assumes `Logic`.
-use Rattle.lhm_ring.proofs.memory.Steps.{[], ◌++◌, Incl-trans, meet_⊑_left, RattleType, RawPtr, Laws, copy_shared, field_copy, of_Lends}
-use Rattle.std.specs.contracts.marker.PhantomData as marker
+use Rattle.lhm_ring.proofs.Names.{[], length, ◌++◌, Incl-trans, meet_⊑_left, copy_shared, RattleType, RawPtr, of_Lends}
+use Rattle.lhm_ring.proofs.{bucket_block.Elements.TheLaw.Statement.statement, memory.ElementsLent.Lends-elements}
 use Rattle.std_alloc.proofs.SharedLaws.{lent_shr_laws}
+use denote.{Param.Laws.Laws, Struct.Laws.field_copy}
+use Rattle.std.specs.contracts.marker.PhantomData as marker
 use Rattle.lhm_ring.specs.contracts.bucket_block.Elements as C
-use Rattle.lhm_ring.proofs.bucket_block.Elements.TheLaw.Statement.{statement}
-use Rattle.lhm_ring.proofs.memory.ElementsLent.{Lends-elements}
-use Rattle.std.proofs.Common.{length}
 
 pub shares : (R : RattleType) (L : Laws R) → statement R L
 shares R L = of_Lends (C.struct R) (C.the_codes R.Denot R.coded (marker.the_row RawPtr).coded) (C.the_heap R) (C.the_lent R)

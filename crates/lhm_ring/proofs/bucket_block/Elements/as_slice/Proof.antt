@@ -1,25 +1,16 @@
 -- `as_slice` shows the elements that are lent. Assumes `Logic`.
-use Rattle.lhm_ring.proofs.memory.Steps.{◌≡◌, ℕ, ◌*◌, ◌<◌, ◌^◌, List, [], ◌∷◌, ◌++◌, refl, sym, ap, ◌∙◌, subst, arith, length}
-use Rattle.lhm_ring.proofs.memory.Steps.{Val, vptr, vint, w64, inst_fn, SProp, flft, ◌∵◌, ‵, raw, ◌⊛◌, at_ret, ◌$◌, ! }
-use Rattle.lhm_ring.proofs.memory.Steps.{qed, by, move, keep, drop}
-use Rattle.lhm_ring.proofs.memory.Steps.{use1, split, join, fsplit, fjoin, rewrite, feq_i, flt_l, flt_i, of_opd}
-use Rattle.lhm_ring.proofs.memory.Steps.{no_more, and_then, first}
-use Rattle.lhm_ring.proofs.memory.Steps.{blocks, exec, returns, alloc_all, pass_all, free_all, look_at, get, sets}
-use Rattle.lhm_ring.proofs.memory.Steps.{sets_last, env, agg, tables, fact}
-use Rattle.lhm_ring.proofs.memory.Steps.{usize, yes, owns, types_at, plain, Ptr, block_ptr, ptr_val, RawPtr, heard}
-use Rattle.lhm_ring.proofs.memory.Steps.{Stays, stay_dropped, walk_of}
-use Rattle.lhm_ring.proofs.memory.Steps.{Goes-dropped, after, proved_at, leaves, RattleType, Lft, hide, RefOf, Args}
-use Rattle.lhm_ring.proofs.memory.Steps.{a_type, layouts, param}
-use Rattle.lhm_ring.proofs.memory.Steps.{states, all_spent, tokens, runs_with, mem}
-use base.Fml.{fhide}
-use denote.Opens.{unhide}
-use denote.RawPtr.{InBlock, block_of, count_of}
-use denote.Slice.{slice_val, elements_shared}
-use denote.Struct.Lending.{in_block_says}
-use Rattle.lhm_ring.proofs.memory.ElementsOwned.{Owner, in_block-block}
-use Rattle.lhm_ring.specs.contracts.bucket_block.Elements.as_slice.{ended, clauses}
-use Rattle.lhm_ring.specs.contracts.bucket_block.Elements.as_slice.Key.{name as #self}
+use Rattle.lhm_ring.proofs.Names.{List, [], ap, arith, length, refl, subst, sym, ℕ, ◌*◌, ◌++◌, ◌<◌, ◌^◌, ◌∙◌, ◌∷◌, ◌≡◌, after, leaves}
+use Rattle.lhm_ring.proofs.Names.{proved_at, Lft, fhide, flft, SProp, fact, tables, RefOf, usize, yes, mem, hide, unhide, layouts, param}
+use Rattle.lhm_ring.proofs.Names.{RattleType, owns, InBlock, Ptr, RawPtr, block_of, block_ptr, count_of, ptr_val, plain, types_at, heard}
+use Rattle.lhm_ring.proofs.Names.{in_block_says, Goes-dropped, Stays, stay_dropped, walk_of, inst_fn, Args, a_type, w64, Val, vint, vptr}
+use Rattle.lhm_ring.proofs.Names.{alloc_all, env, free_all, get, look_at, pass_all, sets, sets_last, !, at_ret, by, drop, feq_i, fjoin}
+use Rattle.lhm_ring.proofs.Names.{flt_i, flt_l, fsplit, join, keep, move, qed, raw, rewrite, split, use1, ‵, ◌$◌, ◌∵◌, ◌⊛◌, agg, and_then}
+use Rattle.lhm_ring.proofs.Names.{blocks, exec, first, no_more, of_opd, returns}
 use Rattle.lhm_ring.proofs.bucket_block.Elements.as_slice.Statement.{statement}
+use Rattle.lhm_ring.proofs.memory.ElementsOwned.{Owner, in_block-block}
+use Rattle.lhm_ring.proofs.memory.Steps.{all_spent, runs_with, states, tokens}
+use Rattle.lhm_ring.specs.contracts.bucket_block.Elements.as_slice.{clauses, ended, Key.name as #self}
+use denote.Slice.{elements_shared, slice_val}
 use Rattle.lhm_ring.proofs.bucket_block.Elements.as_slice.Code as code
 
 pub as_slice_spec : {M : Type 1} → statement M

@@ -1,26 +1,16 @@
 -- `from_vec` keeps the memory of a vector. Assumes `Logic`.
-use Rattle.lhm_ring.proofs.memory.Steps.{◌≡◌, ℕ, ◌<◌, ◌^◌, [], ◌∷◌, ◌++◌, refl, sym, ◌∙◌, Val, vint, w64, inst_fn, SProp}
-use Rattle.lhm_ring.proofs.memory.Steps.{◌∵◌, ‵, raw, ◌⊛◌, ◌$◌, !, qed, by, move, keep, use0, use1, split, fsplit}
-use Rattle.lhm_ring.proofs.memory.Steps.{fjoin, rewrite, of_opd, length}
-use Rattle.lhm_ring.proofs.memory.Steps.{no_more, and_then, returns, alloc_all, pass_all, free_all, look_at, get, sets}
-use Rattle.lhm_ring.proofs.memory.Steps.{agg, tables, fact, no}
-use Rattle.lhm_ring.proofs.memory.Steps.{owns, types_at, plain, heard, Stays, stay_dropped, walk_of, proved_at, leaves}
-use Rattle.lhm_ring.proofs.memory.Steps.{later, await, given, learn}
-use Rattle.lhm_ring.proofs.memory.Steps.{framed, states, states_also, all_spent, runs_with, param, param_laws}
-use Rattle.lhm_ring.proofs.memory.Steps.{RattleType, Args, a_type, layouts}
-use denote.Triple.Call.{calls_at}
-use denote.Triple.Entry.{alive}
-use types.ByLocal.{lands_as}
-use Rattle.std.specs.Vec.Ownership.{lodged}
-use Rattle.std.proofs.alloc.Calls.{Goes-blank}
-use Rattle.std.proofs.mem.Timeless.{timeless, timeless_laws}
+use Rattle.lhm_ring.proofs.Names.{[], length, refl, sym, ℕ, ◌++◌, ◌<◌, ◌^◌, ◌∙◌, ◌∷◌, ◌≡◌, Goes-blank, timeless, timeless_laws, leaves}
+use Rattle.lhm_ring.proofs.Names.{proved_at, lodged, SProp, fact, tables, no, layouts, param, RattleType, owns, plain, types_at, heard}
+use Rattle.lhm_ring.proofs.Names.{calls_at, alive, framed, Stays, stay_dropped, walk_of, inst_fn, Args, a_type, w64, Val, vint, alloc_all}
+use Rattle.lhm_ring.proofs.Names.{free_all, get, lands_as, look_at, pass_all, sets, !, await, by, fjoin, fsplit, given, keep, later, learn}
+use Rattle.lhm_ring.proofs.Names.{move, qed, raw, rewrite, split, use0, use1, ‵, ◌$◌, ◌∵◌, ◌⊛◌, agg, and_then, no_more, of_opd, returns}
+use Rattle.lhm_ring.proofs.{bucket_block.Elements.from_vec.Statement.statement, memory.NodeFields.marker}
+use Rattle.lhm_ring.proofs.memory.ElementsOwned.{Field, Owner, elements_made}
+use Rattle.lhm_ring.proofs.memory.Lodging.{Dislodges, Lodging, at_dislodge, dislodge_gives, dislodge_goes, lodging_laws, tells}
+use Rattle.lhm_ring.proofs.memory.Steps.{all_spent, runs_with, states, states_also}
+use Rattle.lhm_ring.specs.contracts.bucket_block.Elements.from_vec.{clauses, ended, Key.name as #self}
+use denote.Param.Laws.{param_laws}
 use Rattle.std_alloc.proofs.vec.lodged.Vec+T+Lodged.dislodge.Met as dislodge_met
-use Rattle.lhm_ring.proofs.memory.NodeFields.{marker}
-use Rattle.lhm_ring.proofs.memory.ElementsOwned.{Owner, Field, elements_made}
-use Rattle.lhm_ring.proofs.memory.Lodging.{Lodging, lodging_laws, tells, Dislodges, at_dislodge, dislodge_goes, dislodge_gives}
-use Rattle.lhm_ring.specs.contracts.bucket_block.Elements.from_vec.{ended, clauses}
-use Rattle.lhm_ring.specs.contracts.bucket_block.Elements.from_vec.Key.{name as #self}
-use Rattle.lhm_ring.proofs.bucket_block.Elements.from_vec.Statement.{statement}
 use Rattle.lhm_ring.proofs.bucket_block.Elements.from_vec.Code as code
 
 pub from_vec_spec : {M : Type 1} → statement M

@@ -1,33 +1,18 @@
 -- `into_vec` makes the memory of the elements a vector. Assumes `Logic`.
-use Rattle.lhm_ring.proofs.memory.Steps.{◌≡◌, ℕ, ◌*◌, ◌<◌, ◌^◌, [], ◌∷◌, ◌++◌, refl, sym, ap, ◌∙◌, subst, arith, length}
-use Rattle.lhm_ring.proofs.memory.Steps.{Val, vptr, vint, w64, inst_fn, SProp, ◌∵◌, ‵, raw, ◌⊛◌, at_ret, ◌$◌, !, qed, by, move, keep}
-use Rattle.lhm_ring.proofs.memory.Steps.{use1, split, fsplit, rewrite, of_opd, no_more, and_then, first, blocks}
-use Rattle.lhm_ring.proofs.memory.Steps.{exec, returns, alloc_all}
-use Rattle.lhm_ring.proofs.memory.Steps.{pass_all, free_all, look_at, get, sets, env, tables, fact, usize, yes, no}
-use Rattle.lhm_ring.proofs.memory.Steps.{owns, types_at, plain, Ptr}
-use Rattle.lhm_ring.proofs.memory.Steps.{ptr_val, RawPtr, heard, Stays, stay_dropped, walk_of, Goes-dropped}
-use Rattle.lhm_ring.proofs.memory.Steps.{after, proved_at, leaves}
-use Rattle.lhm_ring.proofs.memory.Steps.{RattleType, Args, a_type, layout, layouts, param, T, has_ty, WT, param_laws}
-use Rattle.lhm_ring.proofs.memory.Steps.{states, states_also, all_spent, runs_with, framed}
-use Rattle.lhm_ring.proofs.memory.Steps.{in_a_block, snd∗, never, sem, later, pick, await, some, given, learn}
-use base.Fml.{flt}
-use denote.Steps.{only}
-use denote.Triple.Call.{calls_at_last}
-use denote.Triple.Entry.{alive}
-use types.ByLocal.{lands_last}
-use Rattle.std.specs.Mem.{type_size}
-use Rattle.std.specs.Vec.Ownership.{lodged}
-use Rattle.std.proofs.alloc.Calls.{Goes-blank}
-use Rattle.std.proofs.mem.Timeless.{timeless, timeless_laws}
-use Rattle.std_alloc.proofs.vec.lodge.Met as lodge_met
-use Rattle.std_alloc.specs.declared.vec.Vec.{Vec}
-use Rattle.std_alloc.specs.declared.vec.lodged.Lodged.{Lodged}
-use Rattle.lhm_ring.proofs.memory.NodeFields.{marker}
+use Rattle.lhm_ring.proofs.Names.{T, [], ap, arith, length, refl, subst, sym, ℕ, ◌*◌, ◌++◌, ◌<◌, ◌^◌, ◌∙◌, ◌∷◌, ◌≡◌, after, Goes-blank}
+use Rattle.lhm_ring.proofs.Names.{timeless, timeless_laws, leaves, proved_at, type_size, lodged, Vec, Lodged, flt, SProp, never, snd∗, fact}
+use Rattle.lhm_ring.proofs.Names.{tables, usize, no, yes, layout, layouts, param, RattleType, owns, Ptr, RawPtr, in_a_block, ptr_val, plain}
+use Rattle.lhm_ring.proofs.Names.{types_at, heard, only, calls_at_last, alive, framed, Goes-dropped, Stays, stay_dropped, walk_of, inst_fn}
+use Rattle.lhm_ring.proofs.Names.{Args, a_type, w64, Val, WT, has_ty, vint, vptr, alloc_all, env, free_all, get, lands_last, look_at}
+use Rattle.lhm_ring.proofs.Names.{pass_all, sets, !, at_ret, await, by, fsplit, given, keep, later, learn, move, pick, qed, raw, rewrite}
+use Rattle.lhm_ring.proofs.Names.{some, split, use1, ‵, ◌$◌, ◌∵◌, ◌⊛◌, sem, and_then, blocks, exec, first, no_more, of_opd, returns}
+use Rattle.lhm_ring.proofs.{bucket_block.Elements.into_vec.Statement.statement, memory.NodeFields.marker}
 use Rattle.lhm_ring.proofs.memory.ElementsOwned.{Owner, elements_known}
-use Rattle.lhm_ring.proofs.memory.Lodging.{Lodging, lodging_laws, tells, Lodges, at_lodge, IsLodged, lodge_goes, lodge_gives}
-use Rattle.lhm_ring.specs.contracts.bucket_block.Elements.into_vec.{ended, clauses}
-use Rattle.lhm_ring.specs.contracts.bucket_block.Elements.into_vec.Key.{name as #self}
-use Rattle.lhm_ring.proofs.bucket_block.Elements.into_vec.Statement.{statement}
+use Rattle.lhm_ring.proofs.memory.Lodging.{IsLodged, Lodges, Lodging, at_lodge, lodge_gives, lodge_goes, lodging_laws, tells}
+use Rattle.lhm_ring.proofs.memory.Steps.{all_spent, runs_with, states, states_also}
+use Rattle.lhm_ring.specs.contracts.bucket_block.Elements.into_vec.{clauses, ended, Key.name as #self}
+use denote.Param.Laws.{param_laws}
+use Rattle.std_alloc.proofs.vec.lodge.Met as lodge_met
 use Rattle.lhm_ring.proofs.bucket_block.Elements.into_vec.Code as code
 
 pub into_vec_spec : {M : Type 1} → statement M

@@ -1,14 +1,12 @@
 -- `none` owns no element. Assumes `Logic`.
-use Rattle.lhm_ring.proofs.memory.Steps.{◌≡◌, ◌*◌, ◌^◌, [], ◌∷◌, refl, arith, Val, inst_fn, SProp, ftrue, ◌∵◌, ‵, raw, ◌⊛◌, ◌$◌}
-use Rattle.lhm_ring.proofs.memory.Steps.{ !, qed, by, keep, use0, split, fjoin, flt_i, no_more, and_then, returns, alloc_all}
-use Rattle.lhm_ring.proofs.memory.Steps.{pass_all, free_all, look_at, get, sets, agg, tables, Stays, walk_of, proved_at, leaves}
-use Rattle.lhm_ring.proofs.memory.Steps.{nothing, enter, states, tokens, Args, a_type, layouts, param, RattleType, block_ptr}
-use Rattle.std.specs.Mem.{type_size}
-use Rattle.lhm_ring.proofs.memory.NodeFields.{marker}
-use Rattle.lhm_ring.proofs.memory.ElementsOwned.{Owner, Field, elements_made}
-use Rattle.lhm_ring.specs.contracts.bucket_block.Elements.none.{ended, clauses}
-use Rattle.lhm_ring.specs.contracts.bucket_block.Elements.none.Key.{name as #self}
+use Rattle.lhm_ring.proofs.Names.{[], arith, refl, ◌*◌, ◌^◌, ◌∷◌, ◌≡◌, leaves, proved_at, type_size, ftrue, SProp, tables, layouts, param}
+use Rattle.lhm_ring.proofs.Names.{RattleType, block_ptr, nothing, Stays, walk_of, inst_fn, Args, a_type, Val, alloc_all, free_all, get}
+use Rattle.lhm_ring.proofs.Names.{look_at, pass_all, sets, !, by, fjoin, flt_i, keep, qed, raw, split, use0, ‵, ◌$◌, ◌∵◌, ◌⊛◌, agg}
+use Rattle.lhm_ring.proofs.Names.{and_then, enter, no_more, returns}
 use Rattle.lhm_ring.proofs.bucket_block.Elements.none.Statement.{statement}
+use Rattle.lhm_ring.proofs.memory.ElementsOwned.{Field, Owner, elements_made}
+use Rattle.lhm_ring.proofs.memory.{NodeFields.marker, Steps.states, Steps.tokens}
+use Rattle.lhm_ring.specs.contracts.bucket_block.Elements.none.{clauses, ended, Key.name as #self}
 use Rattle.lhm_ring.proofs.bucket_block.Elements.none.Code as code
 
 pub none_spec : {M : Type 1} → statement M

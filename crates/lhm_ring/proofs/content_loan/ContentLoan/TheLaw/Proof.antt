@@ -1,15 +1,10 @@
 -- A `&` to it holds none of the values. Assumes `Logic`.
-use denote.RattleType.{RattleType}
-use denote.Ref.{NamedLft, MutRef}
-use denote.Param.Laws.{Laws}
-use denote.Param.Shared.{copy_shared}
-use denote.SharingLaws.{nothing_shr_laws}
-use denote.Struct.Laws.{field_copy}
-use denote.Struct.Lending.{of_Lends, Lends-nothing}
+use Rattle.lhm_ring.proofs.Names.{copy_shared, RattleType, MutRef, NamedLft, nothing_shr_laws, Lends-nothing, of_Lends}
+use Rattle.lhm_ring.proofs.content_loan.ContentLoan.TheLaw.Statement.{statement}
+use denote.{Param.Laws.Laws, Struct.Laws.field_copy}
 use Rattle.std.specs.contracts.marker.PhantomData as marker
 use Rattle.lhm_ring.specs.contracts.nodes.Node as Node-type
 use Rattle.lhm_ring.specs.contracts.content_loan.ContentLoan as C
-use Rattle.lhm_ring.proofs.content_loan.ContentLoan.TheLaw.Statement.{statement}
 
 pub shares : (κ : NamedLft) (L K V : RattleType) (LL : Laws L) (LK : Laws K) (LV : Laws V) → statement κ L K V LL LK LV
 shares κ L K V LL LK LV =

@@ -1,35 +1,20 @@
 -- `take` moves out what one node holds, of what is lent. Assumes `Logic`.
-use Rattle.lhm_ring.proofs.memory.Steps.{◌≡◌, ℕ, ◌+◌, List, [], ◌∷◌, ◌++◌, refl, sym, ap, None}
-use Rattle.lhm_ring.proofs.memory.Steps.{full_share, Val, vptr, inst_fn, SProp, flft, ◌∵◌, ‵, raw}
-use Rattle.lhm_ring.proofs.memory.Steps.{◌⊛◌, at_ret, ◌$◌, !, qed, by, move, keep, use1, use2}
-use Rattle.lhm_ring.proofs.memory.Steps.{split, join, fsplit, fsplit3, fjoin, rewrite, stop, fld}
-use Rattle.lhm_ring.proofs.memory.Steps.{addr, of_opd, no_more, and_then, first, blocks, exec}
-use Rattle.lhm_ring.proofs.memory.Steps.{returns, alloc_all, pass_all, free_all, look_at, get}
-use Rattle.lhm_ring.proofs.memory.Steps.{get_in, through, sets, sets_last, is, env, sub, whole, agg}
-use Rattle.lhm_ring.proofs.memory.Steps.{tables, fact, yes, owns, layout, types_at, plain, Ptr}
-use Rattle.lhm_ring.proofs.memory.Steps.{ptr_val, lies_at, heard, opens, closes, Stays}
-use Rattle.lhm_ring.proofs.memory.Steps.{stay_dropped, stay_ref, walk_of, Goes-dropped, Goes-ref}
-use Rattle.lhm_ring.proofs.memory.Steps.{after, word, word-Good, proved_at, leaves, id⊢, RattleType}
-use Rattle.lhm_ring.proofs.memory.Steps.{in_a_block, Some, never, Option, vstruct, vcons, vnil, Lft}
-use Rattle.lhm_ring.proofs.memory.Steps.{fbor, pick, SemTy, named_lft, some, fat, given, learn}
-use Rattle.lhm_ring.proofs.memory.Steps.{Good, open_ref, tokens, states_also, self_left, runs_with}
-use Rattle.lhm_ring.proofs.memory.Steps.{states}
-use types.Run.{load, look}
-use types.Mut.{close_ref}
-use types.SemTy.{Body as Borrowed}
-use denote.Struct.Struct.{as_fields}
-use Rattle.lhm_ring.specs.declared.content_loan.ContentLoan.{ContentLoan}
+use Rattle.lhm_ring.proofs.Names.{List, None, Option, Some, [], ap, refl, sym, ℕ, ◌++◌, ◌+◌, ◌∷◌, ◌≡◌, Bodies, HasBody, bodies, body_in}
+use Rattle.lhm_ring.proofs.Names.{borrows_bodies, firsts, seconds, without_body, body_owns, key_address, value_address, ContentLoan, Good}
+use Rattle.lhm_ring.proofs.Names.{word, word-Good, after, leaves, proved_at, Lft, fat, fbor, flft, full_share, SProp, id⊢, never, fact}
+use Rattle.lhm_ring.proofs.Names.{tables, yes, layout, RattleType, owns, Ptr, in_a_block, lies_at, ptr_val, named_lft, plain, types_at}
+use Rattle.lhm_ring.proofs.Names.{closes, heard, opens, as_fields, Goes-dropped, Goes-ref, Stays, stay_dropped, stay_ref, walk_of, inst_fn}
+use Rattle.lhm_ring.proofs.Names.{Val, vcons, vnil, vptr, vstruct, alloc_all, env, free_all, get, get_in, is, look_at, pass_all, sets}
+use Rattle.lhm_ring.proofs.Names.{sets_last, through, !, at_ret, by, fjoin, fsplit, fsplit3, given, join, keep, learn, move, pick, qed, raw}
+use Rattle.lhm_ring.proofs.Names.{rewrite, some, split, use1, use2, ‵, ◌$◌, ◌∵◌, ◌⊛◌, close_ref, open_ref, agg, sub, whole, addr, and_then}
+use Rattle.lhm_ring.proofs.Names.{blocks, exec, first, fld, load, look, no_more, of_opd, returns, stop, Body as Borrowed, SemTy}
+use Rattle.lhm_ring.proofs.{content_loan.ContentLoan.take.Statement.statement, memory.NodeFields.word-pointer}
+use Rattle.lhm_ring.proofs.memory.ContentTaken.{CutBody, CutBody-some, Run, bodies_cut, bodies_glue, firsts-same}
+use Rattle.lhm_ring.proofs.memory.NodeFields.{Pl, RK, RL, RV, Three, args, forgotten, ko, three_rows, two_made, value_known, value_out, vo}
+use Rattle.lhm_ring.proofs.memory.Steps.{runs_with, self_left, states, states_also, tokens}
+use Rattle.lhm_ring.specs.contracts.content_loan.ContentLoan.take.{clauses, ended, Key.name as #self}
 use Rattle.lhm_ring.specs.contracts.content_loan.ContentLoan as S-type
-use Rattle.lhm_ring.proofs.memory.NodeFields.{Three, args, RL, RK, RV, ko, vo, Pl, word-pointer}
-use Rattle.lhm_ring.proofs.memory.NodeFields.{two_made, value_out, three_rows, value_known}
-use Rattle.lhm_ring.proofs.memory.NodeFields.{forgotten}
-use Rattle.lhm_ring.proofs.memory.ContentTaken.{CutBody, CutBody-some, firsts-same, Run, bodies_cut, bodies_glue}
-use Rattle.lhm_ring.specs.contracts.content_loan.ContentLoan.take.{ended, clauses}
-use Rattle.lhm_ring.specs.contracts.content_loan.ContentLoan.take.Key.{name as #self}
-use Rattle.lhm_ring.proofs.content_loan.ContentLoan.take.Statement.{statement}
 use Rattle.lhm_ring.proofs.content_loan.ContentLoan.take.Code as code
-use Rattle.lhm_ring.specs.Nodes.{key_address, value_address, body_owns}
-use Rattle.lhm_ring.specs.ContentLoan.{Bodies, bodies, borrows_bodies, body_in, without_body, HasBody, firsts, seconds}
 
 pub take_spec : {M : Type 1} → statement M
 take_spec 𝓤 𝓛 𝓜 𝓡 wired L K V LL LK LV =

@@ -1,9 +1,7 @@
-use Rattle.std.proofs.Common.{◌∙◌, ◌-◌, ◌∷◌, ap, sym, subst}
-use Rattle.lhm_ring.proofs.rings.Spans.{span_triples-none, IsAt-first, Holds-first, IsSpan-rest_of_first, span_triples-first}
-use Rattle.lhm_ring.proofs.memory.NodesWithBodies.{links_at-with_bodies, body_at-with_bodies, with_bodies-without_body}
+use Rattle.lhm_ring.proofs.Names.{ap, subst, sym, ◌-◌, ◌∙◌, ◌∷◌, with_bodies, IsSpan, span_triples}
+use Rattle.lhm_ring.proofs.memory.NodesWithBodies.{body_at-with_bodies, links_at-with_bodies, with_bodies-without_body}
+use Rattle.lhm_ring.proofs.rings.Spans.{Holds-first, IsAt-first, IsSpan-rest_of_first, span_triples-first, span_triples-none}
 use Rattle.lhm_ring.proofs.drain.Remaining.take_first.Goals as goal
-use Rattle.lhm_ring.specs.Links.{IsSpan, span_triples}
-use Rattle.lhm_ring.specs.ContentLoan.{with_bodies}
 
 pub returns-then-self-eq0 : goal.returns-then-self-eq0
 returns-then-self-eq0 g c =

@@ -1,11 +1,7 @@
-use Rattle.std.proofs.Common.{arith, ap, sym, ◌++◌, ◌∷◌, ◌∙◌, get_or, None}
-use Rattle.std.specs.Prelude.{is_some}
-use Rattle.lhm_ring.proofs.indexes.NodeBefore.{get_or-head, IsTowards-start, IsHeld-towards}
-use Rattle.lhm_ring.proofs.indexes.NodeBefore.{passed-below, IsTowards-next, IsOnChain-towards}
-use Rattle.lhm_ring.proofs.indexes.NodeBefore.{nodes-mended, IsHeld-towards_cut, State-equal}
+use Rattle.lhm_ring.proofs.Names.{None, ap, arith, get_or, sym, ◌++◌, ◌∙◌, ◌∷◌, is_some, pointer_of, pointer_of_some, target, linked_to}
+use Rattle.lhm_ring.proofs.indexes.NodeBefore.{IsHeld-towards, IsHeld-towards_cut, IsOnChain-towards, IsTowards-next, IsTowards-start}
+use Rattle.lhm_ring.proofs.indexes.NodeBefore.{State-equal, get_or-head, nodes-mended, passed-below}
 use Rattle.lhm_ring.proofs.index.Index.before.Goals as goal
-use Rattle.lhm_ring.specs.Pointer.{pointer_of, pointer_of_some, target}
-use Rattle.lhm_ring.specs.Ring.{linked_to}
 
 pub position-here-requires : goal.position-here-requires
 position-here-requires g c =

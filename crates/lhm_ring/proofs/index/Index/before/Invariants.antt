@@ -1,7 +1,6 @@
-use Rattle.std.proofs.Common.{length, ◌-◌, ◌≡◌}
+use Rattle.lhm_ring.proofs.Names.{length, ◌-◌, ◌≡◌, pointer_of, pointer_of_some, target}
 use Rattle.lhm_ring.proofs.indexes.NodeBefore.{IsTowards}
 use Rattle.lhm_ring.proofs.index.Index.before.Given as goal
-use Rattle.lhm_ring.specs.Pointer.{pointer_of, pointer_of_some, target}
 
 abbrev pub invariant-chain : goal.invariant-chain
 invariant-chain g l = record {

@@ -1,7 +1,6 @@
-use Rattle.std.proofs.Common.{sym, refl, ◌∙◌, Some, None}
-use Rattle.lhm_ring.proofs.indexes.Searches.{IsPart-first, IsPart-passed, IsHeld-head}
+use Rattle.lhm_ring.proofs.Names.{None, Some, refl, sym, ◌∙◌, pointer_of}
+use Rattle.lhm_ring.proofs.indexes.Searches.{IsHeld-head, IsPart-first, IsPart-passed}
 use Rattle.lhm_ring.proofs.index.Index.begin.Goals as goal
-use Rattle.lhm_ring.specs.Pointer.{pointer_of}
 
 pub returns-then-buckets-gt-FEW_BUCKETS : goal.returns-then-buckets-gt-FEW_BUCKETS
 returns-then-buckets-gt-FEW_BUCKETS g c =

@@ -1,10 +1,7 @@
-use Rattle.std.proofs.Common.{◌≡◌, ℕ, ◌-◌, ◌%◌, ◌∙◌, subst, sym, ap, arith, length}
-use Rattle.std.specs.Prelude.{bit_and}
-use Rattle.std.proofs.lemmas.List.{length-map}
-use Rattle.std.proofs.lemmas.Nat.{and_mask}
+use Rattle.lhm_ring.proofs.Names.{ap, arith, length, subst, sym, ℕ, ◌%◌, ◌-◌, ◌∙◌, ◌≡◌, bit_and, BucketState, IsBucketCount, leads_to}
+use Rattle.lhm_ring.proofs.Names.{length-map, and_mask}
 use Rattle.lhm_ring.proofs.indexes.BucketCounts.{IsPowerOfTwo-count}
 use Rattle.lhm_ring.proofs.index.Index.bucket_of.Goals as goal
-use Rattle.lhm_ring.specs.Buckets.{BucketState, IsBucketCount, leads_to}
 
 pub returns-clause-of_hash : goal.returns-clause-of_hash
 returns-clause-of_hash g c =

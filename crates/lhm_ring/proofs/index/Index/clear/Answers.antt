@@ -1,8 +1,6 @@
-use Rattle.std.proofs.Common.{sym, subst, ◌∙◌}
-use Rattle.std.proofs.lemmas.List.{nil_from_length}
+use Rattle.lhm_ring.proofs.Names.{subst, sym, ◌∙◌, Indexes, spots, nil_from_length}
 use Rattle.lhm_ring.proofs.indexes.WholeBuckets.{HasNoChain-indexed}
 use Rattle.lhm_ring.proofs.index.Index.clear.Goals as goal
-use Rattle.lhm_ring.specs.Index.{Indexes, spots}
 
 pub returns-then-len-eq0-clause-empty : goal.returns-then-len-eq0-clause-empty
 returns-then-len-eq0-clause-empty g c =

@@ -1,9 +1,6 @@
-use Rattle.std.proofs.Common.{◌≡◌, ◌<◌, ◌∙◌, sym, ap, arith, length}
-use Rattle.std.proofs.lemmas.List.{length-map}
-use Rattle.std.proofs.lemmas.Nat.{pow_pos}
+use Rattle.lhm_ring.proofs.Names.{ap, arith, length, sym, ◌<◌, ◌∙◌, ◌≡◌, BucketState, leads_to, length-map, pow_pos}
 use Rattle.lhm_ring.proofs.indexes.BlockSizes.{block_heads-few}
 use Rattle.lhm_ring.proofs.index.Index.make_empty.Goals as goal
-use Rattle.lhm_ring.specs.Buckets.{BucketState, leads_to}
 
 pub in_block-requires-clause-block : goal.in_block-requires-clause-block
 in_block-requires-clause-block g c =

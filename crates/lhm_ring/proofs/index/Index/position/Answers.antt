@@ -1,8 +1,6 @@
-use Rattle.std.proofs.Common.{ap, sym, refl, ◌∙◌, subst, ◌<◌, ℕ, length, None, get_or}
-use Rattle.lhm_ring.proofs.indexes.Filters.{LacksKey-uncovered}
-use Rattle.lhm_ring.proofs.indexes.Searches.{IsPart-first, FindsNone-part}
+use Rattle.lhm_ring.proofs.Names.{None, ap, get_or, length, refl, subst, sym, ℕ, ◌<◌, ◌∙◌, pointer_of_some}
+use Rattle.lhm_ring.proofs.indexes.{Filters.LacksKey-uncovered, Searches.FindsNone-part, Searches.IsPart-first}
 use Rattle.lhm_ring.proofs.index.Index.position.Goals as goal
-use Rattle.lhm_ring.specs.Pointer.{pointer_of_some}
 
 pub returns-then-not-may_contain-clause-absent : goal.returns-then-not-may_contain-clause-absent
 returns-then-not-may_contain-clause-absent g c =

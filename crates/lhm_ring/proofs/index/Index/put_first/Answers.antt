@@ -1,11 +1,7 @@
-use Rattle.std.proofs.Common.{refl, arith, ◌/◌, ◌^◌, ◌%◌, ap, ◌∙◌, set, subst, ◌<◌, List, map}
-use Rattle.std.proofs.lemmas.List.{map-set}
-use Rattle.lhm_ring.specs.declared.bucket_block.Head.{Head}
-use Rattle.lhm_ring.proofs.indexes.BucketHeads.{length-words}
-use Rattle.lhm_ring.proofs.indexes.Filters.{SetsBit-written}
+use Rattle.lhm_ring.proofs.Names.{List, ap, arith, map, refl, set, subst, ◌%◌, ◌/◌, ◌<◌, ◌^◌, ◌∙◌, BucketState, leads_to, target, Head}
+use Rattle.lhm_ring.proofs.Names.{map-set}
+use Rattle.lhm_ring.proofs.indexes.{BucketHeads.length-words, Filters.SetsBit-written}
 use Rattle.lhm_ring.proofs.index.Index.put_first.Goals as goal
-use Rattle.lhm_ring.specs.Buckets.{BucketState, leads_to}
-use Rattle.lhm_ring.specs.Pointer.{target}
 
 pub returns-clause-heads : goal.returns-clause-heads
 returns-clause-heads g c =

@@ -1,7 +1,6 @@
-use Rattle.std.proofs.Common.{arith, ap, ◌∙◌}
-use Rattle.lhm_ring.proofs.indexes.IndexPuts.{IsHeld-rehashing, count-rehashing, length-rehashing, IsRehashing-step}
+use Rattle.lhm_ring.proofs.Names.{ap, arith, ◌∙◌, pointer_of, pointer_of_some}
+use Rattle.lhm_ring.proofs.indexes.IndexPuts.{IsHeld-rehashing, IsRehashing-step, count-rehashing, length-rehashing}
 use Rattle.lhm_ring.proofs.index.Index.put_in_all.Goals as goal
-use Rattle.lhm_ring.specs.Pointer.{pointer_of, pointer_of_some}
 
 pub next-pointer-requires : goal.next-pointer-requires
 next-pointer-requires g c = IsHeld-rehashing c.loop-pointer.invariant.rehashing (pointer_of c.in-Some.at) (ap pointer_of_some c.in-Some.is)

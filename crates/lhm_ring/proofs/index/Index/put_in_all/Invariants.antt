@@ -1,7 +1,6 @@
-use Rattle.std.proofs.Common.{length, ◌-◌, ◌≡◌}
+use Rattle.lhm_ring.proofs.Names.{length, ◌-◌, ◌≡◌, pointer_of_some}
 use Rattle.lhm_ring.proofs.indexes.IndexPuts.{IsRehashing}
 use Rattle.lhm_ring.proofs.index.Index.put_in_all.Given as goal
-use Rattle.lhm_ring.specs.Pointer.{pointer_of_some}
 
 abbrev pub invariant-loop-pointer : goal.invariant-loop-pointer
 invariant-loop-pointer g l = record {

@@ -1,9 +1,7 @@
-use Rattle.std.proofs.Common.{◌≡◌, ℕ, ◌%◌, ◌++◌, ◌∷◌, sym, ap, subst, ◌∙◌, length, get_or, set, Some, None}
+use Rattle.lhm_ring.proofs.Names.{None, Some, ap, get_or, length, set, subst, sym, ℕ, ◌%◌, ◌++◌, ◌∙◌, ◌∷◌, ◌≡◌, SetsBit, pointer_of, target}
+use Rattle.lhm_ring.proofs.Names.{linked_to}
 use Rattle.lhm_ring.proofs.indexes.IndexPuts.{Indexes-put_first}
 use Rattle.lhm_ring.proofs.index.Index.put_in_by_hash.Goals as goal
-use Rattle.lhm_ring.specs.Buckets.{SetsBit}
-use Rattle.lhm_ring.specs.Pointer.{pointer_of, target}
-use Rattle.lhm_ring.specs.Ring.{linked_to}
 
 pub returns-clause-first : goal.returns-clause-first
 returns-clause-first g c = λ before x after e at.

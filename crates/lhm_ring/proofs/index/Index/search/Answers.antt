@@ -1,4 +1,4 @@
-use Rattle.std.proofs.Common.{ap, ◌∙◌, subst, ◌<◌, ℕ, length, None, get_or}
+use Rattle.lhm_ring.proofs.Names.{None, ap, get_or, length, subst, ℕ, ◌<◌, ◌∙◌}
 use Rattle.lhm_ring.proofs.indexes.Searches.{IsPart-first}
 use Rattle.lhm_ring.proofs.index.Index.search.Goals as goal
 

@@ -1,7 +1,6 @@
-use Rattle.std.proofs.Common.{arith, ap, ◌∙◌}
-use Rattle.lhm_ring.proofs.indexes.Searches.{IsHeld-part, visited-below, IsPart-more, FindsKey-part, FindsNone-part}
+use Rattle.lhm_ring.proofs.Names.{ap, arith, ◌∙◌, pointer_of_some}
+use Rattle.lhm_ring.proofs.indexes.Searches.{FindsKey-part, FindsNone-part, IsHeld-part, IsPart-more, visited-below}
 use Rattle.lhm_ring.proofs.index.Index.search_on.Goals as goal
-use Rattle.lhm_ring.specs.Pointer.{pointer_of_some}
 
 pub step-requires-clause-held : goal.step-requires-clause-held
 step-requires-clause-held g c = IsHeld-part c.loop-pointer.invariant (ap pointer_of_some c.in-Some.is)

@@ -1,12 +1,6 @@
-use Rattle.std.proofs.Common.{◌%◌, ap, ◌∙◌, List, map, set}
-use Rattle.std.proofs.lemmas.List.{map-set}
-use Rattle.lhm_ring.specs.declared.bucket_block.Head.{Head}
-use Rattle.lhm_ring.specs.declared.bucket_block.Word.{Word}
-use Rattle.lhm_ring.proofs.indexes.BucketHeads.{length-words}
-use Rattle.lhm_ring.proofs.indexes.Filters.{may_contain-cleared}
+use Rattle.lhm_ring.proofs.Names.{List, ap, map, set, ◌%◌, ◌∙◌, BucketState, bits_of, leads_to, may_contain, target, Head, Word, map-set}
+use Rattle.lhm_ring.proofs.indexes.{BucketHeads.length-words, Filters.may_contain-cleared}
 use Rattle.lhm_ring.proofs.index.Index.set_head.Goals as goal
-use Rattle.lhm_ring.specs.Buckets.{BucketState, leads_to, bits_of, may_contain}
-use Rattle.lhm_ring.specs.Pointer.{target}
 
 pub returns-then-is_none-clause-heads : goal.returns-then-is_none-clause-heads
 returns-then-is_none-clause-heads g c =

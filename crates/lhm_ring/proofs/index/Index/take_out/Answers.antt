@@ -1,8 +1,6 @@
-use Rattle.std.proofs.Common.{sym, ◌∙◌}
-use Rattle.lhm_ring.proofs.indexes.Entries.{HasKey-kept}
-use Rattle.lhm_ring.proofs.indexes.Filters.{LacksKey-uncovered}
+use Rattle.lhm_ring.proofs.Names.{sym, ◌∙◌, pointer_of}
+use Rattle.lhm_ring.proofs.indexes.{Entries.HasKey-kept, Filters.LacksKey-uncovered}
 use Rattle.lhm_ring.proofs.index.Index.take_out.Goals as goal
-use Rattle.lhm_ring.specs.Pointer.{pointer_of}
 
 pub returns-then-not-may_contain-clause-absent : goal.returns-then-not-may_contain-clause-absent
 returns-then-not-may_contain-clause-absent g c =

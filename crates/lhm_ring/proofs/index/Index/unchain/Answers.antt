@@ -1,11 +1,8 @@
-use Rattle.std.proofs.Common.{ap, sym, subst, set, ◌∙◌, List, Option}
-use denote.RawPtr.{Ptr}
-use Rattle.lhm_ring.proofs.indexes.IndexTakes.{HasOtherChains, IsHeld-on_chain, IsHeld-before}
-use Rattle.lhm_ring.proofs.indexes.IndexTakes.{HasOtherChains-take_first, HasOtherChains-take_next}
-use Rattle.lhm_ring.proofs.indexes.WholeBuckets.{SetsHead, HoldsOthers-next, HoldsOthers-head}
-use Rattle.lhm_ring.proofs.indexes.Entries.{entries-linked_to}
+use Rattle.lhm_ring.proofs.Names.{List, Option, ap, set, subst, sym, ◌∙◌, pointer_of, pointer_of_some, target, Ptr}
+use Rattle.lhm_ring.proofs.indexes.{Entries.entries-linked_to, IndexTakes.IsHeld-on_chain}
+use Rattle.lhm_ring.proofs.indexes.IndexTakes.{HasOtherChains, HasOtherChains-take_first, HasOtherChains-take_next, IsHeld-before}
+use Rattle.lhm_ring.proofs.indexes.WholeBuckets.{HoldsOthers-head, HoldsOthers-next, SetsHead}
 use Rattle.lhm_ring.proofs.index.Index.unchain.Goals as goal
-use Rattle.lhm_ring.specs.Pointer.{pointer_of, pointer_of_some, target}
 
 pub links-requires : goal.links-requires
 links-requires g c = IsHeld-on_chain c.requires.on_chain

@@ -1,4 +1,4 @@
-use Rattle.std.proofs.Common.{arith}
+use Rattle.lhm_ring.proofs.Names.{arith}
 use Rattle.lhm_ring.proofs.indexes.BucketCounts.{buckets-most}
 use Rattle.lhm_ring.proofs.index.Index.with_buckets.Goals as goal
 

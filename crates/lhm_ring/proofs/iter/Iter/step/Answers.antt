@@ -1,8 +1,7 @@
-use Rattle.std.proofs.Common.{◌∙◌, ap, sym}
+use Rattle.lhm_ring.proofs.Names.{ap, sym, ◌∙◌, listed, pointers_from}
 use Rattle.lhm_ring.proofs.rings.IteratorSteps.{Some-both}
-use Rattle.lhm_ring.proofs.rings.Spans.{listed-none, IsAt-first, Holds-first, IsSpan-behind_first, listed-first}
+use Rattle.lhm_ring.proofs.rings.Spans.{Holds-first, IsAt-first, IsSpan-behind_first, listed-first, listed-none}
 use Rattle.lhm_ring.proofs.iter.Iter.step.Goals as goal
-use Rattle.lhm_ring.specs.Links.{listed, pointers_from}
 
 pub returns-then-self-eq0 : goal.returns-then-self-eq0
 returns-then-self-eq0 g c =

@@ -1,8 +1,7 @@
-use Rattle.std.proofs.Common.{◌∙◌, ap, sym}
+use Rattle.lhm_ring.proofs.Names.{ap, sym, ◌∙◌, listed, pointers_from}
 use Rattle.lhm_ring.proofs.rings.IteratorSteps.{Some-both}
-use Rattle.lhm_ring.proofs.rings.Spans.{listed-none, IsAt-last, Holds-last, IsSpan-ahead_of_last, listed-last}
+use Rattle.lhm_ring.proofs.rings.Spans.{Holds-last, IsAt-last, IsSpan-ahead_of_last, listed-last, listed-none}
 use Rattle.lhm_ring.proofs.iter.Iter.step_back.Goals as goal
-use Rattle.lhm_ring.specs.Links.{listed, pointers_from}
 
 pub returns-then-self-eq0 : goal.returns-then-self-eq0
 returns-then-self-eq0 g c =

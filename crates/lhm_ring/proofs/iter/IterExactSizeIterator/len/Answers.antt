@@ -1,4 +1,4 @@
-use Rattle.std.proofs.Common.{◌∙◌, ap, length}
+use Rattle.lhm_ring.proofs.Names.{ap, length, ◌∙◌}
 use Rattle.lhm_ring.proofs.rings.Spans.{length-listed_span}
 use Rattle.lhm_ring.proofs.iter.IterExactSizeIterator.len.Goals as goal
 

@@ -1,36 +1,24 @@
 -- `add` writes the links into the last unused place, which lies apart from the nodes. Assumes
 -- `Logic`.
-use Rattle.lhm_ring.proofs.memory.Steps.{◌≡◌, ℕ, ◌+◌, ◌*◌, ◌<◌, ◌^◌, true, List, [], ◌∷◌, ◌++◌}
-use Rattle.lhm_ring.proofs.memory.Steps.{refl, sym, ap, ◌∙◌, subst, T, None, full_share, Val, vptr}
-use Rattle.lhm_ring.proofs.memory.Steps.{vint, w64, inst_fn, SProp, ftrue, flft, size, size-raw}
-use Rattle.lhm_ring.proofs.memory.Steps.{◌∵◌, ‵, raw, ◌⊛◌, at_ret, ◌$◌, !, qed, by, move, keep}
-use Rattle.lhm_ring.proofs.memory.Steps.{drop, use0, use1, use2, split, join, fsplit, fsplit3}
-use Rattle.lhm_ring.proofs.memory.Steps.{fjoin, rewrite, feq_i, feq_l, stop, fld, addr, bin}
-use Rattle.lhm_ring.proofs.memory.Steps.{size_lit, of_opd, no_more, and_then, assigns_last, first}
-use Rattle.lhm_ring.proofs.memory.Steps.{blocks, exec, returns, alloc_all, pass_all, free_all}
-use Rattle.lhm_ring.proofs.memory.Steps.{look_at, get, get_in, through, sets, sets_last, is, env}
-use Rattle.lhm_ring.proofs.memory.Steps.{sub, whole, agg, tables, fact, usize, yes, no, owns}
-use Rattle.lhm_ring.proofs.memory.Steps.{layout, param_laws, types_at, plain, Ptr, block_ptr}
-use Rattle.lhm_ring.proofs.memory.Steps.{ptr_val, lies_at, room_for, heard, opens, closes, Stays}
-use Rattle.lhm_ring.proofs.memory.Steps.{stay_dropped, stay_ref, walk_of, Goes-dropped, Goes-ref}
-use Rattle.lhm_ring.proofs.memory.Steps.{after, word, word-Good, proved_at, leaves, arith, knows}
-use Rattle.lhm_ring.proofs.memory.Steps.{states_also, tokens, states, runs_with, self_left}
-use Rattle.std.proofs.Common.{ltb→lt}
-use types.Run.{init}
-use denote.RawPtr.{◌+ₚ◌}
-use Rattle.std.proofs.RawLayout.{as_written}
-use Rattle.lhm_ring.proofs.lists.Apart.{IsFresh, IsApart-added}
-use Rattle.lhm_ring.proofs.memory.BlockValues.{pointer_made, fresh}
-use Rattle.lhm_ring.proofs.memory.PlaceCut.{written, block, Rejoins, block_cut}
-use Rattle.lhm_ring.proofs.memory.NodeFields.{Three, args, RL, RK, RV, lo, Nr, Pl, Land, Cells, word-pointer, alone, value_in, three_rows}
-use Rattle.lhm_ring.proofs.memory.Places.{row-last, is_block-row_first, is_block-row_last}
-use Rattle.lhm_ring.proofs.memory.Places.{AreBlocks-row_other, row-next, block_ptr-in_block}
-use Rattle.lhm_ring.proofs.memory.ChunkPlaces.{land_cut, land_glue, Places, places_cut}
-use Rattle.lhm_ring.specs.contracts.nodes.Nodes.add.{ended, clauses}
-use Rattle.lhm_ring.specs.contracts.nodes.Nodes.add.Key.{name as #self}
-use Rattle.lhm_ring.proofs.nodes.Nodes.add.Statement.{statement}
+use Rattle.lhm_ring.proofs.Names.{List, None, T, [], ap, arith, ltb→lt, refl, subst, sym, true, ℕ, ◌*◌, ◌++◌, ◌+◌, ◌<◌, ◌^◌, ◌∙◌, ◌∷◌, ◌≡◌}
+use Rattle.lhm_ring.proofs.Names.{cell, fields_own, is_block, links_address, node_bytes, places, pointers, row, as_written, word, word-Good}
+use Rattle.lhm_ring.proofs.Names.{after, leaves, proved_at, flft, ftrue, full_share, SProp, fact, tables, usize, no, yes, layout, owns, Ptr}
+use Rattle.lhm_ring.proofs.Names.{block_ptr, lies_at, ptr_val, room_for, ◌+ₚ◌, plain, types_at, closes, heard, opens, Goes-dropped}
+use Rattle.lhm_ring.proofs.Names.{Goes-ref, Stays, stay_dropped, stay_ref, walk_of, inst_fn, w64, Val, vint, vptr, size, size-raw}
+use Rattle.lhm_ring.proofs.Names.{alloc_all, env, free_all, get, get_in, is, look_at, pass_all, sets, sets_last, through, !, at_ret, by}
+use Rattle.lhm_ring.proofs.Names.{drop, feq_i, feq_l, fjoin, fsplit, fsplit3, join, keep, move, qed, raw, rewrite, split, use0, use1, use2}
+use Rattle.lhm_ring.proofs.Names.{‵, ◌$◌, ◌∵◌, ◌⊛◌, agg, sub, whole, addr, and_then, assigns_last, bin, blocks, exec, first, fld, init}
+use Rattle.lhm_ring.proofs.Names.{no_more, of_opd, returns, size_lit, stop}
+use Rattle.lhm_ring.proofs.{lists.Apart.IsApart-added, lists.Apart.IsFresh, memory.Places.row-next, nodes.Nodes.add.Statement.statement}
+use Rattle.lhm_ring.proofs.memory.BlockValues.{fresh, pointer_made}
+use Rattle.lhm_ring.proofs.memory.ChunkPlaces.{Places, land_cut, land_glue, places_cut}
+use Rattle.lhm_ring.proofs.memory.NodeFields.{Cells, Land, Nr, Pl, RK, RL, RV, Three, alone, args, lo, three_rows, value_in, word-pointer}
+use Rattle.lhm_ring.proofs.memory.PlaceCut.{Rejoins, block, block_cut, written}
+use Rattle.lhm_ring.proofs.memory.Places.{AreBlocks-row_other, block_ptr-in_block, is_block-row_first, is_block-row_last, row-last}
+use Rattle.lhm_ring.proofs.memory.Steps.{knows, runs_with, self_left, states, states_also, tokens}
+use Rattle.lhm_ring.specs.contracts.nodes.Nodes.add.{clauses, ended, Key.name as #self}
+use denote.Param.Laws.{param_laws}
 use Rattle.lhm_ring.proofs.nodes.Nodes.add.Code as code
-use Rattle.lhm_ring.specs.Nodes.{cell, is_block, pointers, row, places, links_address, fields_own, node_bytes}
 
 pub add_spec : {M : Type 1} → statement M
 add_spec 𝓤 𝓛 𝓜 𝓡 wired L K V LL LK LV =

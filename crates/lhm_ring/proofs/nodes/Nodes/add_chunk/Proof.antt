@@ -1,49 +1,28 @@
 -- `add_chunk` writes the head of a chunk, and cuts the rest into places. Assumes `Logic`.
-use Rattle.lhm_ring.proofs.memory.Steps.{◌≡◌, ℕ, ◌+◌, ◌*◌, ◌<◌, ◌^◌, true, List, [], ◌∷◌, ◌++◌}
-use Rattle.lhm_ring.proofs.memory.Steps.{refl, sym, ap, subst, Val, vptr, inst_fn, SProp, ftrue}
-use Rattle.lhm_ring.proofs.memory.Steps.{flft, size-raw, ◌∵◌, ‵, raw, ◌⊛◌, ◌$◌, !, qed, by, move}
-use Rattle.lhm_ring.proofs.memory.Steps.{keep, use0, use1, use2, split, join, fsplit, fsplit3}
-use Rattle.lhm_ring.proofs.memory.Steps.{fjoin, rewrite, feq_i, feq_l, stop, fld, of_opd, no_more}
-use Rattle.lhm_ring.proofs.memory.Steps.{and_then, returns, alloc_all, pass_all, free_all, look_at}
-use Rattle.lhm_ring.proofs.memory.Steps.{get, get_in, sets, is, sub, whole, agg, tables, fact, no}
-use Rattle.lhm_ring.proofs.memory.Steps.{owns, types_at, plain, Ptr, block_ptr, ptr_val, room_for}
-use Rattle.lhm_ring.proofs.memory.Steps.{heard, opens, closes, Stays, stay_dropped, stay_ref}
-use Rattle.lhm_ring.proofs.memory.Steps.{walk_of, Goes-ref, word, word-Good, proved_at, leaves}
-use Rattle.lhm_ring.proofs.memory.Steps.{arith, id⊢, ty_array, froom, sem, flt_l, RattleType}
-use Rattle.lhm_ring.proofs.memory.Steps.{in_a_block, one_below, snd∗, via, knows, states_also}
-use Rattle.lhm_ring.proofs.memory.Steps.{tokens, states, runs_with, self_left, ◌∙◌, fjoin3, bin}
-use Rattle.lhm_ring.proofs.memory.Steps.{usize, yes, first, blocks, exec, assigns_last, sets_last}
-use Rattle.lhm_ring.proofs.memory.Steps.{through, env, after, at_ret, w64, vint, Goes-dropped}
-use Rattle.lhm_ring.proofs.memory.Steps.{vstruct, vcons, vnil, fpack, Args, a_type, layouts, param}
-use Rattle.lhm_ring.proofs.memory.Steps.{Ty}
-use Rattle.lhm_ring.proofs.memory.BlockValues.{block_val, block_Good, BlockType, block_known, pointer_made}
-use Rattle.lhm_ring.proofs.memory.ChunkParts.{chunk_parts, chunk-bytes}
-use Rattle.lhm_ring.proofs.memory.ChunkPlaces.{land_cut, land_glue, Places, places_glue, array_cut}
-use Rattle.lhm_ring.proofs.lists.ForAll.{AllByRecursion-append}
-use Rattle.lhm_ring.proofs.memory.NodeFields.{Three, RL, RK, RV, Nr, Pl, Land, Cells, three_rows, two_made, word-pointer}
-use Rattle.lhm_ring.proofs.memory.Places.{AreBlocks-row, row-more, nat_lt-near}
-use Rattle.std.proofs.alloc.Calls.{Goes-blank}
-use Rattle.std.specs.contracts.alloc.Global as heap
-use Rattle.std.specs.contracts.impls.GlobalAllocator.TheImpl.{ghosts}
-use Rattle.std.specs.Allocator.{array_of}
+use Rattle.lhm_ring.proofs.Names.{List, [], ap, arith, refl, subst, sym, true, ℕ, ◌*◌, ◌++◌, ◌+◌, ◌<◌, ◌^◌, ◌∙◌, ◌∷◌, ◌≡◌, Chunk, IsChunk}
+use Rattle.lhm_ring.proofs.Names.{IsUnit, chunk, chunk_token, chunk_type, chunk_units, head_owns, head_type, is_block, node_bytes, pointers}
+use Rattle.lhm_ring.proofs.Names.{row, as_written, word, word-Good, word_ty, after, Goes-blank, one_below, leaves, proved_at, array_of}
+use Rattle.lhm_ring.proofs.Names.{type_size, flft, froom, fsep, ftrue, fwand, SProp, id⊢, snd∗, via, fact, tables, usize, no, yes, layouts}
+use Rattle.lhm_ring.proofs.Names.{param, RattleType, owns, Ptr, block_ptr, in_a_block, ptr_val, room_for, plain, types_at, closes, heard}
+use Rattle.lhm_ring.proofs.Names.{opens, as_fields, Goes-dropped, Goes-ref, Stays, stay_dropped, stay_ref, walk_of, inst_fn, Args, Ty}
+use Rattle.lhm_ring.proofs.Names.{a_type, ty_array, ty_int, w64, Val, vcons, vint, vnil, vptr, vstruct, size-raw, alloc_all, env, free_all}
+use Rattle.lhm_ring.proofs.Names.{get, get_in, is, look_at, pass_all, sets, sets_last, through, !, at_ret, by, feq_i, feq_l, fjoin, fjoin3}
+use Rattle.lhm_ring.proofs.Names.{flt_l, fpack, fsplit, fsplit3, join, keep, move, qed, raw, rewrite, split, use0, use1, use2, ‵, ◌$◌, ◌∵◌}
+use Rattle.lhm_ring.proofs.Names.{◌⊛◌, sem, agg, sub, whole, and_then, assigns_last, bin, blocks, exec, first, fld, init, lit, no_more}
+use Rattle.lhm_ring.proofs.Names.{of_opd, returns, stop}
+use Rattle.lhm_ring.proofs.{lists.ForAll.AllByRecursion-append, memory.PlaceCut.written, nodes.Nodes.add_chunk.Statement.statement}
+use Rattle.lhm_ring.proofs.memory.BlockValues.{BlockType, block_Good, block_known, block_val, pointer_made}
+use Rattle.lhm_ring.proofs.memory.ChunkParts.{chunk-bytes, chunk_parts}
+use Rattle.lhm_ring.proofs.memory.ChunkPlaces.{Places, array_cut, land_cut, land_glue, places_glue}
+use Rattle.lhm_ring.proofs.memory.NodeFields.{Cells, Land, Nr, Pl, RK, RL, RV, Three, three_rows, two_made, word-pointer}
+use Rattle.lhm_ring.proofs.memory.Places.{AreBlocks-row, nat_lt-near, row-more}
+use Rattle.lhm_ring.proofs.memory.Steps.{knows, runs_with, self_left, states, states_also, tokens}
+use Rattle.lhm_ring.specs.{Nodes.parts_own, contracts.nodes.ChunkUnit.the_row as unit, contracts.nodes.Node.the_row as node}
+use Rattle.lhm_ring.specs.contracts.nodes.Nodes.add_chunk.{clauses, ended, Key.name as #self}
 use Rattle.std.proofs.GlobalToken.{dealloc_token_start}
-use types.Run.{init, lit}
-use mir.Syntax.{ty_int}
-use Rattle.std.proofs.RcSteps.{word_ty}
-use denote.Struct.Struct.{as_fields}
-use base.Fml.{fwand}
-use Rattle.std.proofs.RawLayout.{as_written}
-use Rattle.lhm_ring.specs.contracts.nodes.Nodes.add_chunk.{ended, clauses}
-use Rattle.lhm_ring.specs.contracts.nodes.Nodes.add_chunk.Key.{name as #self}
-use Rattle.lhm_ring.proofs.nodes.Nodes.add_chunk.Statement.{statement}
+use Rattle.std.specs.contracts.impls.GlobalAllocator.TheImpl.{ghosts}
+use Rattle.std.specs.contracts.alloc.Global as heap
 use Rattle.lhm_ring.proofs.nodes.Nodes.add_chunk.Code as code
-use Rattle.lhm_ring.specs.Nodes.{is_block, pointers, row, node_bytes, chunk_token, chunk, Chunk, chunk_units, chunk_type, parts_own}
-use Rattle.lhm_ring.specs.Nodes.{head_type, head_owns, IsChunk, IsUnit}
-use Rattle.lhm_ring.specs.contracts.nodes.ChunkUnit.{the_row as unit}
-use Rattle.std.specs.Mem.{type_size}
-use Rattle.lhm_ring.specs.contracts.nodes.Node.{the_row as node}
-use Rattle.lhm_ring.proofs.memory.PlaceCut.{written}
-use base.Fml.{fsep}
 
 pub add_chunk_spec : {M : Type 1} → statement M
 add_chunk_spec 𝓤 𝓛 𝓜 𝓡 wired L K V U LL LK LV LU =

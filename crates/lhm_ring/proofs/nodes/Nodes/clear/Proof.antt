@@ -1,22 +1,15 @@
 -- `clear` makes all nodes places: what they hold is forgotten. Assumes `Logic`.
-use Rattle.lhm_ring.proofs.memory.Steps.{◌≡◌, ℕ, true, List, [], ◌∷◌, ◌++◌, refl, subst, Val, vptr}
-use Rattle.lhm_ring.proofs.memory.Steps.{inst_fn, SProp, ftrue, flft, ◌∵◌, ‵, raw, ◌⊛◌, ◌$◌, !, qed}
-use Rattle.lhm_ring.proofs.memory.Steps.{by, move, keep, use1, use2, split, join, fsplit, fsplit3}
-use Rattle.lhm_ring.proofs.memory.Steps.{fjoin, rewrite, feq_i, feq_l, of_opd, returns, alloc_all}
-use Rattle.lhm_ring.proofs.memory.Steps.{pass_all, free_all, look_at, sets, tables, fact, owns}
-use Rattle.lhm_ring.proofs.memory.Steps.{types_at, plain, Ptr, opens, closes, Stays, stay_ref}
-use Rattle.lhm_ring.proofs.memory.Steps.{walk_of, Goes-ref, proved_at, leaves, emp, vunit, unit_lit}
-use Rattle.lhm_ring.proofs.memory.Steps.{runs_with, states_also, tokens, states, self_left}
-use Rattle.std.proofs.lemmas.List.{append-nil}
-use Rattle.lhm_ring.proofs.lists.Apart.{IsApart-none}
-use Rattle.lhm_ring.proofs.memory.ChunkPlaces.{land_cut, Places, places_glue, cells_emptied}
-use Rattle.lhm_ring.proofs.lists.ForAll.{AllByRecursion-append}
-use Rattle.lhm_ring.proofs.memory.NodeFields.{Three, args, RL, RK, RV, Nr, Land, Cells, three_rows}
-use Rattle.lhm_ring.specs.contracts.nodes.Nodes.clear.{ended, clauses}
-use Rattle.lhm_ring.specs.contracts.nodes.Nodes.clear.Key.{name as #self}
-use Rattle.lhm_ring.proofs.nodes.Nodes.clear.Statement.{statement}
+use Rattle.lhm_ring.proofs.Names.{List, [], append-nil, refl, subst, true, ℕ, ◌++◌, ◌∷◌, ◌≡◌, AreBlocks, is_block, node_bytes, places}
+use Rattle.lhm_ring.proofs.Names.{pointers, leaves, proved_at, flft, ftrue, SProp, emp, fact, tables, owns, Ptr, plain, types_at, closes}
+use Rattle.lhm_ring.proofs.Names.{opens, Goes-ref, Stays, stay_ref, walk_of, inst_fn, Val, vptr, vunit, alloc_all, free_all, look_at}
+use Rattle.lhm_ring.proofs.Names.{pass_all, sets, !, by, feq_i, feq_l, fjoin, fsplit, fsplit3, join, keep, move, qed, raw, rewrite, split}
+use Rattle.lhm_ring.proofs.Names.{use1, use2, ‵, ◌$◌, ◌∵◌, ◌⊛◌, of_opd, returns, unit_lit}
+use Rattle.lhm_ring.proofs.{lists.Apart.IsApart-none, lists.ForAll.AllByRecursion-append, nodes.Nodes.clear.Statement.statement}
+use Rattle.lhm_ring.proofs.memory.ChunkPlaces.{Places, cells_emptied, land_cut, places_glue}
+use Rattle.lhm_ring.proofs.memory.NodeFields.{Cells, Land, Nr, RK, RL, RV, Three, args, three_rows}
+use Rattle.lhm_ring.proofs.memory.Steps.{runs_with, self_left, states, states_also, tokens}
+use Rattle.lhm_ring.specs.contracts.nodes.Nodes.clear.{clauses, ended, Key.name as #self}
 use Rattle.lhm_ring.proofs.nodes.Nodes.clear.Code as code
-use Rattle.lhm_ring.specs.Nodes.{is_block, pointers, AreBlocks, places, node_bytes}
 
 pub clear_spec : {M : Type 1} → statement M
 clear_spec 𝓤 𝓛 𝓜 𝓡 wired L K V LL LK LV =

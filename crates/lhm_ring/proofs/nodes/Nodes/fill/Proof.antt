@@ -1,28 +1,19 @@
 -- `fill` writes over what one node holds, or over uninitialised memory. Assumes `Logic`.
-use Rattle.lhm_ring.proofs.memory.Steps.{◌≡◌, ℕ, ◌+◌, List, [], ◌∷◌, ◌++◌, refl, sym, ap, ◌∙◌}
-use Rattle.lhm_ring.proofs.memory.Steps.{full_share, Val, vptr, inst_fn, SProp, id⊢, flft, ◌∵◌, ‵}
-use Rattle.lhm_ring.proofs.memory.Steps.{raw, ◌⊛◌, at_ret, ◌$◌, !, qed, by, move, keep, use1, use2}
-use Rattle.lhm_ring.proofs.memory.Steps.{split, join, fsplit, fsplit3, fjoin, rewrite, feq_i, stop}
-use Rattle.lhm_ring.proofs.memory.Steps.{fld, addr, of_opd, assigns_last, first, blocks, exec}
-use Rattle.lhm_ring.proofs.memory.Steps.{returns, alloc_all, pass_all, free_all, look_at, get}
-use Rattle.lhm_ring.proofs.memory.Steps.{get_in, through, sets, is, env, sub, whole, tables, fact}
-use Rattle.lhm_ring.proofs.memory.Steps.{yes, no, owns, layout, param_laws, types_at, plain, Ptr}
-use Rattle.lhm_ring.proofs.memory.Steps.{ptr_val, lies_at, heard, opens, closes, Stays}
-use Rattle.lhm_ring.proofs.memory.Steps.{stay_dropped, stay_ref, walk_of, Goes-dropped, Goes-ref}
-use Rattle.lhm_ring.proofs.memory.Steps.{after, word, word-Good, proved_at, leaves, froom}
-use Rattle.lhm_ring.proofs.memory.Steps.{in_a_block, vunit, unit_lit, Some, never, part_at, states}
-use Rattle.lhm_ring.proofs.memory.Steps.{runs_with, self_left, states_also, tokens}
-use types.Run.{init, assigns}
-use Rattle.lhm_ring.proofs.rings.Lookup.{Cut, Cut-links_at}
-use Rattle.lhm_ring.proofs.memory.NodeFields.{Three, args, RL, RK, RV, ko, vo, Node, Nr, Pl, One}
-use Rattle.lhm_ring.proofs.memory.NodeFields.{Land, Cells, word-pointer, alone, body_uninit}
-use Rattle.lhm_ring.proofs.memory.NodeFields.{value_in, three_rows}
-use Rattle.lhm_ring.specs.contracts.nodes.Nodes.fill.{ended, clauses}
-use Rattle.lhm_ring.specs.contracts.nodes.Nodes.fill.Key.{name as #self}
-use Rattle.lhm_ring.proofs.nodes.Nodes.fill.Statement.{statement}
+use Rattle.lhm_ring.proofs.Names.{List, Some, [], ap, refl, sym, ℕ, ◌++◌, ◌+◌, ◌∙◌, ◌∷◌, ◌≡◌, IsAt, body_owns, cell, change, links_address}
+use Rattle.lhm_ring.proofs.Names.{with_body, word, word-Good, after, leaves, proved_at, flft, froom, full_share, SProp, id⊢, never, fact}
+use Rattle.lhm_ring.proofs.Names.{tables, no, yes, part_at, layout, owns, Ptr, in_a_block, lies_at, ptr_val, plain, types_at, closes, heard}
+use Rattle.lhm_ring.proofs.Names.{opens, Goes-dropped, Goes-ref, Stays, stay_dropped, stay_ref, walk_of, inst_fn, Val, vptr, vunit}
+use Rattle.lhm_ring.proofs.Names.{alloc_all, env, free_all, get, get_in, is, look_at, pass_all, sets, through, !, at_ret, by, feq_i, fjoin}
+use Rattle.lhm_ring.proofs.Names.{fsplit, fsplit3, join, keep, move, qed, raw, rewrite, split, use1, use2, ‵, ◌$◌, ◌∵◌, ◌⊛◌, sub, whole}
+use Rattle.lhm_ring.proofs.Names.{addr, assigns, assigns_last, blocks, exec, first, fld, init, of_opd, returns, stop, unit_lit}
+use Rattle.lhm_ring.proofs.memory.NodeFields.{Cells, Land, Node, Nr, One, Pl, RK, RL, RV, Three, alone, args, body_uninit, ko, three_rows}
+use Rattle.lhm_ring.proofs.memory.NodeFields.{value_in, vo, word-pointer}
+use Rattle.lhm_ring.proofs.memory.NodeTaken.{Others, changed_at, node_cut, node_glue}
+use Rattle.lhm_ring.proofs.memory.Steps.{runs_with, self_left, states, states_also, tokens}
+use Rattle.lhm_ring.proofs.{nodes.Nodes.fill.Statement.statement, rings.Lookup.Cut, rings.Lookup.Cut-links_at}
+use Rattle.lhm_ring.specs.contracts.nodes.Nodes.fill.{clauses, ended, Key.name as #self}
+use denote.Param.Laws.{param_laws}
 use Rattle.lhm_ring.proofs.nodes.Nodes.fill.Code as code
-use Rattle.lhm_ring.specs.Nodes.{cell, IsAt, change, with_body, links_address, body_owns}
-use Rattle.lhm_ring.proofs.memory.NodeTaken.{node_cut, node_glue, Others, changed_at}
 
 pub fill_spec : {M : Type 1} → statement M
 fill_spec 𝓤 𝓛 𝓜 𝓡 wired L K V LL LK LV =

@@ -1,12 +1,10 @@
 -- `key` shows the key of one node. Assumes `Logic`.
-use Rattle.std.proofs.Common.{refl}
-use Rattle.lhm_ring.proofs.memory.FieldSeen.{key_lent, Field, field_seen}
-use Rattle.lhm_ring.proofs.rings.Lookup.{Cut-held, held_here}
-use Rattle.lhm_ring.proofs.memory.NodeFields.{Three, three_rows, ko}
+use Rattle.lhm_ring.proofs.Names.{refl, Holds, IsKey, body_at}
+use Rattle.lhm_ring.proofs.memory.FieldSeen.{Field, field_seen, key_lent}
+use Rattle.lhm_ring.proofs.memory.NodeFields.{Three, ko, three_rows}
+use Rattle.lhm_ring.proofs.{nodes.Nodes.key.Statement.statement, rings.Lookup.Cut-held, rings.Lookup.held_here}
 use Rattle.lhm_ring.specs.contracts.nodes.Nodes.key.Key.{name as #self}
-use Rattle.lhm_ring.proofs.nodes.Nodes.key.Statement.{statement}
 use Rattle.lhm_ring.proofs.nodes.Nodes.key.Code as code
-use Rattle.lhm_ring.specs.Nodes.{Holds, IsKey, body_at}
 
 pub key_spec : {M : Type 1} → statement M
 key_spec 𝓤 𝓛 𝓜 𝓡 wired L K V LL LK LV =

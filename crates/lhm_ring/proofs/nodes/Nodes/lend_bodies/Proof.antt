@@ -1,39 +1,24 @@
 -- `lend_bodies` shares the nodes as nodes of holes, and lends what they hold. Assumes `Logic`.
-use Rattle.lhm_ring.proofs.memory.Steps.{◌≡◌, ℕ, List, [], ◌∷◌, ◌++◌, refl, Val, vptr, inst_fn}
-use Rattle.lhm_ring.proofs.memory.Steps.{SProp, emp, id⊢, Fml, ftrue, fsep, flft, ◌∵◌, ‵, raw, ◌⊛◌}
-use Rattle.lhm_ring.proofs.memory.Steps.{at_ret, ◌$◌, !, qed, by, move, keep, use0, use1, use2}
-use Rattle.lhm_ring.proofs.memory.Steps.{split, join, fsplit, fsplit3, fjoin, fjoin3, feq_i, stop}
-use Rattle.lhm_ring.proofs.memory.Steps.{addr, of_opd, no_more, and_then, first, blocks, exec}
-use Rattle.lhm_ring.proofs.memory.Steps.{returns, alloc_all, pass_all, free_all, look_at, get}
-use Rattle.lhm_ring.proofs.memory.Steps.{through, sets, sets_last, env, agg, tables, fact, no, owns}
-use Rattle.lhm_ring.proofs.memory.Steps.{param_laws, types_at, plain, Ptr, nothing, heard, opens}
-use Rattle.lhm_ring.proofs.memory.Steps.{Stays, stay_dropped, walk_of, after, proved_at, leaves}
-use Rattle.lhm_ring.proofs.memory.Steps.{RattleType, Option, named, vstruct, vcons, vnil, Lft}
-use Rattle.lhm_ring.proofs.memory.Steps.{Incl-trans, fobs, fbor, later, pick, await, group, split3}
-use Rattle.lhm_ring.proofs.memory.Steps.{SemTy, ◌⊑◌, follows, mem, hide, Bor, MutBor, mut_ref_to}
-use Rattle.lhm_ring.proofs.memory.Steps.{named_lft, Goes-spent_ref, states_also, tokens, runs_with}
-use Rattle.lhm_ring.proofs.memory.Steps.{all_spent, states}
-use base.Fml.{Incl-refl, fauth, fseps}
-use types.Kit.{some, use3, fpack}
+use Rattle.lhm_ring.proofs.Names.{◌∷◌, cleared_nodes, ContentLoan, Incl-trans, Goes-spent_ref, stay_dropped, takes_beside, Body as Borrowed}
+use Rattle.lhm_ring.proofs.Names.{bodies_of, after, proved_at, Incl-refl, RattleType, mut_ref_to, named_lft, types_at, alloc_all, sets_last}
+use Rattle.lhm_ring.proofs.Names.{◌≡◌, seconds, follows, nothing, walk_of, inst_fn, vstruct, free_all, look_at, pass_all, through, and_then}
+use Rattle.lhm_ring.proofs.Names.{Option, bodies, firsts, leaves, tables, MutBor, MutRef, ShrRef, at_ret, fjoin3, fsplit3, no_more, returns}
+use Rattle.lhm_ring.proofs.Names.{Fml, fauth, fseps, ftrue, SProp, plain, heard, opens, Stays, named, vcons, fsplit, split3, blocks, of_opd}
+use Rattle.lhm_ring.proofs.Names.{Lft, fact, hide, owns, vnil, vptr, sets, join, keep, move, pick, some, use0, use1, use2, use3, addr, exec}
+use Rattle.lhm_ring.proofs.Names.{List, refl, ◌++◌, fbor, flft, fobs, fsep, await, feq_i, fjoin, fpack, group, later, split, first, SemTy}
+use Rattle.lhm_ring.proofs.Names.{[], ℕ, emp, id⊢, ◌⊑◌, no, mem, Ptr, Bor, Val, env, get, !, by, qed, raw, ‵, ◌$◌, ◌∵◌, ◌⊛◌, agg, stop}
+use Rattle.lhm_ring.proofs.memory.ContentsSplitOff.{Anchor, BareRow, ContentMarker, Fields, HS, HW, Holed, LentBodies, Shares-bare}
+use Rattle.lhm_ring.proofs.memory.ContentsSplitOff.{anchor_made, back, content_loan_made, contents_cut, fields_made, stems, three_made}
+use Rattle.lhm_ring.proofs.memory.NodeFields.{Land, Nr, RK, RL, RV, Three, args, marker, three_rows}
+use Rattle.lhm_ring.proofs.memory.Steps.{all_spent, runs_with, states, states_also, tokens}
+use Rattle.lhm_ring.proofs.nodes.Nodes.lend_bodies.Statement.{statement}
+use Rattle.lhm_ring.specs.contracts.nodes.Nodes.lend_bodies.{clauses, ended, Key.name as #self}
+use denote.Param.Laws.{param_laws}
 use types.Tokens.{name_new}
-use types.Follow.{takes_beside}
-use types.SemTy.{Body as Borrowed}
-use denote.Ref.{ShrRef, MutRef}
-use Rattle.lhm_ring.specs.declared.content_loan.ContentLoan.{ContentLoan}
 use Rattle.lhm_ring.specs.contracts.content_loan.ContentLoan as S-type
 use Rattle.lhm_ring.proofs.value_loan.Hole.TheLaws as H-laws
 use Rattle.lhm_ring.proofs.nodes.Nodes.TheLaws as N-laws
-use Rattle.lhm_ring.proofs.memory.NodeFields.{Three, args, RL, RK, RV, Nr, Land, marker, three_rows}
-use Rattle.lhm_ring.proofs.memory.ContentsSplitOff.{HS, HW, stems, contents_cut, Fields, LentBodies}
-use Rattle.lhm_ring.proofs.memory.ContentsSplitOff.{fields_made, back, BareRow, Holed, Shares-bare}
-use Rattle.lhm_ring.proofs.memory.ContentsSplitOff.{ContentMarker, content_loan_made, Anchor}
-use Rattle.lhm_ring.proofs.memory.ContentsSplitOff.{anchor_made, three_made}
-use Rattle.lhm_ring.specs.contracts.nodes.Nodes.lend_bodies.{ended, clauses}
-use Rattle.lhm_ring.specs.contracts.nodes.Nodes.lend_bodies.Key.{name as #self}
-use Rattle.lhm_ring.proofs.nodes.Nodes.lend_bodies.Statement.{statement}
 use Rattle.lhm_ring.proofs.nodes.Nodes.lend_bodies.Code as code
-use Rattle.lhm_ring.specs.RingAfterLoan.{cleared_nodes}
-use Rattle.lhm_ring.specs.ContentLoan.{bodies, bodies_of, firsts, seconds}
 
 pub lend_bodies_spec : {M : Type 1} → statement M
 unfolding fseps

@@ -1,12 +1,10 @@
 -- `links` shows the links of one node. Assumes `Logic`.
-use Rattle.std.proofs.Common.{◌≡◌, refl, ap, Some}
-use Rattle.lhm_ring.proofs.memory.FieldSeen.{links_lent, Field, field_seen}
-use Rattle.lhm_ring.proofs.rings.Lookup.{Cut-links_at}
-use Rattle.lhm_ring.proofs.memory.NodeFields.{Three, three_rows, lo}
+use Rattle.lhm_ring.proofs.Names.{Some, ap, refl, ◌≡◌, IsAt, links_at, links_of}
+use Rattle.lhm_ring.proofs.memory.FieldSeen.{Field, field_seen, links_lent}
+use Rattle.lhm_ring.proofs.memory.NodeFields.{Three, lo, three_rows}
+use Rattle.lhm_ring.proofs.{nodes.Nodes.links.Statement.statement, rings.Lookup.Cut-links_at}
 use Rattle.lhm_ring.specs.contracts.nodes.Nodes.links.Key.{name as #self}
-use Rattle.lhm_ring.proofs.nodes.Nodes.links.Statement.{statement}
 use Rattle.lhm_ring.proofs.nodes.Nodes.links.Code as code
-use Rattle.lhm_ring.specs.Nodes.{IsAt, links_at, links_of}
 
 pub links_spec : {M : Type 1} → statement M
 links_spec 𝓤 𝓛 𝓜 𝓡 wired L K V LL LK LV =

@@ -1,17 +1,12 @@
 -- `new` owns nothing yet. Assumes `Logic`.
-use Rattle.lhm_ring.proofs.memory.Steps.{◌≡◌, ℕ, [], ◌∷◌, refl, Val, inst_fn, SProp, ftrue, ◌∵◌, ‵}
-use Rattle.lhm_ring.proofs.memory.Steps.{raw, ◌⊛◌, ◌$◌, !, qed, by, keep, use0, split, fjoin, feq_i}
-use Rattle.lhm_ring.proofs.memory.Steps.{no_more, and_then, returns, alloc_all, pass_all, free_all}
-use Rattle.lhm_ring.proofs.memory.Steps.{look_at, get, sets, agg, tables, Stays, walk_of, proved_at}
-use Rattle.lhm_ring.proofs.memory.Steps.{leaves, nothing, enter, states, tokens, states_also}
-use Rattle.lhm_ring.proofs.lists.Apart.{IsApart-none}
-use Rattle.lhm_ring.proofs.memory.Places.{places-none}
-use Rattle.lhm_ring.proofs.memory.NodeFields.{Three, args, RL, RK, RV, Nr, Marker, marker, marker_made, three_rows}
-use Rattle.lhm_ring.specs.contracts.nodes.Nodes.new.{ended, clauses}
-use Rattle.lhm_ring.specs.contracts.nodes.Nodes.new.Key.{name as #self}
-use Rattle.lhm_ring.proofs.nodes.Nodes.new.Statement.{statement}
+use Rattle.lhm_ring.proofs.Names.{[], refl, ℕ, ◌∷◌, ◌≡◌, node_bytes, leaves, proved_at, ftrue, SProp, tables, nothing, Stays, walk_of}
+use Rattle.lhm_ring.proofs.Names.{inst_fn, Val, alloc_all, free_all, get, look_at, pass_all, sets, !, by, feq_i, fjoin, keep, qed, raw}
+use Rattle.lhm_ring.proofs.Names.{split, use0, ‵, ◌$◌, ◌∵◌, ◌⊛◌, agg, and_then, enter, no_more, returns}
+use Rattle.lhm_ring.proofs.{lists.Apart.IsApart-none, memory.Places.places-none, nodes.Nodes.new.Statement.statement}
+use Rattle.lhm_ring.proofs.memory.NodeFields.{Marker, Nr, RK, RL, RV, Three, args, marker, marker_made, three_rows}
+use Rattle.lhm_ring.proofs.memory.Steps.{states, states_also, tokens}
+use Rattle.lhm_ring.specs.contracts.nodes.Nodes.new.{clauses, ended, Key.name as #self}
 use Rattle.lhm_ring.proofs.nodes.Nodes.new.Code as code
-use Rattle.lhm_ring.specs.Nodes.{node_bytes}
 
 pub new_spec : {M : Type 1} → statement M
 new_spec 𝓤 𝓛 𝓜 𝓡 wired L K V LL LK LV =

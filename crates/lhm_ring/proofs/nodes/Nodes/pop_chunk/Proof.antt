@@ -1,47 +1,26 @@
 -- `pop_chunk` reads the head of a chunk, and makes head and places a block. Assumes `Logic`.
-use Rattle.lhm_ring.proofs.memory.Steps.{◌≡◌, ℕ, ◌+◌, ◌*◌, ◌<◌, ◌^◌, true, List, [], ◌∷◌, ◌++◌}
-use Rattle.lhm_ring.proofs.memory.Steps.{refl, sym, ap, ◌∙◌, subst, Val, vptr, vint, w64, inst_fn}
-use Rattle.lhm_ring.proofs.memory.Steps.{SProp, flft, size, size-raw, ◌∵◌, ‵, raw, ◌⊛◌, ◌$◌, !, qed}
-use Rattle.lhm_ring.proofs.memory.Steps.{by, move, keep, use0, use1, use2, split, join, fsplit}
-use Rattle.lhm_ring.proofs.memory.Steps.{fsplit3, fjoin, fjoin3, rewrite, feq_i, feq_l, stop, fld}
-use Rattle.lhm_ring.proofs.memory.Steps.{of_opd, no_more, and_then, returns, alloc_all, pass_all}
-use Rattle.lhm_ring.proofs.memory.Steps.{free_all, look_at, get, get_in, sets, sets_last, is, sub}
-use Rattle.lhm_ring.proofs.memory.Steps.{whole, agg, tables, fact, usize, yes, owns, types_at}
-use Rattle.lhm_ring.proofs.memory.Steps.{plain, Ptr, block_ptr, ptr_val, heard, opens, closes}
-use Rattle.lhm_ring.proofs.memory.Steps.{Stays, stay_dropped, through, stay_ref, walk_of}
-use Rattle.lhm_ring.proofs.memory.Steps.{Goes-dropped, Goes-ref, word, word-Good, proved_at, leaves}
-use Rattle.lhm_ring.proofs.memory.Steps.{ty_array, froom, flt_i, room_for, in_a_block, RattleType}
-use Rattle.lhm_ring.proofs.memory.Steps.{self_left, states, tokens, runs_with, first, blocks}
-use Rattle.lhm_ring.proofs.memory.Steps.{states_also, exec, after, at_ret, env, fpick, vstruct}
-use Rattle.lhm_ring.proofs.memory.Steps.{vcons, vnil, Args, a_type, layouts, layout, param, Ty, id⊢}
-use Rattle.lhm_ring.proofs.memory.Steps.{sem, as_raw}
-use base.Fml.{fwand}
-use base.Logic.{apply∗}
-use denote.RawPtr.{◌+ₚ◌}
-use denote.Struct.Struct.{as_fields}
-use mir.Syntax.{ty_int, ty_ptr, ty_struct, tcons, tnil}
-use types.Part.{look_in}
-use types.Run.{load}
-use Rattle.std.proofs.RcSteps.{word_ty}
-use Rattle.std.specs.Mem.{type_size}
-use Rattle.std.proofs.lemmas.List.{append-nil}
-use Rattle.lhm_ring.proofs.lists.Apart.{IsApart-none}
-use Rattle.lhm_ring.proofs.memory.BlockValues.{block_val, block_Good, BlockType, BlockFields, block_made, pointer_made}
-use Rattle.lhm_ring.proofs.memory.PlaceCut.{block}
-use Rattle.lhm_ring.proofs.memory.ChunkPlaces.{Places, Chunks, places_cut, array_glue}
-use Rattle.lhm_ring.proofs.memory.Lodging.{three_made}
-use Rattle.lhm_ring.proofs.lists.ForAll.{AllByRecursion-right}
-use Rattle.lhm_ring.proofs.memory.NodeFields.{Three, RL, RK, RV, Node, Nr, Pl, Land, Cells, word-pointer, three_rows}
-use Rattle.lhm_ring.proofs.memory.Places.{places-head}
-use Rattle.std.specs.contracts.alloc.Global as heap
+use Rattle.lhm_ring.proofs.Names.{List, [], ap, append-nil, refl, subst, sym, true, ℕ, ◌*◌, ◌++◌, ◌+◌, ◌<◌, ◌^◌, ◌∙◌, ◌∷◌, ◌≡◌, AreBlocks}
+use Rattle.lhm_ring.proofs.Names.{Chunk, IsChunk, IsUnit, chunk, chunk_token, chunk_type, chunk_units, head_owns, head_type, head_val}
+use Rattle.lhm_ring.proofs.Names.{is_block, node_bytes, places, pointers, row, as_raw, word, word-Good, word_ty, after, leaves, proved_at}
+use Rattle.lhm_ring.proofs.Names.{type_size, flft, froom, fwand, SProp, apply∗, id⊢, fact, tables, usize, yes, layout, layouts, param}
+use Rattle.lhm_ring.proofs.Names.{RattleType, owns, Ptr, block_ptr, in_a_block, ptr_val, room_for, ◌+ₚ◌, plain, types_at, closes, heard}
+use Rattle.lhm_ring.proofs.Names.{opens, as_fields, Goes-dropped, Goes-ref, Stays, stay_dropped, stay_ref, walk_of, inst_fn, Args, Ty}
+use Rattle.lhm_ring.proofs.Names.{a_type, tcons, tnil, ty_array, ty_int, ty_ptr, ty_struct, w64, Val, vcons, vint, vnil, vptr, vstruct}
+use Rattle.lhm_ring.proofs.Names.{size, size-raw, alloc_all, env, free_all, get, get_in, !, is, look_at, pass_all, sets, sets_last, through}
+use Rattle.lhm_ring.proofs.Names.{at_ret, by, feq_i, feq_l, fjoin, fjoin3, flt_i, fpick, fsplit, fsplit3, join, keep, move, qed, raw}
+use Rattle.lhm_ring.proofs.Names.{rewrite, split, use0, use1, use2, ‵, ◌$◌, ◌∵◌, ◌⊛◌, sem, agg, look_in, sub, whole, and_then, blocks, exec}
+use Rattle.lhm_ring.proofs.Names.{first, fld, load, no_more, of_opd, returns, stop}
+use Rattle.lhm_ring.proofs.{lists.Apart.IsApart-none, lists.ForAll.AllByRecursion-right, nodes.Nodes.pop_chunk.Statement.statement}
+use Rattle.lhm_ring.proofs.memory.BlockValues.{BlockFields, BlockType, block_Good, block_made, block_val, pointer_made}
+use Rattle.lhm_ring.proofs.memory.ChunkPlaces.{Chunks, Places, array_glue, places_cut}
+use Rattle.lhm_ring.proofs.memory.{Lodging.three_made, PlaceCut.block, Places.places-head}
+use Rattle.lhm_ring.proofs.memory.NodeFields.{Cells, Land, Node, Nr, Pl, RK, RL, RV, Three, three_rows, word-pointer}
+use Rattle.lhm_ring.proofs.memory.Steps.{runs_with, self_left, states, states_also, tokens}
+use Rattle.lhm_ring.specs.{Nodes.parts_own, contracts.nodes.ChunkUnit.the_row as unit}
+use Rattle.lhm_ring.specs.contracts.nodes.Nodes.pop_chunk.{clauses, ended, Key.name as #self}
 use Rattle.std.specs.contracts.impls.GlobalAllocator.TheImpl.{ghosts}
-use Rattle.lhm_ring.specs.contracts.nodes.ChunkUnit.{the_row as unit}
-use Rattle.lhm_ring.specs.contracts.nodes.Nodes.pop_chunk.{ended, clauses}
-use Rattle.lhm_ring.specs.contracts.nodes.Nodes.pop_chunk.Key.{name as #self}
-use Rattle.lhm_ring.proofs.nodes.Nodes.pop_chunk.Statement.{statement}
+use Rattle.std.specs.contracts.alloc.Global as heap
 use Rattle.lhm_ring.proofs.nodes.Nodes.pop_chunk.Code as code
-use Rattle.lhm_ring.specs.Nodes.{is_block, pointers, AreBlocks, row, places, node_bytes, chunk_token, chunk, Chunk, chunk_units}
-use Rattle.lhm_ring.specs.Nodes.{chunk_type, parts_own, head_type, head_val, head_owns, IsChunk, IsUnit}
 
 pub pop_chunk_spec : {M : Type 1} → statement M
 pop_chunk_spec 𝓤 𝓛 𝓜 𝓡 wired L K V U LL LK LV LU =

@@ -1,28 +1,19 @@
 -- `set_links` writes the links of one node. Assumes `Logic`.
-use Rattle.lhm_ring.proofs.memory.Steps.{◌≡◌, ℕ, ◌+◌, List, [], ◌∷◌, ◌++◌, refl, sym, ap, ◌∙◌}
-use Rattle.lhm_ring.proofs.memory.Steps.{full_share, Val, vptr, inst_fn, SProp, id⊢, flft, ◌∵◌, ‵}
-use Rattle.lhm_ring.proofs.memory.Steps.{raw, ◌⊛◌, at_ret, ◌$◌, !, qed, by, move, keep, drop, use1}
-use Rattle.lhm_ring.proofs.memory.Steps.{use2, split, join, fsplit, fsplit3, fjoin, rewrite, feq_i}
-use Rattle.lhm_ring.proofs.memory.Steps.{stop, fld, addr, of_opd, assigns_last, first, blocks, exec}
-use Rattle.lhm_ring.proofs.memory.Steps.{returns, alloc_all, pass_all, free_all, look_at, get}
-use Rattle.lhm_ring.proofs.memory.Steps.{get_in, through, sets, is, env, sub, whole, tables, fact}
-use Rattle.lhm_ring.proofs.memory.Steps.{yes, no, owns, layout, param_laws, types_at, plain, Ptr}
-use Rattle.lhm_ring.proofs.memory.Steps.{ptr_val, lies_at, heard, opens, closes, Stays}
-use Rattle.lhm_ring.proofs.memory.Steps.{stay_dropped, stay_ref, walk_of, Goes-dropped, Goes-ref}
-use Rattle.lhm_ring.proofs.memory.Steps.{after, word, word-Good, proved_at, leaves, in_a_block}
-use Rattle.lhm_ring.proofs.memory.Steps.{vunit, unit_lit, never, part_at, tokens, runs_with}
-use Rattle.lhm_ring.proofs.memory.Steps.{self_left, states, states_also}
-use types.Run.{store}
-use Rattle.lhm_ring.proofs.rings.Lookup.{Cut, Cut-links_at}
-use Rattle.lhm_ring.proofs.memory.NodeFields.{Three, args, RL, RK, RV, lo, Node, Nr, Pl, One, Land}
-use Rattle.lhm_ring.proofs.memory.NodeFields.{Cells, word-pointer, alone, value_in, three_rows}
-use Rattle.lhm_ring.proofs.memory.NodeFields.{value_known}
-use Rattle.lhm_ring.specs.contracts.nodes.Nodes.set_links.{ended, clauses}
-use Rattle.lhm_ring.specs.contracts.nodes.Nodes.set_links.Key.{name as #self}
-use Rattle.lhm_ring.proofs.nodes.Nodes.set_links.Statement.{statement}
+use Rattle.lhm_ring.proofs.Names.{List, [], ap, refl, sym, ℕ, ◌++◌, ◌+◌, ◌∙◌, ◌∷◌, ◌≡◌, IsAt, cell, change, links_address, with_links, word}
+use Rattle.lhm_ring.proofs.Names.{word-Good, after, leaves, proved_at, flft, full_share, SProp, id⊢, never, fact, tables, no, yes, part_at}
+use Rattle.lhm_ring.proofs.Names.{layout, owns, Ptr, in_a_block, lies_at, ptr_val, plain, types_at, closes, heard, opens, Goes-dropped}
+use Rattle.lhm_ring.proofs.Names.{Goes-ref, Stays, stay_dropped, stay_ref, walk_of, inst_fn, Val, vptr, vunit, alloc_all, env, free_all}
+use Rattle.lhm_ring.proofs.Names.{get, get_in, is, look_at, pass_all, sets, through, !, at_ret, by, drop, feq_i, fjoin, fsplit, fsplit3}
+use Rattle.lhm_ring.proofs.Names.{join, keep, move, qed, raw, rewrite, split, use1, use2, ‵, ◌$◌, ◌∵◌, ◌⊛◌, sub, whole, addr, assigns_last}
+use Rattle.lhm_ring.proofs.Names.{blocks, exec, first, fld, of_opd, returns, stop, store, unit_lit}
+use Rattle.lhm_ring.proofs.memory.NodeFields.{Cells, Land, Node, Nr, One, Pl, RK, RL, RV, Three, alone, args, lo, three_rows, value_in}
+use Rattle.lhm_ring.proofs.memory.NodeFields.{value_known, word-pointer}
+use Rattle.lhm_ring.proofs.memory.NodeTaken.{Others, changed_at, node_cut, node_glue}
+use Rattle.lhm_ring.proofs.memory.Steps.{runs_with, self_left, states, states_also, tokens}
+use Rattle.lhm_ring.proofs.{nodes.Nodes.set_links.Statement.statement, rings.Lookup.Cut, rings.Lookup.Cut-links_at}
+use Rattle.lhm_ring.specs.contracts.nodes.Nodes.set_links.{clauses, ended, Key.name as #self}
+use denote.Param.Laws.{param_laws}
 use Rattle.lhm_ring.proofs.nodes.Nodes.set_links.Code as code
-use Rattle.lhm_ring.specs.Nodes.{cell, IsAt, change, with_links, links_address}
-use Rattle.lhm_ring.proofs.memory.NodeTaken.{node_cut, node_glue, Others, changed_at}
 
 pub set_links_spec : {M : Type 1} → statement M
 set_links_spec 𝓤 𝓛 𝓜 𝓡 wired L K V LL LK LV =

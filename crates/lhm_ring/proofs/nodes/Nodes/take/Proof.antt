@@ -1,30 +1,19 @@
 -- `take` moves out what one node holds, and leaves it uninitialised. Assumes `Logic`.
-use Rattle.lhm_ring.proofs.memory.Steps.{◌≡◌, ℕ, ◌+◌, [], ◌∷◌, ◌++◌, refl, sym, ap, ◌∙◌, None}
-use Rattle.lhm_ring.proofs.memory.Steps.{full_share, Val, vptr, inst_fn, SProp, flft, ◌∵◌, ‵, raw}
-use Rattle.lhm_ring.proofs.memory.Steps.{◌⊛◌, at_ret, ◌$◌, !, qed, by, move, keep, use1, use2}
-use Rattle.lhm_ring.proofs.memory.Steps.{split, join, fsplit, fsplit3, fjoin, rewrite, stop, fld}
-use Rattle.lhm_ring.proofs.memory.Steps.{addr, of_opd, no_more, and_then, first, blocks, exec}
-use Rattle.lhm_ring.proofs.memory.Steps.{returns, alloc_all, pass_all, free_all, look_at, get}
-use Rattle.lhm_ring.proofs.memory.Steps.{get_in, through, sets, sets_last, is, env, sub, whole, agg}
-use Rattle.lhm_ring.proofs.memory.Steps.{tables, fact, yes, owns, layout, types_at, plain, Ptr}
-use Rattle.lhm_ring.proofs.memory.Steps.{ptr_val, lies_at, heard, opens, closes, Stays}
-use Rattle.lhm_ring.proofs.memory.Steps.{stay_dropped, stay_ref, walk_of, Goes-dropped, Goes-ref}
-use Rattle.lhm_ring.proofs.memory.Steps.{after, word, word-Good, proved_at, leaves, id⊢, in_a_block}
-use Rattle.lhm_ring.proofs.memory.Steps.{Some, never, Option, vstruct, vcons, vnil, pick, some, fat}
-use Rattle.lhm_ring.proofs.memory.Steps.{given, learn, Good, states, self_left, tokens, states_also}
-use Rattle.lhm_ring.proofs.memory.Steps.{runs_with}
-use types.Run.{load, look}
-use Rattle.lhm_ring.proofs.rings.Lookup.{Cut, Cut-held, held_here}
-use Rattle.lhm_ring.proofs.memory.NodeFields.{Three, args, RL, RK, RV, ko, vo, Node, Nr, Pl, One}
-use Rattle.lhm_ring.proofs.memory.NodeFields.{Land, Cells, word-pointer, two_made, value_out}
-use Rattle.lhm_ring.proofs.memory.NodeFields.{three_rows, value_known, forgotten}
-use denote.Struct.Struct.{as_fields}
-use Rattle.lhm_ring.specs.contracts.nodes.Nodes.take.{ended, clauses}
-use Rattle.lhm_ring.specs.contracts.nodes.Nodes.take.Key.{name as #self}
-use Rattle.lhm_ring.proofs.nodes.Nodes.take.Statement.{statement}
+use Rattle.lhm_ring.proofs.Names.{None, Option, Some, [], ap, refl, sym, ℕ, ◌++◌, ◌+◌, ◌∙◌, ◌∷◌, ◌≡◌, Holds, body_at, body_owns, cell}
+use Rattle.lhm_ring.proofs.Names.{change, links_address, with_body, Good, word, word-Good, after, leaves, proved_at, fat, flft, full_share}
+use Rattle.lhm_ring.proofs.Names.{SProp, id⊢, never, fact, tables, yes, layout, owns, Ptr, in_a_block, lies_at, ptr_val, plain, types_at}
+use Rattle.lhm_ring.proofs.Names.{closes, heard, opens, as_fields, Goes-dropped, Goes-ref, Stays, stay_dropped, stay_ref, walk_of, inst_fn}
+use Rattle.lhm_ring.proofs.Names.{Val, vcons, vnil, vptr, vstruct, alloc_all, env, free_all, get, get_in, is, look_at, pass_all, sets}
+use Rattle.lhm_ring.proofs.Names.{sets_last, through, !, at_ret, by, fjoin, fsplit, fsplit3, given, join, keep, learn, move, pick, qed, raw}
+use Rattle.lhm_ring.proofs.Names.{rewrite, some, split, use1, use2, ‵, ◌$◌, ◌∵◌, ◌⊛◌, agg, sub, whole, addr, and_then, blocks, exec, first}
+use Rattle.lhm_ring.proofs.Names.{fld, load, look, no_more, of_opd, returns, stop}
+use Rattle.lhm_ring.proofs.memory.NodeFields.{Cells, Land, Node, Nr, One, Pl, RK, RL, RV, Three, args, forgotten, ko, three_rows, two_made}
+use Rattle.lhm_ring.proofs.memory.NodeFields.{value_known, value_out, vo, word-pointer}
+use Rattle.lhm_ring.proofs.memory.NodeTaken.{Others, changed_at, node_cut, node_glue}
+use Rattle.lhm_ring.proofs.memory.Steps.{runs_with, self_left, states, states_also, tokens}
+use Rattle.lhm_ring.proofs.{nodes.Nodes.take.Statement.statement, rings.Lookup.Cut, rings.Lookup.Cut-held, rings.Lookup.held_here}
+use Rattle.lhm_ring.specs.contracts.nodes.Nodes.take.{clauses, ended, Key.name as #self}
 use Rattle.lhm_ring.proofs.nodes.Nodes.take.Code as code
-use Rattle.lhm_ring.specs.Nodes.{cell, Holds, change, body_at, with_body, links_address, body_owns}
-use Rattle.lhm_ring.proofs.memory.NodeTaken.{node_cut, node_glue, Others, changed_at}
 
 pub take_spec : {M : Type 1} → statement M
 take_spec 𝓤 𝓛 𝓜 𝓡 wired L K V LL LK LV =

@@ -1,12 +1,10 @@
 -- `value` shows the value of one node. Assumes `Logic`.
-use Rattle.std.proofs.Common.{refl}
-use Rattle.lhm_ring.proofs.memory.FieldSeen.{value_lent, Field, field_seen}
-use Rattle.lhm_ring.proofs.rings.Lookup.{Cut-held, held_here}
+use Rattle.lhm_ring.proofs.Names.{refl, Holds, IsValue, body_at}
+use Rattle.lhm_ring.proofs.memory.FieldSeen.{Field, field_seen, value_lent}
 use Rattle.lhm_ring.proofs.memory.NodeFields.{Three, three_rows, vo}
+use Rattle.lhm_ring.proofs.{nodes.Nodes.value.Statement.statement, rings.Lookup.Cut-held, rings.Lookup.held_here}
 use Rattle.lhm_ring.specs.contracts.nodes.Nodes.value.Key.{name as #self}
-use Rattle.lhm_ring.proofs.nodes.Nodes.value.Statement.{statement}
 use Rattle.lhm_ring.proofs.nodes.Nodes.value.Code as code
-use Rattle.lhm_ring.specs.Nodes.{Holds, IsValue, body_at}
 
 pub value_spec : {M : Type 1} → statement M
 value_spec 𝓤 𝓛 𝓜 𝓡 wired L K V LL LK LV =

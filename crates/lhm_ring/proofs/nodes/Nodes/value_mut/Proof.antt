@@ -1,31 +1,20 @@
 -- `value_mut` lends the value that one node holds, and the nodes follow it. Assumes `Logic`.
-use Rattle.lhm_ring.proofs.memory.Steps.{◌≡◌, ℕ, ◌+◌, List, [], ◌∷◌, ◌++◌, refl, sym, ap, ◌∙◌}
-use Rattle.lhm_ring.proofs.memory.Steps.{full_share, Val, vptr, inst_fn, SProp, flft, ◌∵◌, ‵, raw}
-use Rattle.lhm_ring.proofs.memory.Steps.{◌⊛◌, at_ret, ◌$◌, !, qed, by, move, keep, use1, use2}
-use Rattle.lhm_ring.proofs.memory.Steps.{split, join, fsplit, fsplit3, fjoin, rewrite, stop, fld}
-use Rattle.lhm_ring.proofs.memory.Steps.{addr, of_opd, first, blocks, exec, returns, alloc_all}
-use Rattle.lhm_ring.proofs.memory.Steps.{pass_all, free_all, look_at, get, get_in, through, sets}
-use Rattle.lhm_ring.proofs.memory.Steps.{sets_last, is, env, sub, whole, tables, fact, yes, no}
-use Rattle.lhm_ring.proofs.memory.Steps.{owns, types_at, plain, Ptr, block_ptr, ptr_val, lies_at}
-use Rattle.lhm_ring.proofs.memory.Steps.{heard, opens, Stays, stay_dropped, walk_of, Goes-dropped}
-use Rattle.lhm_ring.proofs.memory.Steps.{after, word, word-Good, proved_at, leaves, id⊢, sem}
-use Rattle.lhm_ring.proofs.memory.Steps.{in_a_block, never, part_at, Fml, fsep, fjoin3}
-use Rattle.lhm_ring.proofs.memory.Steps.{Option, named, Lft, later, pick, await, group, split3}
-use Rattle.lhm_ring.proofs.memory.Steps.{follows, mem, MutBor, mut_ref_to, Goes-spent_ref, some}
-use Rattle.lhm_ring.proofs.memory.Steps.{fpack, ent, Ura, Logic, sep, done, part_of, states, tokens}
-use Rattle.lhm_ring.proofs.memory.Steps.{all_spent, runs_with}
+use Rattle.lhm_ring.proofs.Names.{List, Option, [], ap, refl, sym, ℕ, ◌++◌, ◌+◌, ◌∙◌, ◌∷◌, ◌≡◌, Holds, IsValue, body_at, body_owns, cell}
+use Rattle.lhm_ring.proofs.Names.{change, deed_owns, key_address, links_address, value_address, holding, value_set, word, word-Good, after}
+use Rattle.lhm_ring.proofs.Names.{leaves, proved_at, Fml, Lft, flft, fsep, full_share, SProp, ent, id⊢, never, sep, fact, tables, no, yes}
+use Rattle.lhm_ring.proofs.Names.{Part, follows, lends_Part, mem, part_at, part_of, owns, Ptr, block_ptr, in_a_block, lies_at, ptr_val}
+use Rattle.lhm_ring.proofs.Names.{MutBor, MutRef, mut_ref_to, plain, types_at, heard, opens, Goes-dropped, Goes-spent_ref, Stays}
+use Rattle.lhm_ring.proofs.Names.{stay_dropped, walk_of, inst_fn, named, Val, vptr, Ura, alloc_all, env, free_all, get, get_in, is, look_at}
+use Rattle.lhm_ring.proofs.Names.{pass_all, sets, sets_last, through, !, at_ret, await, by, done, fjoin, fjoin3, fpack, fsplit, fsplit3}
+use Rattle.lhm_ring.proofs.Names.{group, join, keep, later, move, pick, qed, raw, rewrite, some, split, split3, use1, use2, ‵, ◌$◌, ◌∵◌}
+use Rattle.lhm_ring.proofs.Names.{◌⊛◌, Logic, sem, sub, whole, addr, blocks, exec, first, fld, of_opd, returns, stop}
+use Rattle.lhm_ring.proofs.memory.NodeFields.{Cells, Land, Marker, Node, Nr, One, Pl, RK, RL, RV, Three, args, three_rows, vo, word-pointer}
+use Rattle.lhm_ring.proofs.memory.NodeTaken.{Others, node_cut, node_glue}
+use Rattle.lhm_ring.proofs.memory.Steps.{all_spent, runs_with, states, tokens}
+use Rattle.lhm_ring.proofs.{nodes.Nodes.value_mut.Statement.statement, rings.Lookup.Cut, rings.Lookup.Cut-held, rings.Lookup.held_here}
+use Rattle.lhm_ring.specs.contracts.nodes.Nodes.value_mut.{clauses, ended, Key.name as #self}
 use denote.Memory.{cell_at}
-use denote.Ref.{MutRef}
-use denote.Follow.{Part, lends_Part}
-use Rattle.lhm_ring.proofs.rings.Lookup.{Cut, Cut-held, held_here}
-use Rattle.lhm_ring.proofs.memory.NodeFields.{Three, args, RL, RK, RV, vo, Node, Nr, Marker, Pl, One, Land, Cells, word-pointer, three_rows}
-use Rattle.lhm_ring.specs.contracts.nodes.Nodes.value_mut.{ended, clauses}
-use Rattle.lhm_ring.specs.contracts.nodes.Nodes.value_mut.Key.{name as #self}
-use Rattle.lhm_ring.proofs.nodes.Nodes.value_mut.Statement.{statement}
 use Rattle.lhm_ring.proofs.nodes.Nodes.value_mut.Code as code
-use Rattle.lhm_ring.specs.RingAfterLoan.{holding, value_set}
-use Rattle.lhm_ring.specs.Nodes.{cell, change, Holds, IsValue, body_at, links_address, key_address, value_address, body_owns, deed_owns}
-use Rattle.lhm_ring.proofs.memory.NodeTaken.{node_cut, node_glue, Others}
 
 module _ (E : Three) {M : Type 1} {𝓤 : Ura M} (𝓛 : Logic 𝓤) (h : (Nr E).Denot) {p : Ptr}
     (k : Cut h.cells p) (held : Holds h.cells p) (vs : List Val) (rb ro : ℕ) where

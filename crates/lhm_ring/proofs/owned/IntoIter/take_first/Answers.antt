@@ -1,7 +1,6 @@
-use Rattle.std.proofs.Common.{[], ap, sym, ◌∙◌}
+use Rattle.lhm_ring.proofs.Names.{[], ap, sym, ◌∙◌, pointer_of_some}
 use Rattle.lhm_ring.proofs.rings.Ends.{First-first_at, first_held, triples-first}
 use Rattle.lhm_ring.proofs.owned.IntoIter.take_first.Goals as goal
-use Rattle.lhm_ring.specs.Pointer.{pointer_of_some}
 
 pub unlink-requires : goal.unlink-requires
 unlink-requires g c = first_held (First-first_at c.self.inside.ring.held c.first.ensures (ap pointer_of_some c.in_ok-at.was))

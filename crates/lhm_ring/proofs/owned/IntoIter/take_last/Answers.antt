@@ -1,7 +1,6 @@
-use Rattle.std.proofs.Common.{[], ap, sym, ◌∙◌}
+use Rattle.lhm_ring.proofs.Names.{[], ap, sym, ◌∙◌, pointer_of_some}
 use Rattle.lhm_ring.proofs.rings.Ends.{Last-last_at, last_held, triples-last}
 use Rattle.lhm_ring.proofs.owned.IntoIter.take_last.Goals as goal
-use Rattle.lhm_ring.specs.Pointer.{pointer_of_some}
 
 pub unlink-requires : goal.unlink-requires
 unlink-requires g c = last_held (Last-last_at c.self.inside.ring.held c.last.ensures.last (ap pointer_of_some c.in_ok-at.was))

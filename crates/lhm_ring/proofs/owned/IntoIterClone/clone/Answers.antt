@@ -1,9 +1,8 @@
-use Rattle.std.proofs.Common.{◌≡◌, ℕ, List, [], ◌∷◌, ◌++◌, length, append_assoc, append-nil, sym, ap, ◌∙◌, subst, refl, arith}
-use Rattle.std.specs.List.{AllZip}
-use Rattle.std.proofs.lemmas.Result.{MatchResult-from_err}
+use Rattle.lhm_ring.proofs.Names.{List, [], ap, append-nil, append_assoc, arith, length, refl, subst, sym, ℕ, ◌++◌, ◌∙◌, ◌∷◌, ◌≡◌, Held}
+use Rattle.lhm_ring.proofs.Names.{IsTripleClone, triples, AllZip}
 use Rattle.lhm_ring.proofs.rings.Ends.{AllZip-last, triples-pushed}
+use Rattle.std.proofs.lemmas.Result.{MatchResult-from_err}
 use Rattle.lhm_ring.proofs.owned.IntoIterClone.clone.Goals as goal
-use Rattle.lhm_ring.specs.Ring.{Held, triples, IsTripleClone}
 
 pub loop-hash-init : goal.loop-hash-init
 loop-hash-init g c =

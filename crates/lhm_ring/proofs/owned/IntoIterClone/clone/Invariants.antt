@@ -1,7 +1,5 @@
-use Rattle.std.proofs.Common.{◌≡◌, ℕ, List, ◌++◌, length}
-use Rattle.std.specs.List.{AllZip}
+use Rattle.lhm_ring.proofs.Names.{List, length, ℕ, ◌++◌, ◌≡◌, IsTripleClone, triples, AllZip}
 use Rattle.lhm_ring.proofs.owned.IntoIterClone.clone.Given as goal
-use Rattle.lhm_ring.specs.Ring.{triples, IsTripleClone}
 
 abbrev pub invariant-loop-hash : goal.invariant-loop-hash
 invariant-loop-hash g l = record {

@@ -1,9 +1,6 @@
-use Rattle.std.proofs.Common.{sym, ap, subst}
-use Rattle.std.specs.Prelude.{is_some}
-use denote.RawPtr.{InBlock}
+use Rattle.lhm_ring.proofs.Names.{ap, subst, sym, is_some, led_to, InBlock}
 use Rattle.lhm_ring.proofs.indexes.BucketHeads.{Testable-null_or_block, led_to-in_block}
 use Rattle.lhm_ring.proofs.pointer.Link.get.Goals as goal
-use Rattle.lhm_ring.specs.Pointer.{led_to}
 
 pub new-requires : goal.new-requires
 new-requires g c = Testable-null_or_block c.args.self.ptr c.args.self.comparable

@@ -1,9 +1,6 @@
-use Rattle.std.proofs.Common.{sym, ap, subst}
-use denote.RawPtr.{InBlock}
-use Rattle.lhm_ring.proofs.indexes.BucketHeads.{Testable-null_or_block}
-use Rattle.lhm_ring.proofs.memory.Places.{is_null-in_block}
+use Rattle.lhm_ring.proofs.Names.{ap, subst, sym, is_null, InBlock}
+use Rattle.lhm_ring.proofs.{indexes.BucketHeads.Testable-null_or_block, memory.Places.is_null-in_block}
 use Rattle.lhm_ring.proofs.pointer.NodePointer.is_null.Goals as goal
-use Rattle.lhm_ring.specs.Nodes.{is_null}
 
 pub new-requires : goal.new-requires
 new-requires c = Testable-null_or_block c.args.self.ptr c.requires

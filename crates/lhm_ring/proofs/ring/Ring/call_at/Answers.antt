@@ -1,13 +1,8 @@
-use Rattle.std.proofs.Common.{None, Some, ap, subst, ◌∙◌}
-use Rattle.std.specs.Map.Calls.{CalledAtPair}
-use Rattle.lhm_ring.proofs.memory.OneNodeChanged.{links_at-with_body}
-use Rattle.lhm_ring.proofs.rings.ContentChange.{ChangesOnly-held}
-use Rattle.lhm_ring.proofs.rings.Insides.{IsAt-inside, Holds-inside, pair-inside, IsOwned-set_value, ring_list-set_value}
-use Rattle.lhm_ring.proofs.tables.Retained.{with_body-twice}
-use Rattle.lhm_ring.proofs.memory.Places.{IsLaid-same}
+use Rattle.lhm_ring.proofs.Names.{None, Some, ap, subst, ◌∙◌, links_at, with_body, pair, state, CalledAtPair}
+use Rattle.lhm_ring.proofs.memory.{OneNodeChanged.links_at-with_body, Places.IsLaid-same}
+use Rattle.lhm_ring.proofs.{rings.ContentChange.ChangesOnly-held, tables.Retained.with_body-twice}
+use Rattle.lhm_ring.proofs.rings.Insides.{Holds-inside, IsAt-inside, IsOwned-set_value, pair-inside, ring_list-set_value}
 use Rattle.lhm_ring.proofs.ring.Ring.call_at.Goals as goal
-use Rattle.lhm_ring.specs.Nodes.{links_at, with_body}
-use Rattle.lhm_ring.specs.Ring.{state, pair}
 
 pub take-key-requires : goal.take-key-requires
 take-key-requires g c = Holds-inside c.self.inside c.self.invariant c.self.view_is c.args.at.block c.requires.held

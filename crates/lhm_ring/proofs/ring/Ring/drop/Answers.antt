@@ -1,5 +1,5 @@
-use Rattle.std.proofs.Common.{refl}
-use Rattle.lhm_ring.proofs.rings.Ends.{First-first_at, first_held, none-first_at, length-removed}
+use Rattle.lhm_ring.proofs.Names.{refl}
+use Rattle.lhm_ring.proofs.rings.Ends.{First-first_at, first_held, length-removed, none-first_at}
 use Rattle.lhm_ring.proofs.ring.Ring.drop.Goals as goal
 
 pub unlink-key-requires : goal.unlink-key-requires

@@ -1,8 +1,6 @@
-use Rattle.std.proofs.Common.{◌∙◌, ap, sym}
-use Rattle.lhm_ring.proofs.rings.FirstAndLast.{led_to-first}
-use Rattle.lhm_ring.proofs.rings.RingCells.{next_at-null}
+use Rattle.lhm_ring.proofs.Names.{ap, sym, ◌∙◌, led_to}
+use Rattle.lhm_ring.proofs.rings.{FirstAndLast.led_to-first, RingCells.next_at-null}
 use Rattle.lhm_ring.proofs.ring.Ring.first.Goals as goal
-use Rattle.lhm_ring.specs.Pointer.{led_to}
 
 pub returns : goal.returns
 returns g c =

@@ -1,6 +1,5 @@
-use Rattle.std.proofs.Common.{◌∙◌, ◌+◌, length}
-use Rattle.lhm_ring.proofs.rings.NodesGrown.{nodes_grown-exact}
-use Rattle.lhm_ring.proofs.lists.Results.{OnOk-then}
+use Rattle.lhm_ring.proofs.Names.{length, ◌+◌, ◌∙◌}
+use Rattle.lhm_ring.proofs.{lists.Results.OnOk-then, rings.NodesGrown.nodes_grown-exact}
 use Rattle.lhm_ring.proofs.ring.Ring.grow.Goals as goal
 
 pub returns-clause-nodes : goal.returns-clause-nodes

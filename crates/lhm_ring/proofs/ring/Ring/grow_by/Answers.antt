@@ -1,12 +1,9 @@
-use Rattle.std.proofs.Common.{◌≡◌, ◌+◌, ◌<◌, ◌∙◌, length, ap, sym, subst, arith, refl}
-use Rattle.std.specs.Prelude.{max}
-use Rattle.lhm_ring.proofs.memory.Places.{length-made, IsLaid-grown}
-use Rattle.lhm_ring.proofs.rings.Insides.{counts-seen}
-use Rattle.lhm_ring.proofs.rings.NodesGrown.{nodes_grown-fewer}
+use Rattle.lhm_ring.proofs.Names.{ap, arith, length, max, refl, subst, sym, ◌+◌, ◌<◌, ◌∙◌, ◌≡◌, IsOwned, ring_cells, ring_list, Chunk}
+use Rattle.lhm_ring.proofs.Names.{chunk}
+use Rattle.lhm_ring.proofs.memory.Places.{IsLaid-grown, length-made}
+use Rattle.lhm_ring.proofs.rings.{Insides.counts-seen, NodesGrown.nodes_grown-fewer}
 use Rattle.lhm_ring.proofs.rings.Stacking.{IsOwned-raised, IsOwned-stacked, ring_list-stacked}
 use Rattle.lhm_ring.proofs.ring.Ring.grow_by.Goals as goal
-use Rattle.lhm_ring.specs.Nodes.{Chunk, chunk}
-use Rattle.lhm_ring.specs.Links.{ring_cells, ring_list, IsOwned}
 
 pub overflow_sub-missing : goal.overflow_sub-missing
 overflow_sub-missing g c =

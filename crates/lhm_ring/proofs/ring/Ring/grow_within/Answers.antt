@@ -1,6 +1,5 @@
-use Rattle.std.proofs.Common.{◌+◌, ◌∙◌, length, sym, arith}
-use Rattle.lhm_ring.proofs.rings.Insides.{counts-within, counts-seen, IsWhole-raised}
-use Rattle.lhm_ring.proofs.rings.NodesGrown.{nodes_grown-enough}
+use Rattle.lhm_ring.proofs.Names.{arith, length, sym, ◌+◌, ◌∙◌}
+use Rattle.lhm_ring.proofs.rings.{Insides.IsWhole-raised, Insides.counts-seen, Insides.counts-within, NodesGrown.nodes_grown-enough}
 use Rattle.lhm_ring.proofs.ring.Ring.grow_within.Goals as goal
 
 pub overflow_sub-min : goal.overflow_sub-min

@@ -1,7 +1,6 @@
-use Rattle.std.proofs.Common.{◌∙◌, ap, refl}
+use Rattle.lhm_ring.proofs.Names.{ap, refl, ◌∙◌, State, triples}
 use Rattle.lhm_ring.proofs.rings.RingSpans.{IsSpan-ring, listed-ring}
 use Rattle.lhm_ring.proofs.ring.Ring.into_pairs.Goals as goal
-use Rattle.lhm_ring.specs.Ring.{State, triples}
 
 pub invariant_of-result : goal.invariant_of-result
 invariant_of-result g c =

@@ -1,7 +1,6 @@
-use Rattle.std.proofs.Common.{◌∙◌, ap}
+use Rattle.lhm_ring.proofs.Names.{ap, ◌∙◌, State}
 use Rattle.lhm_ring.proofs.rings.RingSpans.{IsSpan-ring, listed-ring}
 use Rattle.lhm_ring.proofs.ring.Ring.iter.Goals as goal
-use Rattle.lhm_ring.specs.Ring.{State}
 
 pub invariant_of-result : goal.invariant_of-result
 invariant_of-result g c = let i = c.self.inside in

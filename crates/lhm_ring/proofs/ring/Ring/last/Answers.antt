@@ -1,9 +1,6 @@
-use Rattle.std.proofs.Common.{◌∙◌, ap, sym}
-use Rattle.lhm_ring.proofs.rings.FirstAndLast.{led_to-last}
-use Rattle.lhm_ring.proofs.rings.RingCells.{prev_at-null}
-use Rattle.lhm_ring.proofs.rings.HeldPointers.{IsApart-held}
+use Rattle.lhm_ring.proofs.Names.{ap, sym, ◌∙◌, led_to}
+use Rattle.lhm_ring.proofs.rings.{FirstAndLast.led_to-last, HeldPointers.IsApart-held, RingCells.prev_at-null}
 use Rattle.lhm_ring.proofs.ring.Ring.last.Goals as goal
-use Rattle.lhm_ring.specs.Pointer.{led_to}
 
 pub returns-clause-last : goal.returns-clause-last
 returns-clause-last g c =

@@ -1,6 +1,5 @@
-use Rattle.std.proofs.Common.{suc, ap}
-use Rattle.lhm_ring.proofs.rings.RingNodes.{length-held, length-bounded, length-within}
-use Rattle.lhm_ring.proofs.rings.Insides.{length-cells}
+use Rattle.lhm_ring.proofs.Names.{ap, suc}
+use Rattle.lhm_ring.proofs.rings.{Insides.length-cells, RingNodes.length-bounded, RingNodes.length-held, RingNodes.length-within}
 use Rattle.lhm_ring.proofs.ring.Ring.len.Goals as goal
 
 pub returns : goal.returns

@@ -1,43 +1,30 @@
 -- `lend` shares the ring as one of holes, and lends the values. Assumes `Logic`.
-use Rattle.lhm_ring.proofs.memory.Steps.{◌≡◌, ℕ, List, [], ◌∷◌, ◌++◌, refl, sym, subst, full_share}
-use Rattle.lhm_ring.proofs.memory.Steps.{Val, vptr, inst_fn, SProp, ftrue, flft, ◌∵◌, ‵, raw, ◌⊛◌}
-use Rattle.lhm_ring.proofs.memory.Steps.{at_ret, ◌$◌, !, qed, by, move, keep, drop, use0, use1}
-use Rattle.lhm_ring.proofs.memory.Steps.{use2, split, join, fsplit, fsplit3, fjoin, rewrite, feq_i}
-use Rattle.lhm_ring.proofs.memory.Steps.{stop, addr, of_opd, no_more, and_then, first, blocks, exec}
-use Rattle.lhm_ring.proofs.memory.Steps.{returns, alloc_all, pass_all, free_all, look_at, get}
-use Rattle.lhm_ring.proofs.memory.Steps.{through, sets, sets_last, env, agg, tables, fact, no, owns}
-use Rattle.lhm_ring.proofs.memory.Steps.{param_laws, types_at, plain, Ptr, heard, Stays}
-use Rattle.lhm_ring.proofs.memory.Steps.{stay_dropped, walk_of, after, proved_at, leaves, id⊢, sem}
-use Rattle.lhm_ring.proofs.memory.Steps.{RattleType, emp, part_at, Fml, nothing, named, vstruct}
-use Rattle.lhm_ring.proofs.memory.Steps.{vcons, vnil, Lft, Incl-trans, fobs, fbor, later, pick}
-use Rattle.lhm_ring.proofs.memory.Steps.{await, group, split3, SemTy, ◌⊑◌, follows, mem, hide, Bor}
-use Rattle.lhm_ring.proofs.memory.Steps.{mut_ref_to, named_lft, Goes-spent_ref, fseps, some, ent}
-use Rattle.lhm_ring.proofs.memory.Steps.{Ura, Logic, framed, Is, a_type, layouts, open_ref, fact_i}
-use Rattle.lhm_ring.proofs.memory.Steps.{param, states, tokens, all_spent, runs_with}
-use base.Fml.{Incl-refl}
-use types.ByLocal.{lands_as}
-use types.Follow.{takes_beside, takes_part, after as afterwards}
-use types.SemTy.{Body as Borrowed}
-use mathlib.Core.Option as maybe
-use base.Fml.{GName}
-use denote.Array.{Array}
-use denote.Laws.{shows}
-use denote.Triple.Call.{calls_at}
-use denote.Triple.Clauses.{Lasts, lasts}
-use denote.Triple.Spec.{triple_of}
-use denote.Follow.{follows_by, follows_if}
-use denote.Model.Fields.{view_owns, view-Hides, plain_out}
-use denote.Param.Shared.{parts_share}
-use denote.Ref.{ShrRef}
-use denote.Steps.{peeks}
-use denote.Struct.Declared as declared
+use Rattle.lhm_ring.proofs.Names.{subst, with_values, Incl-trans, parts_share, Goes-spent_ref, stay_dropped, takes_beside, Body as Borrowed}
+use Rattle.lhm_ring.proofs.Names.{AreLent, ValueLoan, proved_at, Incl-refl, plain_out, view_owns, named_lft, types_at, alloc_all, sets_last}
+use Rattle.lhm_ring.proofs.Names.{ℕ, spread, leaves, fact_i, tables, inst_fn, vstruct, look_at, through, fsplit3, rewrite, no_more, returns}
+use Rattle.lhm_ring.proofs.Names.{List, refl, ◌++◌, fbor, flft, fobs, fact, hide, owns, vnil, vptr, sets, later, split, Logic, first, SemTy}
+use Rattle.lhm_ring.proofs.Names.{sym, ◌∷◌, ◌≡◌, Fml, Lft, emp, ent, drop, join, keep, move, pick, some, use0, use1, use2, addr, exec, stop}
+use Rattle.lhm_ring.proofs.Names.{held_left, loan_name, full_share, follows_by, follows_if, view-Hides, RattleType, mut_ref_to, takes_part}
+use Rattle.lhm_ring.proofs.Names.{State, Links, after, GName, fseps, ftrue, ShrRef, framed, a_type, at_ret, fsplit, split3, blocks, of_opd}
+use Rattle.lhm_ring.proofs.Names.{follows, part_at, layouts, nothing, calls_at, walk_of, free_all, lands_as, pass_all, open_ref, and_then}
+use Rattle.lhm_ring.proofs.Names.{SProp, Array, param, plain, heard, peeks, Lasts, lasts, Stays, named, vcons, await, feq_i, fjoin, group}
+use Rattle.lhm_ring.proofs.Names.{[], id⊢, ◌⊑◌, no, mem, Ptr, Bor, Val, Ura, env, get, !, by, qed, raw, ‵, ◌$◌, ◌∵◌, ◌⊛◌, sem, agg}
+use Rattle.lhm_ring.proofs.memory.{NodeFields.marker, NodeFields.struct_made, ValuesInOrder.held_values, ValuesReplaced.run_of}
+use Rattle.lhm_ring.proofs.memory.Steps.{all_spent, runs_with, states, tokens}
+use Rattle.lhm_ring.proofs.memory.ValuesSplitOff.{AreLent-entries, As, Fields, Full, Inside, LoanMarker, Sharable-unvalued, Thinned, Vals}
+use Rattle.lhm_ring.proofs.memory.ValuesSplitOff.{at_pointers, back, entries, good, kept_by, loan_made, named as listed_as, ordered_back}
+use Rattle.lhm_ring.proofs.memory.ValuesSplitOff.{parts, placed, placed-own, ring_cut, thin_shape, thinned, vals, view}
+use Rattle.lhm_ring.proofs.ring.Ring.lend.Statement.{statement}
+use Rattle.lhm_ring.specs.contracts.ring.Ring.lend.{clauses, ended, Key.name as #self}
 use Rattle.lhm_ring.specs.declared.value_loan.LentValues.{LentValues}
+use denote.{Laws.Is, Laws.shows, Param.Laws.param_laws, Triple.Spec.triple_of}
+use types.Follow.{after as afterwards}
+use mathlib.Core.Option as maybe
+use denote.Struct.Declared as declared
 use Rattle.lhm_ring.specs.contracts.iter.IterMut as I-iter
 use Rattle.lhm_ring.specs.contracts.iter.IterMut.of as g
 use Rattle.lhm_ring.proofs.iter.IterMut.of.Met as of-thm
 use Rattle.lhm_ring.proofs.iter.IterMut.TheLaws as iter-laws
-use Rattle.lhm_ring.specs.declared.value_loan.ValueLoan.{ValueLoan}
-use Rattle.lhm_ring.specs.declared.ring.Links.{Links}
 use Rattle.lhm_ring.specs.contracts.ring.Links as links
 use Rattle.lhm_ring.specs.contracts.value_loan.Hole as H-type
 use Rattle.lhm_ring.specs.contracts.value_loan.LentValues as T-type
@@ -47,23 +34,7 @@ use Rattle.lhm_ring.specs.contracts.ring.Ring.TheInside as I-type
 use Rattle.lhm_ring.proofs.ring.Links.TheLaws as links-laws
 use Rattle.lhm_ring.proofs.value_loan.Hole.TheLaws as H-laws
 use Rattle.lhm_ring.proofs.ring.Ring.TheInside.TheLaws as I-laws
-use Rattle.lhm_ring.proofs.memory.NodeFields.{marker, struct_made}
-use Rattle.lhm_ring.proofs.memory.ValuesReplaced.{run_of}
-use Rattle.lhm_ring.proofs.memory.ValuesSplitOff.{Inside, Full, parts, thin_shape, Thinned, thinned}
-use Rattle.lhm_ring.proofs.memory.ValuesSplitOff.{Sharable-unvalued, at_pointers, vals, kept_by}
-use Rattle.lhm_ring.proofs.memory.ValuesSplitOff.{entries, As, Vals, named as listed_as, view, good}
-use Rattle.lhm_ring.proofs.memory.ValuesSplitOff.{Fields, ring_cut, back, placed, placed-own}
-use Rattle.lhm_ring.proofs.memory.ValuesSplitOff.{ordered_back, AreLent-entries, LoanMarker}
-use Rattle.lhm_ring.proofs.memory.ValuesSplitOff.{loan_made}
-use Rattle.lhm_ring.specs.contracts.ring.Ring.lend.{ended, clauses}
-use Rattle.lhm_ring.specs.contracts.ring.Ring.lend.Key.{name as #self}
-use Rattle.lhm_ring.proofs.ring.Ring.lend.Statement.{statement}
 use Rattle.lhm_ring.proofs.ring.Ring.lend.Code as code
-use Rattle.lhm_ring.specs.ValueLoan.{spread, AreLent}
-use Rattle.lhm_ring.specs.Ring.{State}
-use Rattle.lhm_ring.proofs.memory.ValuesInOrder.{held_values}
-use Rattle.lhm_ring.specs.RingAfterLoan.{with_values}
-use Rattle.lhm_ring.specs.Iter.{held_left, loan_name}
 
 -- what follows a name that a result has
 by_name : {M : Type 1} {𝓤 : Ura M} (𝓛 : Logic 𝓤) (R T : RattleType) (γ ν : GName) (F : T.Denot

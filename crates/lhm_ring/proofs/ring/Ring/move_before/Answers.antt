@@ -1,12 +1,8 @@
-use Rattle.std.proofs.Common.{◌∙◌}
-use Rattle.lhm_ring.proofs.rings.Moves.{is_there-neighbours, is_there-moved, is_there-before, is_there-previous, is_there-next}
-use Rattle.lhm_ring.proofs.rings.Moves.{IsOwned-before, AtHeld-before, ring_list-own, IfSome-pointer}
-use Rattle.lhm_ring.proofs.rings.RingCells.{links_at-ring_cells}
-use Rattle.lhm_ring.proofs.rings.HeldPointers.{IsApart-held}
-use Rattle.lhm_ring.proofs.memory.Places.{IsLaid-same}
-use Rattle.lhm_ring.proofs.rings.Insides.{IsAt-inside}
+use Rattle.lhm_ring.proofs.Names.{◌∙◌, IsHeld}
+use Rattle.lhm_ring.proofs.{memory.Places.IsLaid-same, rings.Moves.is_there-next, rings.Moves.is_there-previous, rings.Moves.ring_list-own}
+use Rattle.lhm_ring.proofs.rings.{HeldPointers.IsApart-held, Insides.IsAt-inside, RingCells.links_at-ring_cells}
+use Rattle.lhm_ring.proofs.rings.Moves.{AtHeld-before, IfSome-pointer, IsOwned-before, is_there-before, is_there-moved, is_there-neighbours}
 use Rattle.lhm_ring.proofs.ring.Ring.move_before.Goals as goal
-use Rattle.lhm_ring.specs.Ring.{IsHeld}
 
 pub links-links-requires : goal.links-links-requires
 links-links-requires g c = IsAt-inside c.self.inside c.self.invariant c.self.view_is c.args.at.block c.requires.at

@@ -1,11 +1,8 @@
-use Rattle.std.proofs.Common.{◌++◌, [], refl, ◌∙◌, ap, sym, append-nil}
-use Rattle.lhm_ring.proofs.rings.Moves.{is_there-neighbours, is_there-moved, is_there-previous, next_at-back, IsOwned-before, AtHeld-before}
-use Rattle.lhm_ring.proofs.rings.RingCells.{links_at-ring_cells, prev_at-null, is_there-nowhere}
-use Rattle.lhm_ring.proofs.rings.HeldPointers.{IsApart-held}
-use Rattle.lhm_ring.proofs.memory.Places.{IsLaid-same}
-use Rattle.lhm_ring.proofs.rings.Insides.{IsAt-inside}
+use Rattle.lhm_ring.proofs.Names.{[], ap, append-nil, refl, sym, ◌++◌, ◌∙◌, null_ptr}
+use Rattle.lhm_ring.proofs.{memory.Places.IsLaid-same, rings.HeldPointers.IsApart-held, rings.Insides.IsAt-inside}
+use Rattle.lhm_ring.proofs.rings.Moves.{AtHeld-before, IsOwned-before, is_there-moved, is_there-neighbours, is_there-previous, next_at-back}
+use Rattle.lhm_ring.proofs.rings.RingCells.{is_there-nowhere, links_at-ring_cells, prev_at-null}
 use Rattle.lhm_ring.proofs.ring.Ring.move_to_back.Goals as goal
-use denote.RawPtr.{null_ptr}
 
 pub links-links-requires : goal.links-links-requires
 links-links-requires g c = IsAt-inside c.self.inside c.self.invariant c.self.view_is c.args.at.block c.requires

@@ -1,8 +1,5 @@
-use Rattle.std.proofs.Common.{◌∙◌}
-use Rattle.lhm_ring.proofs.rings.Neighbours.{AtHeld-previous}
-use Rattle.lhm_ring.proofs.rings.RingCells.{links_at-ring_cells}
-use Rattle.lhm_ring.proofs.rings.HeldPointers.{IsApart-held}
-use Rattle.lhm_ring.proofs.rings.Insides.{IsAt-inside}
+use Rattle.lhm_ring.proofs.Names.{◌∙◌}
+use Rattle.lhm_ring.proofs.rings.{HeldPointers.IsApart-held, Insides.IsAt-inside, Neighbours.AtHeld-previous, RingCells.links_at-ring_cells}
 use Rattle.lhm_ring.proofs.ring.Ring.previous.Goals as goal
 
 pub links-requires : goal.links-requires

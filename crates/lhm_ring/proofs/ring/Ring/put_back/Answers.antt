@@ -1,14 +1,9 @@
-use Rattle.std.proofs.Common.{◌∙◌, ◌-◌, None, ap, sym, subst, refl}
-use denote.RawPtr.{Ptr}
-use Rattle.lhm_ring.proofs.rings.PutBackAndUnlink.{IsSome-spare, IsAt-spare, Ready-spare}
-use Rattle.lhm_ring.proofs.rings.PutBackAndUnlink.{links_at-written, Filled-node, is_there-filled}
-use Rattle.lhm_ring.proofs.rings.PutBackAndUnlink.{IsOwned-put_back, ring_list-put_back}
-use Rattle.lhm_ring.proofs.rings.RingCells.{IsAt-in_nodes, prev_at-null, is_there-nowhere, led_to-some, led_to-none, IsJoined-same}
-use Rattle.lhm_ring.proofs.rings.HeldPointers.{IsApart-ring_list}
-use Rattle.lhm_ring.proofs.memory.Places.{IsLaid-same}
+use Rattle.lhm_ring.proofs.Names.{None, ap, refl, subst, sym, ◌-◌, ◌∙◌, IsThere, ring_cells, held, pair, Ptr}
+use Rattle.lhm_ring.proofs.{memory.Places.IsLaid-same, rings.HeldPointers.IsApart-ring_list}
+use Rattle.lhm_ring.proofs.rings.PutBackAndUnlink.{Filled-node, IsAt-spare, IsOwned-put_back, IsSome-spare, Ready-spare, is_there-filled}
+use Rattle.lhm_ring.proofs.rings.PutBackAndUnlink.{links_at-written, ring_list-put_back}
+use Rattle.lhm_ring.proofs.rings.RingCells.{IsAt-in_nodes, IsJoined-same, is_there-nowhere, led_to-none, led_to-some, prev_at-null}
 use Rattle.lhm_ring.proofs.ring.Ring.put_back.Goals as goal
-use Rattle.lhm_ring.specs.Links.{ring_cells, IsThere}
-use Rattle.lhm_ring.specs.Ring.{held, pair}
 
 pub position-at-requires : goal.position-at-requires
 position-at-requires g c = IsSome-spare c.self.invariant.ring c.self.view_is c.requires

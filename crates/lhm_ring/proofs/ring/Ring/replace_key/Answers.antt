@@ -1,12 +1,8 @@
-use Rattle.std.proofs.Common.{◌≡◌, None, Some, ap, ◌∙◌}
-use Rattle.lhm_ring.proofs.memory.OneNodeChanged.{links_at-with_body}
-use Rattle.lhm_ring.proofs.rings.ContentChange.{ChangesOnly-held}
-use Rattle.lhm_ring.proofs.rings.Insides.{IsAt-inside, Holds-inside, pair-inside, IsOwned-set_key, ring_list-set_key}
-use Rattle.lhm_ring.proofs.tables.Retained.{with_body-twice}
-use Rattle.lhm_ring.proofs.memory.Places.{IsLaid-same}
+use Rattle.lhm_ring.proofs.Names.{None, Some, ap, ◌∙◌, ◌≡◌, links_at, with_body, pair, rekeyed}
+use Rattle.lhm_ring.proofs.memory.{OneNodeChanged.links_at-with_body, Places.IsLaid-same}
+use Rattle.lhm_ring.proofs.{rings.ContentChange.ChangesOnly-held, tables.Retained.with_body-twice}
+use Rattle.lhm_ring.proofs.rings.Insides.{Holds-inside, IsAt-inside, IsOwned-set_key, pair-inside, ring_list-set_key}
 use Rattle.lhm_ring.proofs.ring.Ring.replace_key.Goals as goal
-use Rattle.lhm_ring.specs.Nodes.{links_at, with_body}
-use Rattle.lhm_ring.specs.Ring.{pair, rekeyed}
 
 pub take-old-requires : goal.take-old-requires
 take-old-requires g c = Holds-inside c.self.inside c.self.invariant c.self.view_is c.args.at.block c.requires

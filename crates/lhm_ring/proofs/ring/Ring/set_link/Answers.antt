@@ -1,12 +1,9 @@
-use Rattle.std.proofs.Common.{◌∙◌, ap, sym, subst, refl}
-use Rattle.lhm_ring.proofs.memory.BlockPointers.{AreBlocks-held}
-use Rattle.lhm_ring.proofs.rings.ReadAtPosition.{content_at-held, IsAt-held}
-use Rattle.lhm_ring.proofs.rings.RingCells.{IsAt-in_nodes, ChainsTo-ring_cells}
-use Rattle.lhm_ring.proofs.rings.ContentChange.{ChangesAt-with_links, IsOwned-changed, ring_list-changed, ChangesOnly-held}
-use Rattle.lhm_ring.proofs.memory.Places.{IsLaid-same}
+use Rattle.lhm_ring.proofs.Names.{ap, refl, subst, sym, ◌∙◌, IsOwned, ring_cells, ring_list, Held, linked_to}
+use Rattle.lhm_ring.proofs.memory.{BlockPointers.AreBlocks-held, Places.IsLaid-same}
+use Rattle.lhm_ring.proofs.rings.ContentChange.{ChangesAt-with_links, ChangesOnly-held, IsOwned-changed, ring_list-changed}
+use Rattle.lhm_ring.proofs.rings.ReadAtPosition.{IsAt-held, content_at-held}
+use Rattle.lhm_ring.proofs.rings.RingCells.{ChainsTo-ring_cells, IsAt-in_nodes}
 use Rattle.lhm_ring.proofs.ring.Ring.set_link.Goals as goal
-use Rattle.lhm_ring.specs.Links.{ring_cells, IsOwned, ring_list}
-use Rattle.lhm_ring.specs.Ring.{Held, linked_to}
 
 pub set_chain-requires : goal.set_chain-requires
 set_chain-requires g c =

@@ -1,11 +1,7 @@
-use Rattle.std.proofs.Common.{◌∙◌, ◌+◌, ap, sym, subst, refl}
+use Rattle.lhm_ring.proofs.Names.{ap, refl, subst, sym, ◌+◌, ◌∙◌, cleared, with_bodies, IsSpan, ring_cells, span_triples, state, triples}
+use Rattle.lhm_ring.proofs.memory.{NodesWithBodies.IsOwned-cleared, NodesWithBodies.with_bodies-own, Places.IsLaid-same}
 use Rattle.lhm_ring.proofs.rings.RingNodes.{length-held, ring_list-none}
-use Rattle.lhm_ring.proofs.memory.NodesWithBodies.{with_bodies-own, IsOwned-cleared}
-use Rattle.lhm_ring.proofs.memory.Places.{IsLaid-same}
 use Rattle.lhm_ring.proofs.ring.Ring.splice_all.Goals as goal
-use Rattle.lhm_ring.specs.Links.{ring_cells, IsSpan, span_triples}
-use Rattle.lhm_ring.specs.Ring.{state, triples}
-use Rattle.lhm_ring.specs.ContentLoan.{with_bodies, cleared}
 
 pub splice-requires : goal.splice-requires
 splice-requires g c = let i = c.self.inside in (i.spares, c.self.invariant.ring)

@@ -1,14 +1,8 @@
-use Rattle.std.proofs.Common.{◌∙◌, ◌+◌, None, ap}
-use Rattle.lhm_ring.proofs.rings.ReadAtPosition.{hash-held}
-use Rattle.lhm_ring.proofs.rings.RingCells.{IsAt-in_nodes, Holds-in_nodes, links_at-ring_cells}
-use Rattle.lhm_ring.proofs.rings.RingCells.{body_at-ring_cells, ring_cells-with_body}
-use Rattle.lhm_ring.proofs.rings.RingCells.{ChainsTo-ring_cells}
-use Rattle.lhm_ring.proofs.rings.Moves.{is_there-neighbours}
-use Rattle.lhm_ring.proofs.rings.PutBackAndUnlink.{Holds-unlinked, IsAt-unlinked, count-held}
-use Rattle.lhm_ring.proofs.rings.PutBackAndUnlink.{IsOwned-unlinked, ring_list-unlinked}
-use Rattle.lhm_ring.proofs.rings.PutBackAndUnlink.{pair-unlinked}
-use Rattle.lhm_ring.proofs.memory.Places.{IsLaid-same}
-use Rattle.lhm_ring.proofs.rings.Insides.{IsAt-inside}
+use Rattle.lhm_ring.proofs.Names.{None, ap, ◌+◌, ◌∙◌}
+use Rattle.lhm_ring.proofs.{memory.Places.IsLaid-same, rings.ReadAtPosition.hash-held, rings.RingCells.ring_cells-with_body}
+use Rattle.lhm_ring.proofs.rings.{Insides.IsAt-inside, Moves.is_there-neighbours, PutBackAndUnlink.ring_list-unlinked}
+use Rattle.lhm_ring.proofs.rings.PutBackAndUnlink.{Holds-unlinked, IsAt-unlinked, IsOwned-unlinked, count-held, pair-unlinked}
+use Rattle.lhm_ring.proofs.rings.RingCells.{ChainsTo-ring_cells, Holds-in_nodes, IsAt-in_nodes, body_at-ring_cells, links_at-ring_cells}
 use Rattle.lhm_ring.proofs.ring.Ring.unlink.Goals as goal
 
 pub links-old-requires : goal.links-old-requires

@@ -1,4 +1,4 @@
-use Rattle.std.proofs.Common.{ap}
+use Rattle.lhm_ring.proofs.Names.{ap}
 use Rattle.lhm_ring.proofs.rings.Insides.{Holds-inside, pair-inside}
 use Rattle.lhm_ring.proofs.ring.Ring.value.Goals as goal
 

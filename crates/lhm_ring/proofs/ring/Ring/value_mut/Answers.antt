@@ -1,10 +1,7 @@
-use Rattle.std.proofs.Common.{ap, refl}
+use Rattle.lhm_ring.proofs.Names.{ap, refl, with_body, state, value_set}
 use Rattle.lhm_ring.proofs.rings.ContentChange.{ChangesOnly-held}
-use Rattle.lhm_ring.proofs.rings.Insides.{Holds-inside, pair-inside, IsOwned-set_value, ring_list-set_value}
+use Rattle.lhm_ring.proofs.rings.Insides.{Holds-inside, IsOwned-set_value, pair-inside, ring_list-set_value}
 use Rattle.lhm_ring.proofs.ring.Ring.value_mut.Goals as goal
-use Rattle.lhm_ring.specs.Ring.{state}
-use Rattle.lhm_ring.specs.RingAfterLoan.{value_set}
-use Rattle.lhm_ring.specs.Nodes.{with_body}
 
 pub value_mut-requires : goal.value_mut-requires
 value_mut-requires g c = Holds-inside c.self.inside c.self.invariant c.self.view_is c.args.at.block c.requires

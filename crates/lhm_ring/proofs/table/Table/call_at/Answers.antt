@@ -1,10 +1,7 @@
-use Rattle.std.proofs.Common.{ap, subst, sym, ◌∙◌}
-use Rattle.std.specs.Map.Calls.{CalledAtPair, TakesPair}
-use Rattle.lhm_ring.proofs.tables.Tables.{AtHeld-table, table_of-value, WritesOnly-table, IsTable-value}
+use Rattle.lhm_ring.proofs.Names.{ap, subst, sym, ◌∙◌, pointer_of, IsTable, table_of, CalledAtPair, TakesPair}
 use Rattle.lhm_ring.proofs.tables.Retained.{TakesAt-table_of}
+use Rattle.lhm_ring.proofs.tables.Tables.{AtHeld-table, IsTable-value, WritesOnly-table, table_of-value}
 use Rattle.lhm_ring.proofs.table.Table.call_at.Goals as goal
-use Rattle.lhm_ring.specs.Pointer.{pointer_of}
-use Rattle.lhm_ring.specs.Table.{IsTable, table_of}
 
 pub call_at-requires : goal.call_at-requires
 call_at-requires g c = TakesAt-table_of (TakesPair g.F.FnMut) c.args.keep.now c.self.inside.ring

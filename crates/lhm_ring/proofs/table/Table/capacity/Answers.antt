@@ -1,4 +1,4 @@
-use Rattle.std.proofs.Common.{◌+◌, length, arith}
+use Rattle.lhm_ring.proofs.Names.{arith, length, ◌+◌}
 use Rattle.lhm_ring.proofs.indexes.BucketCounts.{most_nodes-buckets}
 use Rattle.lhm_ring.proofs.table.Table.capacity.Goals as goal
 

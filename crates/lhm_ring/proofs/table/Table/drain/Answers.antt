@@ -1,9 +1,6 @@
-use Rattle.std.proofs.Common.{refl, sym, ap, ◌∙◌}
-use Rattle.lhm_ring.proofs.tables.Tables.{table_of-drained}
-use Rattle.lhm_ring.proofs.indexes.Entries.{triples-entries}
+use Rattle.lhm_ring.proofs.Names.{ap, refl, sym, ◌∙◌, triples, TableState}
+use Rattle.lhm_ring.proofs.{indexes.Entries.triples-entries, tables.Tables.table_of-drained}
 use Rattle.lhm_ring.proofs.table.Table.drain.Goals as goal
-use Rattle.lhm_ring.specs.Ring.{triples}
-use Rattle.lhm_ring.specs.Table.{TableState}
 
 pub returns : goal.returns
 returns g c =

@@ -1,8 +1,7 @@
-use Rattle.std.proofs.lemmas.Option.{IfSome_then}
-use Rattle.lhm_ring.proofs.lists.Options.{OnSome-then, IfNone-then}
-use Rattle.lhm_ring.proofs.indexes.Entries.{HasKey-entries, LacksKey-entries, CountsSome-entries, CountsAll-entries}
+use Rattle.lhm_ring.proofs.Names.{pointer_of, IfSome_then}
+use Rattle.lhm_ring.proofs.indexes.Entries.{CountsAll-entries, CountsSome-entries, HasKey-entries, LacksKey-entries}
+use Rattle.lhm_ring.proofs.lists.Options.{IfNone-then, OnSome-then}
 use Rattle.lhm_ring.proofs.table.Table.find.Goals as goal
-use Rattle.lhm_ring.specs.Pointer.{pointer_of}
 
 pub returns-clause-found : goal.returns-clause-found
 returns-clause-found g c = rw (← c.self.view_is) (IfSome_then c.find.result.0 c.find.ensures.found

@@ -1,8 +1,6 @@
-use Rattle.std.proofs.Common.{sym, ap, ◌∙◌}
+use Rattle.lhm_ring.proofs.Names.{ap, sym, ◌∙◌, triples, TableState}
 use Rattle.lhm_ring.proofs.indexes.Entries.{triples-entries}
 use Rattle.lhm_ring.proofs.table.Table.into_pairs.Goals as goal
-use Rattle.lhm_ring.specs.Ring.{triples}
-use Rattle.lhm_ring.specs.Table.{TableState}
 
 pub returns : goal.returns
 returns g c = c.into_pairs.ensures ∙ sym (triples-entries c.self.inside.ring.held)

@@ -1,9 +1,7 @@
-use Rattle.std.proofs.Common.{◌∙◌, sym, ap, map}
+use Rattle.lhm_ring.proofs.Names.{ap, map, sym, ◌∙◌, loan_name, TableState}
+use Rattle.lhm_ring.proofs.tables.TableValues.{IsTable-values, pairs-entries, table_of-values}
 use borrow.Follows.Closed.{read_of}
-use Rattle.lhm_ring.proofs.tables.TableValues.{IsTable-values, table_of-values, pairs-entries}
 use Rattle.lhm_ring.proofs.table.Table.iter_mut.Goals as goal
-use Rattle.lhm_ring.specs.Table.{TableState}
-use Rattle.lhm_ring.specs.Iter.{loan_name}
 
 pub invariant_of-self-lent : goal.invariant_of-self-lent
 invariant_of-self-lent g c = λ _. ((λ vs. IsTable-values vs c.self.invariant), c.self.invariant)

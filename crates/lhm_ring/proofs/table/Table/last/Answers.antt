@@ -1,9 +1,6 @@
-use Rattle.std.proofs.Common.{sym, ap, ◌∙◌}
-use Rattle.lhm_ring.proofs.tables.Tables.{IsApart-table}
-use Rattle.lhm_ring.proofs.indexes.Entries.{last_at-entries}
+use Rattle.lhm_ring.proofs.Names.{ap, sym, ◌∙◌, last_at, TableState}
+use Rattle.lhm_ring.proofs.{indexes.Entries.last_at-entries, tables.Tables.IsApart-table}
 use Rattle.lhm_ring.proofs.table.Table.last.Goals as goal
-use Rattle.lhm_ring.specs.Ring.{last_at}
-use Rattle.lhm_ring.specs.Table.{TableState}
 
 pub returns-clause-last : goal.returns-clause-last
 returns-clause-last g c = c.last.ensures.last ∙ sym (last_at-entries c.self.inside.ring.held)

@@ -1,9 +1,7 @@
-use Rattle.std.proofs.Common.{◌≡◌, ◌≤◌, length, ap, sym, ◌∙◌, arith}
-use Rattle.lhm_ring.proofs.indexes.BucketCounts.{buckets-fall}
-use Rattle.lhm_ring.proofs.lists.Results.{OnErr-always}
-use Rattle.lhm_ring.proofs.tables.Tables.{length-table, length-capacity}
+use Rattle.lhm_ring.proofs.Names.{ap, arith, length, sym, ◌∙◌, ◌≡◌, ◌≤◌, buckets}
+use Rattle.lhm_ring.proofs.{indexes.BucketCounts.buckets-fall, lists.Results.OnErr-always}
+use Rattle.lhm_ring.proofs.tables.Tables.{length-capacity, length-table}
 use Rattle.lhm_ring.proofs.table.Table.lower.Goals as goal
-use Rattle.lhm_ring.specs.Buckets.{buckets}
 
 pub returns-clause-falls : goal.returns-clause-falls
 returns-clause-falls g c =

@@ -1,9 +1,7 @@
-use Rattle.std.proofs.Common.{◌≡◌, ◌+◌, length, ap, ◌∙◌, arith}
-use Rattle.lhm_ring.proofs.tables.Tables.{length-table, triples-table}
+use Rattle.lhm_ring.proofs.Names.{ap, arith, length, ◌+◌, ◌∙◌, ◌≡◌, buckets, triples}
 use Rattle.lhm_ring.proofs.indexes.Entries.{length-same_entries, length-same_triples, triples-entries}
+use Rattle.lhm_ring.proofs.tables.Tables.{length-table, triples-table}
 use Rattle.lhm_ring.proofs.table.Table.lower_buckets.Goals as goal
-use Rattle.lhm_ring.specs.Buckets.{buckets}
-use Rattle.lhm_ring.specs.Ring.{triples}
 
 pub invariant_of-self : goal.invariant_of-self
 invariant_of-self g c =

@@ -1,5 +1,5 @@
-use Rattle.std.proofs.Common.{◌≡◌, ℕ, ◌+◌, ◌-◌, ◌<◌, ◌≤◌, List, length, refl, ap, ◌∙◌, arith}
-use Rattle.lhm_ring.proofs.tables.Rotated.{rotated, rotated-all, IsSome-back, back_held, rotated-fewer}
+use Rattle.lhm_ring.proofs.Names.{List, ap, arith, length, refl, ℕ, ◌+◌, ◌-◌, ◌<◌, ◌∙◌, ◌≡◌, ◌≤◌}
+use Rattle.lhm_ring.proofs.tables.Rotated.{IsSome-back, back_held, rotated, rotated-all, rotated-fewer}
 use Rattle.lhm_ring.proofs.table.Table.move_backs.Goals as goal
 
 pub loop-moved-init : goal.loop-moved-init

@@ -1,11 +1,8 @@
-use Rattle.std.proofs.Common.{None, refl, ap, ◌∙◌}
+use Rattle.lhm_ring.proofs.Names.{None, ap, refl, ◌∙◌, entries, pointer_of, IsHeld, linked_to}
 use Rattle.lhm_ring.proofs.rings.Moves.{IfSome-pointer}
-use Rattle.lhm_ring.proofs.tables.Positions.{to_before_at-at, map-to_before_at, IsAt-entries, PlaceAt-entries, moved_to}
-use Rattle.lhm_ring.proofs.tables.Tables.{IsHeld-table, IfSome-table, IsTable-moved, KeepsCounts-moved}
+use Rattle.lhm_ring.proofs.tables.Positions.{IsAt-entries, PlaceAt-entries, map-to_before_at, moved_to, to_before_at-at}
+use Rattle.lhm_ring.proofs.tables.Tables.{IfSome-table, IsHeld-table, IsTable-moved, KeepsCounts-moved}
 use Rattle.lhm_ring.proofs.table.Table.move_before.Goals as goal
-use Rattle.lhm_ring.specs.Pointer.{pointer_of}
-use Rattle.lhm_ring.specs.Ring.{IsHeld, linked_to}
-use Rattle.lhm_ring.specs.Index.{entries}
 
 pub move_before-requires-clause-at : goal.move_before-requires-clause-at
 move_before-requires-clause-at g c = IsHeld-table c.self.inside.ring c.self.inside.rechained c.self.view_is

@@ -1,5 +1,5 @@
-use Rattle.std.proofs.Common.{◌<◌, length, refl, ◌∙◌, arith}
-use Rattle.lhm_ring.proofs.tables.Rotated.{rotated-none, IsSome-front, front_held, rotated-more}
+use Rattle.lhm_ring.proofs.Names.{arith, length, refl, ◌<◌, ◌∙◌}
+use Rattle.lhm_ring.proofs.tables.Rotated.{IsSome-front, front_held, rotated-more, rotated-none}
 use Rattle.lhm_ring.proofs.table.Table.move_fronts.Goals as goal
 
 pub loop-moved-init : goal.loop-moved-init

@@ -1,6 +1,6 @@
-use Rattle.std.proofs.Common.{◌≡◌, ◌++◌, take, drop}
+use Rattle.lhm_ring.proofs.Names.{take, ◌++◌, ◌≡◌, KeepsCounts}
+use Rattle.std.proofs.Common.{drop}
 use Rattle.lhm_ring.proofs.table.Table.move_fronts.Given as goal
-use Rattle.lhm_ring.specs.Table.{KeepsCounts}
 
 abbrev pub invariant-loop-moved : goal.invariant-loop-moved
 invariant-loop-moved g l = record {

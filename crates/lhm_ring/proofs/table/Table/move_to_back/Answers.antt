@@ -1,11 +1,8 @@
-use Rattle.std.proofs.Common.{None, refl, ap, ◌∙◌, arith}
-use Rattle.lhm_ring.proofs.tables.Positions.{MovedTo-back, to_back_at-at, map-to_back_at, index_of-to_back, IsAt-entries, index_of-entries}
-use Rattle.lhm_ring.proofs.tables.Tables.{IsHeld-table, IsTable-moved, KeepsCounts-moved}
+use Rattle.lhm_ring.proofs.Names.{None, ap, arith, refl, ◌∙◌, entries, pointer_of, linked_to}
 use Rattle.lhm_ring.proofs.indexes.Entries.{length-entries}
+use Rattle.lhm_ring.proofs.tables.Positions.{IsAt-entries, MovedTo-back, index_of-entries, index_of-to_back, map-to_back_at, to_back_at-at}
+use Rattle.lhm_ring.proofs.tables.Tables.{IsHeld-table, IsTable-moved, KeepsCounts-moved}
 use Rattle.lhm_ring.proofs.table.Table.move_to_back.Goals as goal
-use Rattle.lhm_ring.specs.Pointer.{pointer_of}
-use Rattle.lhm_ring.specs.Ring.{linked_to}
-use Rattle.lhm_ring.specs.Index.{entries}
 
 pub move_to_back-requires : goal.move_to_back-requires
 move_to_back-requires g c = IsHeld-table c.self.inside.ring c.self.inside.rechained c.self.view_is (pointer_of c.args.at) c.requires

@@ -1,11 +1,8 @@
-use Rattle.std.proofs.Common.{◌≡◌, List, [], ◌∷◌, Option, Some, None, refl, sym, ◌∙◌}
-use Rattle.std.specs.Prelude.{IfSome}
+use Rattle.lhm_ring.proofs.Names.{List, None, Option, Some, [], refl, sym, ◌∙◌, ◌∷◌, ◌≡◌, IfSome, pointer_of, pointer_of_some, Held, IsHeld}
+use Rattle.lhm_ring.proofs.Names.{first_at, Position}
 use Rattle.lhm_ring.proofs.lists.Options.{Some-injective, none_some}
 use Rattle.lhm_ring.proofs.tables.Positions.{PlaceAt-first_at, to_before_at-first}
 use Rattle.lhm_ring.proofs.table.Table.move_to_front.Goals as goal
-use Rattle.lhm_ring.specs.Pointer.{pointer_of, pointer_of_some}
-use Rattle.lhm_ring.specs.Ring.{Held, IsHeld, first_at}
-use Rattle.lhm_ring.specs.declared.pointer.Position.{Position}
 
 -- the first position, if there is one, is held
 IfSome-first : {K V : Type 0} (hs : List (Held (K × V))) (o : Option (Position K V)) → pointer_of_some o ≡ first_at hs

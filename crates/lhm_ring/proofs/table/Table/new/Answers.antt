@@ -1,4 +1,4 @@
-use Rattle.std.proofs.Common.{length, ap, arith}
+use Rattle.lhm_ring.proofs.Names.{ap, arith, length}
 use Rattle.lhm_ring.proofs.tables.IndexedRing.{IsIndexed-new}
 use Rattle.lhm_ring.proofs.table.Table.new.Goals as goal
 

@@ -1,9 +1,7 @@
-use Rattle.std.proofs.Common.{◌+◌, slice_get, refl, ap, ◌∙◌}
+use Rattle.lhm_ring.proofs.Names.{ap, refl, slice_get, ◌+◌, ◌∙◌, pointer_of}
 use Rattle.lhm_ring.proofs.indexes.Entries.{pointers-entries}
-use Rattle.lhm_ring.proofs.tables.Positions.{PlaceAt-next, IsAt-entries}
-use Rattle.lhm_ring.proofs.tables.Tables.{IsHeld-table, IsApart-table}
+use Rattle.lhm_ring.proofs.tables.{Positions.IsAt-entries, Positions.PlaceAt-next, Tables.IsApart-table, Tables.IsHeld-table}
 use Rattle.lhm_ring.proofs.table.Table.next.Goals as goal
-use Rattle.lhm_ring.specs.Pointer.{pointer_of}
 
 pub next-requires : goal.next-requires
 next-requires g c = IsHeld-table c.self.inside.ring c.self.inside.rechained c.self.view_is (pointer_of c.args.at) c.requires

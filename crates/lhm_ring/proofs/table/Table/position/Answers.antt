@@ -1,8 +1,6 @@
-use Rattle.std.proofs.lemmas.Option.{IfSome_then}
-use Rattle.lhm_ring.proofs.lists.Options.{IfNone-then}
-use Rattle.lhm_ring.proofs.indexes.Entries.{HasKey-entries, LacksKey-entries}
+use Rattle.lhm_ring.proofs.Names.{pointer_of, IfSome_then}
+use Rattle.lhm_ring.proofs.{indexes.Entries.HasKey-entries, indexes.Entries.LacksKey-entries, lists.Options.IfNone-then}
 use Rattle.lhm_ring.proofs.table.Table.position.Goals as goal
-use Rattle.lhm_ring.specs.Pointer.{pointer_of}
 
 pub returns-clause-found : goal.returns-clause-found
 returns-clause-found g c =

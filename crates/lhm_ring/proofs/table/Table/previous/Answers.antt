@@ -1,6 +1,6 @@
-use Rattle.lhm_ring.proofs.tables.Tables.{IsHeld-table, AtHeld-table_previous, IsApart-table}
+use Rattle.lhm_ring.proofs.Names.{pointer_of, pointer_of_some}
+use Rattle.lhm_ring.proofs.tables.Tables.{AtHeld-table_previous, IsApart-table, IsHeld-table}
 use Rattle.lhm_ring.proofs.table.Table.previous.Goals as goal
-use Rattle.lhm_ring.specs.Pointer.{pointer_of, pointer_of_some}
 
 pub previous-requires : goal.previous-requires
 previous-requires g c = IsHeld-table c.self.inside.ring c.self.inside.rechained c.self.view_is (pointer_of c.args.at) c.requires

@@ -1,13 +1,8 @@
-use Rattle.std.proofs.Common.{◌≡◌, ◌+◌, ◌∷◌, [], None, ap, ◌∙◌, refl, sym, length, length-append, arith}
-use Rattle.lhm_ring.proofs.tables.IndexedRing.{length-indexed}
-use Rattle.lhm_ring.proofs.indexes.IndexPuts.{HoldsOthers-last}
-use Rattle.lhm_ring.proofs.rings.HeldPointers.{AtHeld-alone}
-use Rattle.lhm_ring.proofs.tables.Tables.{spares-table}
-use Rattle.lhm_ring.proofs.indexes.Entries.{length-same_entries}
+use Rattle.lhm_ring.proofs.Names.{None, [], ap, arith, length, length-append, refl, sym, ◌+◌, ◌∙◌, ◌∷◌, ◌≡◌, buckets, pointer_of, IsHeld}
+use Rattle.lhm_ring.proofs.Names.{held, pair}
+use Rattle.lhm_ring.proofs.indexes.{Entries.length-same_entries, IndexPuts.HoldsOthers-last}
+use Rattle.lhm_ring.proofs.{rings.HeldPointers.AtHeld-alone, tables.IndexedRing.length-indexed, tables.Tables.spares-table}
 use Rattle.lhm_ring.proofs.table.Table.push_back.Goals as goal
-use Rattle.lhm_ring.specs.Buckets.{buckets}
-use Rattle.lhm_ring.specs.Pointer.{pointer_of}
-use Rattle.lhm_ring.specs.Ring.{pair, held, IsHeld}
 
 pub put_in_by_hash-requires-clause-some : goal.put_in_by_hash-requires-clause-some
 put_in_by_hash-requires-clause-some g c =

@@ -1,13 +1,8 @@
-use Rattle.std.proofs.Common.{◌≡◌, ◌+◌, ◌-◌, ◌<◌, ◌≤◌, ◌∙◌, length, ap, sym, subst, arith}
-use Rattle.std.specs.Prelude.{max}
-use Rattle.lhm_ring.proofs.lists.Results.{OnOk-always, OnOk-then}
-use Rattle.lhm_ring.proofs.tables.Tables.{length-capacity, IsTable-grown, rechained_raised-stays, rechained_raised-moves, made_raised-stays}
-use Rattle.lhm_ring.proofs.indexes.BucketCounts.{made_raised-higher}
+use Rattle.lhm_ring.proofs.Names.{ap, arith, length, max, subst, sym, ◌+◌, ◌-◌, ◌<◌, ◌∙◌, ◌≡◌, ◌≤◌, buckets, rechained_raised, entries}
+use Rattle.lhm_ring.proofs.Names.{least_more, nodes_grown, TableState}
+use Rattle.lhm_ring.proofs.{indexes.BucketCounts.made_raised-higher, lists.Results.OnOk-always, lists.Results.OnOk-then}
+use Rattle.lhm_ring.proofs.tables.Tables.{IsTable-grown, length-capacity, made_raised-stays, rechained_raised-moves, rechained_raised-stays}
 use Rattle.lhm_ring.proofs.table.Table.raise.Goals as goal
-use Rattle.lhm_ring.specs.Buckets.{buckets, rechained_raised}
-use Rattle.lhm_ring.specs.Links.{nodes_grown, least_more}
-use Rattle.lhm_ring.specs.Index.{entries}
-use Rattle.lhm_ring.specs.Table.{TableState}
 
 pub invariant_of-self : goal.invariant_of-self
 invariant_of-self g c =

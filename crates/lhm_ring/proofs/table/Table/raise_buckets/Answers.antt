@@ -1,9 +1,6 @@
-use Rattle.std.proofs.Common.{◌≡◌, ◌+◌, ◌∙◌, length, ap, arith}
-use Rattle.std.specs.Prelude.{max}
-use Rattle.lhm_ring.proofs.tables.Tables.{length-capacity, IsTable-raised}
+use Rattle.lhm_ring.proofs.Names.{ap, arith, length, max, ◌+◌, ◌∙◌, ◌≡◌, buckets, least_more, nodes_grown}
+use Rattle.lhm_ring.proofs.tables.Tables.{IsTable-raised, length-capacity}
 use Rattle.lhm_ring.proofs.table.Table.raise_buckets.Goals as goal
-use Rattle.lhm_ring.specs.Buckets.{buckets}
-use Rattle.lhm_ring.specs.Links.{nodes_grown, least_more}
 
 pub raise_within_room-requires-clause-some : goal.raise_within_room-requires-clause-some
 raise_within_room-requires-clause-some g c =

@@ -1,11 +1,7 @@
-use Rattle.std.proofs.Common.{◌≡◌, ◌+◌, ◌∙◌, length, ap, sym, subst, arith}
-use Rattle.std.specs.Prelude.{max}
-use Rattle.std.specs.Int.{IsPowerOfTwo}
-use Rattle.lhm_ring.proofs.indexes.BucketCounts.{buckets-at_least, IsNextPowerOfTwo-buckets}
-use Rattle.lhm_ring.proofs.tables.Tables.{length-capacity, IsTable-raised}
+use Rattle.lhm_ring.proofs.Names.{ap, arith, length, max, subst, sym, ◌+◌, ◌∙◌, ◌≡◌, buckets, least_more, nodes_grown, IsPowerOfTwo}
+use Rattle.lhm_ring.proofs.indexes.BucketCounts.{IsNextPowerOfTwo-buckets, buckets-at_least}
+use Rattle.lhm_ring.proofs.tables.Tables.{IsTable-raised, length-capacity}
 use Rattle.lhm_ring.proofs.table.Table.raise_within_room.Goals as goal
-use Rattle.lhm_ring.specs.Buckets.{buckets}
-use Rattle.lhm_ring.specs.Links.{nodes_grown, least_more}
 
 pub spread-requires-clause-buckets : goal.spread-requires-clause-buckets
 spread-requires-clause-buckets g c =

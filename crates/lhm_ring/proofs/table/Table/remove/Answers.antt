@@ -1,9 +1,7 @@
-use Rattle.std.proofs.Common.{◌≡◌, ◌++◌, sym, ap, ◌∙◌, arith}
-use Rattle.lhm_ring.proofs.indexes.Entries.{HasKey-kept, LacksKey-entries, HasKey-entries, entries-append}
-use Rattle.lhm_ring.proofs.tables.Tables.{AtHeld-same_entries, length-capacity, IsTable-removed, length-with_spares}
+use Rattle.lhm_ring.proofs.Names.{ap, arith, sym, ◌++◌, ◌∙◌, ◌≡◌, entries, pointer_of}
+use Rattle.lhm_ring.proofs.indexes.Entries.{HasKey-entries, HasKey-kept, LacksKey-entries, entries-append}
+use Rattle.lhm_ring.proofs.tables.Tables.{AtHeld-same_entries, IsTable-removed, length-capacity, length-with_spares}
 use Rattle.lhm_ring.proofs.table.Table.remove.Goals as goal
-use Rattle.lhm_ring.specs.Pointer.{pointer_of}
-use Rattle.lhm_ring.specs.Index.{entries}
 
 pub returns-in_err-at-clause-absent : goal.returns-in_err-at-clause-absent
 returns-in_err-at-clause-absent g c =

@@ -1,11 +1,7 @@
-use Rattle.std.proofs.Common.{None, map, remove, slice_get, sym, ap, ◌∙◌}
-use Rattle.lhm_ring.proofs.tables.Positions.{remove-at, map-remove, slice_get-pair, IsAt-entries}
-use Rattle.lhm_ring.proofs.tables.Tables.{IsHeld-table, IsTable-removed}
-use Rattle.lhm_ring.proofs.tables.TableValues.{pairs-entries}
-use Rattle.lhm_ring.specs.Ring.{linked_to}
+use Rattle.lhm_ring.proofs.Names.{None, ap, map, remove, slice_get, sym, ◌∙◌, entries, pointer_of, linked_to}
+use Rattle.lhm_ring.proofs.tables.Positions.{IsAt-entries, map-remove, remove-at, slice_get-pair}
+use Rattle.lhm_ring.proofs.tables.{TableValues.pairs-entries, Tables.IsHeld-table, Tables.IsTable-removed}
 use Rattle.lhm_ring.proofs.table.Table.remove_at.Goals as goal
-use Rattle.lhm_ring.specs.Pointer.{pointer_of}
-use Rattle.lhm_ring.specs.Index.{entries}
 
 pub take_out_at-requires-clause-held : goal.take_out_at-requires-clause-held
 take_out_at-requires-clause-held g c = IsHeld-table c.self.inside.ring c.self.inside.rechained

@@ -1,10 +1,7 @@
-use Rattle.std.proofs.Common.{◌≡◌, ◌++◌, ◌∷◌, ap, ◌∙◌, arith}
-use Rattle.lhm_ring.proofs.tables.Tables.{IsHeld-table, AtHeld-table, length-capacity, length-rekeyed, IsTable-rekeyed}
+use Rattle.lhm_ring.proofs.Names.{ap, arith, ◌++◌, ◌∙◌, ◌∷◌, ◌≡◌, entries, pointer_of, IsHeld, rekeyed}
 use Rattle.lhm_ring.proofs.indexes.Entries.{entries-append}
+use Rattle.lhm_ring.proofs.tables.Tables.{AtHeld-table, IsHeld-table, IsTable-rekeyed, length-capacity, length-rekeyed}
 use Rattle.lhm_ring.proofs.table.Table.replace_key.Goals as goal
-use Rattle.lhm_ring.specs.Pointer.{pointer_of}
-use Rattle.lhm_ring.specs.Ring.{IsHeld, rekeyed}
-use Rattle.lhm_ring.specs.Index.{entries}
 
 -- the pair is held in the ring
 held : (g : _) (c : goal.After-replace_key g) → IsHeld c.self.inside.ring.held (pointer_of c.args.at)

@@ -1,10 +1,7 @@
-use Rattle.std.proofs.Common.{ap, refl, ◌∙◌}
-use Rattle.std.specs.Map.Calls.{CalledAtPair, TakesPair}
-use Rattle.lhm_ring.proofs.tables.Positions.{AtHeld-next}
-use Rattle.lhm_ring.proofs.tables.Retained.{IsRetaining-start, RetainsHeld-end, IsRetaining-step}
-use Rattle.lhm_ring.proofs.tables.Retained.{First-next, next_held, TakesAt-next, left_from-smaller}
+use Rattle.lhm_ring.proofs.Names.{ap, refl, ◌∙◌, pointer_of_some, CalledAtPair, TakesPair}
+use Rattle.lhm_ring.proofs.tables.{Positions.AtHeld-next, Retained.left_from-smaller, Retained.next_held}
+use Rattle.lhm_ring.proofs.tables.Retained.{First-next, IsRetaining-start, IsRetaining-step, RetainsHeld-end, TakesAt-next}
 use Rattle.lhm_ring.proofs.table.Table.retain.Goals as goal
-use Rattle.lhm_ring.specs.Pointer.{pointer_of_some}
 
 pub loop-next-init : goal.loop-next-init
 loop-next-init g c = record {

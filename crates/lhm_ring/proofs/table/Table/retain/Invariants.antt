@@ -1,8 +1,6 @@
-use Rattle.std.specs.Map.Calls.{CalledAtPair, TakesPair}
+use Rattle.lhm_ring.proofs.Names.{pointer_of_some, KeepsCounts, CalledAtPair, TakesPair}
+use Rattle.lhm_ring.proofs.tables.Retained.{IsRetaining, left_from}
 use Rattle.lhm_ring.proofs.table.Table.retain.Given as goal
-use Rattle.lhm_ring.specs.Pointer.{pointer_of_some}
-use Rattle.lhm_ring.specs.Table.{KeepsCounts}
-use Rattle.lhm_ring.proofs.tables.Retained.{left_from, IsRetaining}
 
 abbrev pub invariant-loop-next : goal.invariant-loop-next
 invariant-loop-next g l = record {

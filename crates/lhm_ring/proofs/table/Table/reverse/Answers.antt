@@ -1,8 +1,7 @@
-use Rattle.std.proofs.Common.{refl, ap, ◌∙◌, arith}
+use Rattle.lhm_ring.proofs.Names.{ap, arith, refl, ◌∙◌, pointer_of_some}
 use Rattle.lhm_ring.proofs.tables.Positions.{IsSome-place}
-use Rattle.lhm_ring.proofs.tables.Reversed.{IsReversing-start, reversed-all, IsHeld-next, IsReversing-more}
+use Rattle.lhm_ring.proofs.tables.Reversed.{IsHeld-next, IsReversing-more, IsReversing-start, reversed-all}
 use Rattle.lhm_ring.proofs.table.Table.reverse.Goals as goal
-use Rattle.lhm_ring.specs.Pointer.{pointer_of_some}
 
 pub loop-moved-init : goal.loop-moved-init
 loop-moved-init g c = record {

@@ -1,7 +1,6 @@
-use Rattle.lhm_ring.proofs.table.Table.reverse.Given as goal
+use Rattle.lhm_ring.proofs.Names.{pointer_of_some, KeepsCounts}
 use Rattle.lhm_ring.proofs.tables.Reversed.{IsReversing}
-use Rattle.lhm_ring.specs.Pointer.{pointer_of_some}
-use Rattle.lhm_ring.specs.Table.{KeepsCounts}
+use Rattle.lhm_ring.proofs.table.Table.reverse.Given as goal
 
 abbrev pub invariant-loop-moved : goal.invariant-loop-moved
 invariant-loop-moved g l = record {

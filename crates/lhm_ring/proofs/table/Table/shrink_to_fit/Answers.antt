@@ -1,8 +1,7 @@
-use Rattle.std.proofs.Common.{◌+◌, length, ap, sym, ◌∙◌, arith}
-use Rattle.lhm_ring.proofs.indexes.BucketCounts.{buckets-zero, rechained_fitted-none, made_fitted-none}
+use Rattle.lhm_ring.proofs.Names.{ap, arith, length, sym, ◌+◌, ◌∙◌, buckets, made_fitted, rechained_fitted}
+use Rattle.lhm_ring.proofs.indexes.BucketCounts.{buckets-zero, made_fitted-none, rechained_fitted-none}
 use Rattle.lhm_ring.proofs.indexes.Entries.{length-entries}
 use Rattle.lhm_ring.proofs.table.Table.shrink_to_fit.Goals as goal
-use Rattle.lhm_ring.specs.Buckets.{buckets, rechained_fitted, made_fitted}
 
 pub returns-then-len-eq0-clause-rechained : goal.returns-then-len-eq0-clause-rechained
 returns-then-len-eq0-clause-rechained g c =

@@ -1,7 +1,6 @@
-use Rattle.std.proofs.Common.{◌≡◌}
-use Rattle.lhm_ring.proofs.tables.Tables.{IsHeld-table, AtHeld-table}
+use Rattle.lhm_ring.proofs.Names.{◌≡◌, pointer_of}
+use Rattle.lhm_ring.proofs.tables.Tables.{AtHeld-table, IsHeld-table}
 use Rattle.lhm_ring.proofs.table.Table.value.Goals as goal
-use Rattle.lhm_ring.specs.Pointer.{pointer_of}
 
 pub value-requires : goal.value-requires
 value-requires g c = IsHeld-table c.self.inside.ring c.self.inside.rechained c.self.view_is (pointer_of c.args.at) c.requires

@@ -1,7 +1,6 @@
-use Rattle.std.proofs.Common.{◌≡◌, refl}
-use Rattle.lhm_ring.proofs.tables.Tables.{IsHeld-table, AtHeld-table, table_of-value, WritesOnly-table, IsTable-value}
+use Rattle.lhm_ring.proofs.Names.{refl, ◌≡◌, pointer_of}
+use Rattle.lhm_ring.proofs.tables.Tables.{AtHeld-table, IsHeld-table, IsTable-value, WritesOnly-table, table_of-value}
 use Rattle.lhm_ring.proofs.table.Table.value_mut.Goals as goal
-use Rattle.lhm_ring.specs.Pointer.{pointer_of}
 
 pub value_mut-requires : goal.value_mut-requires
 value_mut-requires g c = IsHeld-table c.self.inside.ring c.self.inside.rechained c.self.view_is (pointer_of c.args.at) c.requires

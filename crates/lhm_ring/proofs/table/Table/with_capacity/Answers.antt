@@ -1,7 +1,6 @@
-use Rattle.std.proofs.Common.{length, sym, ap, ◌∙◌, arith}
+use Rattle.lhm_ring.proofs.Names.{ap, arith, length, sym, ◌∙◌, buckets}
 use Rattle.lhm_ring.proofs.tables.IndexedRing.{IsIndexed-none}
 use Rattle.lhm_ring.proofs.table.Table.with_capacity.Goals as goal
-use Rattle.lhm_ring.specs.Buckets.{buckets}
 
 pub invariant_of-result : goal.invariant_of-result
 invariant_of-result g c =

@@ -1,18 +1,9 @@
 -- A `&` to a hole shows nothing, so there is nothing to show. Assumes `Logic`.
-use base.Logic.{sep}
-use base.Fml.{fbor}
-use base.Fraction.{full_share}
-use types.Logic.{sem, lfts}
-use types.Kit.{‵, raw, ◌$◌, !, qed, drop, updating, now, done}
-use denote.RattleType.{RattleType}
-use denote.Memory.{part_at}
-use denote.Param.Laws.{Laws}
-use denote.Sharing.{nothing as none_shared}
-use denote.SharingLaws.{nothing_shr_laws}
-use denote.Steps.{nothing}
-use mathlib.Core.List.{[], ◌∷◌}
-use Rattle.lhm_ring.specs.contracts.value_loan.Hole as C
+use Rattle.lhm_ring.proofs.Names.{[], ◌∷◌, fbor, full_share, sep, part_at, RattleType, nothing_shr_laws, nothing, !, done, drop, now, qed}
+use Rattle.lhm_ring.proofs.Names.{raw, updating, ‵, ◌$◌, lfts, sem}
 use Rattle.lhm_ring.proofs.value_loan.Hole.TheLaw.Statement.{statement}
+use denote.{Param.Laws.Laws, Sharing.nothing as none_shared}
+use Rattle.lhm_ring.specs.contracts.value_loan.Hole as C
 
 pub shares : (T : RattleType) (L : Laws T) → statement T L
 shares T L = record {

@@ -1,32 +1,21 @@
 -- `pull` cuts the value of one node out of those that are lent. Assumes `Logic`.
-use Rattle.lhm_ring.proofs.memory.Steps.{◌≡◌, ℕ, ◌+◌, List, [], ◌∷◌, ◌++◌, refl, sym, ap}
-use Rattle.lhm_ring.proofs.memory.Steps.{full_share, Val, vptr, inst_fn, SProp, flft, ◌∵◌, ‵, raw}
-use Rattle.lhm_ring.proofs.memory.Steps.{◌⊛◌, at_ret, ◌$◌, !, qed, by, move, keep, use1, split}
-use Rattle.lhm_ring.proofs.memory.Steps.{join, fsplit, fsplit3, fjoin, rewrite, feq_i, stop, fld}
-use Rattle.lhm_ring.proofs.memory.Steps.{addr, of_opd, first, blocks, exec, returns, alloc_all}
-use Rattle.lhm_ring.proofs.memory.Steps.{pass_all, free_all, look_at, get, get_in, through, sets}
-use Rattle.lhm_ring.proofs.memory.Steps.{sets_last, is, env, sub, whole, tables, fact, yes, owns}
-use Rattle.lhm_ring.proofs.memory.Steps.{types_at, plain, Ptr, block_ptr, ptr_val, lies_at, heard}
-use Rattle.lhm_ring.proofs.memory.Steps.{opens, closes, Stays, stay_dropped, stay_ref, walk_of}
-use Rattle.lhm_ring.proofs.memory.Steps.{Goes-dropped, Goes-ref, after, word, word-Good, proved_at}
-use Rattle.lhm_ring.proofs.memory.Steps.{leaves, id⊢, RattleType, in_a_block, emp, Some, never}
-use Rattle.lhm_ring.proofs.memory.Steps.{fjoin3, nothing, Lft, fobs, fbor, later, pick, await}
-use Rattle.lhm_ring.proofs.memory.Steps.{group, split3, mem, MutBor, named_lft, some, open_ref, map}
-use Rattle.lhm_ring.proofs.memory.Steps.{length, tokens, states_also, self_left, runs_with, states}
-use base.Stored.{coded_list}
-use lib.ListN.{take, drop as drop_l}
-use types.Follow.{takes_two, after₂}
-use types.SemTy.{Body as Borrowed}
-use Rattle.lhm_ring.specs.declared.value_loan.ValueLoan.{ValueLoan}
-use Rattle.lhm_ring.specs.contracts.value_loan.ValueLoan as L-type
+use Rattle.lhm_ring.proofs.Names.{List, Some, [], ap, length, map, refl, sym, take, ℕ, ◌++◌, ◌+◌, ◌∷◌, ◌≡◌, value_address, HasValueAt}
+use Rattle.lhm_ring.proofs.Names.{Spread, borrowed, spread, value_at, without_value, ValueLoan, word, word-Good, after, leaves, proved_at}
+use Rattle.lhm_ring.proofs.Names.{Lft, fbor, flft, fobs, full_share, SProp, emp, id⊢, never, coded_list, fact, tables, yes, mem, RattleType}
+use Rattle.lhm_ring.proofs.Names.{owns, Ptr, block_ptr, in_a_block, lies_at, ptr_val, MutBor, named_lft, plain, types_at, closes, heard}
+use Rattle.lhm_ring.proofs.Names.{nothing, opens, Goes-dropped, Goes-ref, Stays, stay_dropped, stay_ref, walk_of, inst_fn, Val, vptr}
+use Rattle.lhm_ring.proofs.Names.{alloc_all, env, free_all, get, get_in, is, look_at, pass_all, sets, sets_last, through, after₂, takes_two}
+use Rattle.lhm_ring.proofs.Names.{at_ret, await, by, feq_i, fjoin, fjoin3, fsplit, fsplit3, !, group, join, keep, later, move, pick, qed}
+use Rattle.lhm_ring.proofs.Names.{raw, rewrite, some, split, split3, use1, ‵, ◌$◌, ◌∵◌, ◌⊛◌, open_ref, sub, whole, addr, blocks, exec}
+use Rattle.lhm_ring.proofs.Names.{first, fld, of_opd, returns, stop, Body as Borrowed}
+use Rattle.lhm_ring.proofs.memory.NodeFields.{Nr, Pl, RK, RL, RV, Three, args, three_rows, vo, word-pointer}
+use Rattle.lhm_ring.proofs.memory.Steps.{runs_with, self_left, states, states_also, tokens}
 use Rattle.lhm_ring.proofs.memory.ValueTaken.{CutValue, CutValue-some, run_cut, run_glue}
-use Rattle.lhm_ring.proofs.memory.NodeFields.{Three, args, RL, RK, RV, vo, Nr, Pl, word-pointer, three_rows}
-use Rattle.lhm_ring.specs.contracts.value_loan.ValueLoan.take.{ended, clauses}
-use Rattle.lhm_ring.specs.contracts.value_loan.ValueLoan.take.Key.{name as #self}
 use Rattle.lhm_ring.proofs.value_loan.ValueLoan.take.Statement.{statement}
+use Rattle.lhm_ring.specs.contracts.value_loan.ValueLoan.take.{clauses, ended, Key.name as #self}
+use lib.ListN.{drop as drop_l}
+use Rattle.lhm_ring.specs.contracts.value_loan.ValueLoan as L-type
 use Rattle.lhm_ring.proofs.value_loan.ValueLoan.take.Code as code
-use Rattle.lhm_ring.specs.ValueLoan.{borrowed, spread, Spread, value_at, without_value, HasValueAt}
-use Rattle.lhm_ring.specs.Nodes.{value_address}
 
 pub take_spec : {M : Type 1} → statement M
 take_spec 𝓤 𝓛 𝓜 𝓡 wired L K V LL LK LV =

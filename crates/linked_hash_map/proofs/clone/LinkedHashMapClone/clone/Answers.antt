@@ -1,4 +1,4 @@
-use Rattle.std.proofs.Common.{◌∙◌, ap, sym, subst}
+use Rattle.linked_hash_map.proofs.Names.{ap, subst, sym, ◌∙◌}
 use Rattle.linked_hash_map.proofs.pairs.Clones.{HasCloned-none, HasCloned-put, IsClone-all}
 use Rattle.linked_hash_map.proofs.clone.LinkedHashMapClone.clone.Goals as goal
 

@@ -1,6 +1,4 @@
-use Rattle.std.proofs.Common.{◌≡◌, fold}
-use Rattle.std.specs.List.{flat_map}
-use Rattle.linked_hash_map.specs.Comparison.{pair_writes}
+use Rattle.linked_hash_map.proofs.Names.{fold, ◌≡◌, pair_writes, flat_map}
 use Rattle.linked_hash_map.proofs.compare.LinkedHashMapHash.hash.Given as goal
 
 -- what is left goes on to the state that all pairs lead to

@@ -1,6 +1,4 @@
-use Rattle.std.proofs.Common.{◌≡◌}
-use Rattle.std.specs.Cmp.Lexicographic.{slice_cmp}
-use Rattle.linked_hash_map.specs.Comparison.{pair_order}
+use Rattle.linked_hash_map.proofs.Names.{◌≡◌, pair_order, slice_cmp}
 use Rattle.linked_hash_map.proofs.compare.LinkedHashMapOrd.cmp.Given as goal
 
 -- the order of the maps is that of what is left of them

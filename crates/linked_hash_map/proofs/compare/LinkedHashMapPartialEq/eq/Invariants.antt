@@ -1,6 +1,4 @@
-use Rattle.std.proofs.Common.{◌≡◌, length}
-use Rattle.std.specs.Cmp.Lexicographic.{pointwise}
-use Rattle.linked_hash_map.specs.Comparison.{same_pair}
+use Rattle.linked_hash_map.proofs.Names.{length, ◌≡◌, same_pair, pointwise}
 use Rattle.linked_hash_map.proofs.compare.LinkedHashMapPartialEq.eq.Given as goal
 
 -- the maps are equal if what is left of them is

@@ -1,7 +1,4 @@
-use Rattle.std.proofs.Common.{sym, ap₂, ◌∙◌, Some}
-use Rattle.linked_hash_map.specs.Entry.{occupied_map, occupied_key}
-use Rattle.linked_hash_map.specs.LinkedMap.{LinkedMap}
-use Rattle.linked_hash_map.specs.Pairs.{set_or_push}
+use Rattle.linked_hash_map.proofs.Names.{Some, ap₂, sym, ◌∙◌, occupied_key, occupied_map, LinkedMap, set_or_push}
 use Rattle.linked_hash_map.proofs.Callers.Writes.{set_or_push-set_if_some}
 use Rattle.linked_hash_map.proofs.entry.Entry.and_modify.Goals as goal
 

@@ -1,12 +1,7 @@
-use Rattle.std.proofs.Common.{rules, inl, refl, sym, ap, subst, is_some, true≢false}
-use borrow.Follows.Closed.{read_of}
-use Rattle.std.specs.Borrow.{name_if_ok}
-use Rattle.std.specs.Fn.{FnOnceReturnsAt}
-use Rattle.std.proofs.lemmas.Result.{IfOk-weaker, IfErr-weaker}
-use Rattle.linked_hash_map.specs.Entry.{occupied_map, occupied_key}
-use Rattle.linked_hash_map.proofs.pairs.OccupiedEntries.{is_some-occupied}
-use Rattle.linked_hash_map.proofs.pairs.EntryMaps.{set_or_pushed-present, set_or_pushed-absent, to_visit-set_or_pushed}
-use Rattle.linked_hash_map.proofs.lists.Results.{OnOk-given, OnErr-always}
+use Rattle.linked_hash_map.proofs.Names.{ap, inl, is_some, refl, rules, subst, sym, true≢false, occupied_key, occupied_map, IfErr-weaker}
+use Rattle.linked_hash_map.proofs.Names.{IfOk-weaker, name_if_ok, FnOnceReturnsAt, read_of}
+use Rattle.linked_hash_map.proofs.{lists.Results.OnErr-always, lists.Results.OnOk-given, pairs.OccupiedEntries.is_some-occupied}
+use Rattle.linked_hash_map.proofs.pairs.EntryMaps.{set_or_pushed-absent, set_or_pushed-present, to_visit-set_or_pushed}
 use Rattle.linked_hash_map.proofs.entry.Entry.or_insert_with_key.Goals as goal
 
 pub returns-in-Occupied : goal.returns-in-Occupied

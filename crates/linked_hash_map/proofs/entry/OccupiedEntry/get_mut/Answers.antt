@@ -1,9 +1,6 @@
-use Rattle.std.proofs.Common.{refl, sym, ap, take, drop}
-use Rattle.linked_hash_map.specs.Indexes.{within-set_value_at}
-use Rattle.linked_hash_map.specs.LinkedMap.{nowhere, without_entry}
-use Rattle.linked_hash_map.proofs.pairs.Indexes.{keys_of-set_value_at, set_value-index}
-use Rattle.linked_hash_map.proofs.pairs.OccupiedEntries.{occupied_value-is, IsIndex-occupied, occupied_pair-written, with_occupied_value-is}
-use Rattle.linked_hash_map.proofs.pairs.EntryMaps.{IsValid-current}
+use Rattle.linked_hash_map.proofs.Names.{ap, drop, refl, sym, take, within-set_value_at, nowhere, without_entry}
+use Rattle.linked_hash_map.proofs.pairs.{EntryMaps.IsValid-current, Indexes.keys_of-set_value_at, Indexes.set_value-index}
+use Rattle.linked_hash_map.proofs.pairs.OccupiedEntries.{IsIndex-occupied, occupied_pair-written, occupied_value-is, with_occupied_value-is}
 use Rattle.linked_hash_map.proofs.entry.OccupiedEntry.get_mut.Goals as goal
 
 pub invariant_of-self-lent : goal.invariant_of-self-lent

@@ -1,6 +1,5 @@
-use Rattle.linked_hash_map.specs.Entry.{occupied_map, occupied_key}
-use Rattle.linked_hash_map.proofs.Callers.Updates.{Updates-put}
-use Rattle.linked_hash_map.proofs.pairs.OccupiedEntries.{IsIndex-occupied}
+use Rattle.linked_hash_map.proofs.Names.{occupied_key, occupied_map}
+use Rattle.linked_hash_map.proofs.{Callers.Updates.Updates-put, pairs.OccupiedEntries.IsIndex-occupied}
 use Rattle.linked_hash_map.proofs.entry.OccupiedEntry.insert.Goals as goal
 
 pub returns-clause-updates : goal.returns-clause-updates

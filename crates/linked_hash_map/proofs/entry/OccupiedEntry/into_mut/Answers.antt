@@ -1,10 +1,6 @@
-use Rattle.std.proofs.Common.{take, drop, refl, sym, ap}
-use Rattle.linked_hash_map.specs.Entry.{occupied_key}
-use Rattle.linked_hash_map.specs.LinkedMap.{nowhere, without_entry}
-use Rattle.linked_hash_map.proofs.pairs.Indexes.{set_value-index}
-use Rattle.linked_hash_map.proofs.Callers.Keys.{keys_of-set_value}
-use Rattle.linked_hash_map.proofs.pairs.OccupiedEntries.{occupied_value-is, IsIndex-occupied}
-use Rattle.linked_hash_map.proofs.pairs.EntryMaps.{IsValid-current}
+use Rattle.linked_hash_map.proofs.Names.{ap, drop, refl, sym, take, occupied_key, nowhere, without_entry}
+use Rattle.linked_hash_map.proofs.{Callers.Keys.keys_of-set_value, pairs.EntryMaps.IsValid-current, pairs.Indexes.set_value-index}
+use Rattle.linked_hash_map.proofs.pairs.OccupiedEntries.{IsIndex-occupied, occupied_value-is}
 use Rattle.linked_hash_map.proofs.entry.OccupiedEntry.into_mut.Goals as goal
 
 pub returns : goal.returns

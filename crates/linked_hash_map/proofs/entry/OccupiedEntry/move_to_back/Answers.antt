@@ -1,6 +1,4 @@
-use Rattle.std.proofs.Common.{ap, ◌∙◌}
-use Rattle.linked_hash_map.specs.Entry.{occupied_map, occupied_key}
-use Rattle.linked_hash_map.specs.Pairs.{find}
+use Rattle.linked_hash_map.proofs.Names.{ap, ◌∙◌, occupied_key, occupied_map, find}
 use Rattle.linked_hash_map.proofs.Callers.Moves.{find-to_back_as_is}
 use Rattle.linked_hash_map.proofs.pairs.OccupiedEntries.{IsIndex-occupied, within-moved}
 use Rattle.linked_hash_map.proofs.entry.OccupiedEntry.move_to_back.Goals as goal

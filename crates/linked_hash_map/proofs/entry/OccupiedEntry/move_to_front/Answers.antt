@@ -1,8 +1,5 @@
-use Rattle.std.proofs.Common.{ap, ◌∙◌}
-use Rattle.linked_hash_map.specs.Entry.{occupied_map, occupied_key}
-use Rattle.linked_hash_map.specs.Pairs.{find}
-use Rattle.linked_hash_map.proofs.Callers.Moves.{find-to_front}
-use Rattle.linked_hash_map.proofs.pairs.OccupiedEntries.{IsIndex-occupied, within-moved}
+use Rattle.linked_hash_map.proofs.Names.{ap, ◌∙◌, occupied_key, occupied_map, find}
+use Rattle.linked_hash_map.proofs.{Callers.Moves.find-to_front, pairs.OccupiedEntries.IsIndex-occupied, pairs.OccupiedEntries.within-moved}
 use Rattle.linked_hash_map.proofs.entry.OccupiedEntry.move_to_front.Goals as goal
 
 pub invariant_of-self : goal.invariant_of-self

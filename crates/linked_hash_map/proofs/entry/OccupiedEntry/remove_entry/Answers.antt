@@ -1,11 +1,7 @@
-use Rattle.std.proofs.Common.{rules, ◌+◌, length, sym, ap, ◌∙◌}
-use Rattle.linked_hash_map.specs.Entry.{occupied_map, occupied_key}
-use Rattle.linked_hash_map.specs.LinkedMap.{nowhere}
-use Rattle.linked_hash_map.proofs.Callers.Keys.{length-without_present}
-use Rattle.linked_hash_map.proofs.Callers.Updates.{Updates-without}
-use Rattle.linked_hash_map.proofs.pairs.Indexes.{without-index}
-use Rattle.linked_hash_map.proofs.pairs.OccupiedEntries.{occupied_pair-is, is_some-occupied, IsIndex-occupied}
-use Rattle.linked_hash_map.proofs.pairs.EntryMaps.{IsValid-current}
+use Rattle.linked_hash_map.proofs.Names.{ap, length, rules, sym, ◌+◌, ◌∙◌, occupied_key, occupied_map, nowhere}
+use Rattle.linked_hash_map.proofs.Callers.{Keys.length-without_present, Updates.Updates-without}
+use Rattle.linked_hash_map.proofs.pairs.{EntryMaps.IsValid-current, Indexes.without-index}
+use Rattle.linked_hash_map.proofs.pairs.OccupiedEntries.{IsIndex-occupied, is_some-occupied, occupied_pair-is}
 use Rattle.linked_hash_map.proofs.entry.OccupiedEntry.remove_entry.Goals as goal
 
 pub returns : goal.returns

@@ -1,8 +1,5 @@
-use Rattle.std.proofs.Common.{ap, ◌∙◌}
-use Rattle.linked_hash_map.specs.Entry.{occupied_pair}
-use Rattle.linked_hash_map.specs.Pairs.{value_at}
-use Rattle.linked_hash_map.proofs.Callers.ReplacedKeys.{value_at-set_key}
-use Rattle.linked_hash_map.proofs.pairs.OccupiedEntries.{slice_get-occupied}
+use Rattle.linked_hash_map.proofs.Names.{ap, ◌∙◌, occupied_pair, value_at}
+use Rattle.linked_hash_map.proofs.{Callers.ReplacedKeys.value_at-set_key, pairs.OccupiedEntries.slice_get-occupied}
 use Rattle.linked_hash_map.proofs.entry.OccupiedEntry.replace_key.Goals as goal
 
 pub replace_current_key-requires-clause-same : goal.replace_current_key-requires-clause-same

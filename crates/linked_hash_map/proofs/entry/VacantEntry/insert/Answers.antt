@@ -1,10 +1,7 @@
-use Rattle.std.proofs.Common.{◌≡◌, ◌-◌, ◌∷◌, [], ◌++◌, length, length-append, inl, sym, ap, ◌∙◌, option_map, arith}
-use Rattle.lhm_ring.proofs.lists.Options.{Some-injective}
-use Rattle.linked_hash_map.specs.Counts.{rechained_raised}
-use Rattle.linked_hash_map.proofs.Callers.Keys.{set_or_push-absent}
-use Rattle.linked_hash_map.proofs.Callers.Updates.{Updates-set_or_push}
-use Rattle.linked_hash_map.proofs.pairs.EntryMaps.{to_visit-pushed}
-use Rattle.linked_hash_map.proofs.pairs.Indexes.{set_value_at-pushed, slice_get-pushed}
+use Rattle.linked_hash_map.proofs.Names.{[], ap, arith, inl, length, length-append, option_map, sym, ◌++◌, ◌-◌, ◌∙◌, ◌∷◌, ◌≡◌}
+use Rattle.linked_hash_map.proofs.Names.{Some-injective, rechained_raised}
+use Rattle.linked_hash_map.proofs.Callers.{Keys.set_or_push-absent, Updates.Updates-set_or_push}
+use Rattle.linked_hash_map.proofs.pairs.{EntryMaps.to_visit-pushed, Indexes.set_value_at-pushed, Indexes.slice_get-pushed}
 use Rattle.linked_hash_map.proofs.entry.VacantEntry.insert.Goals as goal
 
 pub returns : goal.returns

@@ -1,13 +1,6 @@
-use Rattle.std.proofs.Common.{◌≡◌, ℕ, ◌+◌, ◌-◌, Bool, not, length, count_by, is_some, Ok, Err, sym, ap, ◌∙◌, arith}
-use Rattle.std.specs.Cmp.{IsEquivalence}
-use Rattle.std.specs.Map.{keys_of}
-use Rattle.std.proofs.lemmas.Result.{err_from_is_err_and}
-use Rattle.linked_hash_map.specs.Counts.{rechained_raised, rechained_each}
-use Rattle.linked_hash_map.specs.Drains.{drain_rest}
-use Rattle.linked_hash_map.specs.Inserts.{insert_each}
-use Rattle.linked_hash_map.specs.LinkedMap.{LinkedMap}
-use Rattle.linked_hash_map.specs.Pairs.{find}
-use Rattle.linked_hash_map.specs.Validity.{IsValid}
+use Rattle.linked_hash_map.proofs.Names.{Bool, Err, Ok, ap, arith, count_by, is_some, length, not, sym, ℕ, ◌+◌, ◌-◌, ◌∙◌, ◌≡◌}
+use Rattle.linked_hash_map.proofs.Names.{rechained_each, rechained_raised, drain_rest, insert_each, LinkedMap, find, IsValid}
+use Rattle.linked_hash_map.proofs.Names.{err_from_is_err_and, IsEquivalence, keys_of}
 use Rattle.linked_hash_map.proofs.Callers.Appended.{length-insert_each_distinct, length-insert_each_next}
 use Rattle.linked_hash_map.proofs.Callers.Extended.{YieldsList-from_drain, pairs-InsertsAll_drain, pairs-InsertsUntil}
 use Rattle.linked_hash_map.proofs.map.LinkedHashMap.append.Goals as goal

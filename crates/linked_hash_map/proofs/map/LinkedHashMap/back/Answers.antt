@@ -1,8 +1,5 @@
-use Rattle.std.proofs.Common.{◌-◌, length, sym}
-use Rattle.linked_hash_map.proofs.nodes.FirstAndLast.{IsAt-last}
-use Rattle.linked_hash_map.specs.Nodes.{pairs_of}
-use Rattle.linked_hash_map.proofs.nodes.CutNodes.{held-at, pair-at}
-use Rattle.linked_hash_map.proofs.nodes.Kept.{distinct_keys}
+use Rattle.linked_hash_map.proofs.Names.{length, sym, ◌-◌, pairs_of}
+use Rattle.linked_hash_map.proofs.nodes.{CutNodes.held-at, CutNodes.pair-at, FirstAndLast.IsAt-last, Kept.distinct_keys}
 use Rattle.linked_hash_map.proofs.pairs.Indexes.{find-own}
 use Rattle.linked_hash_map.proofs.map.LinkedHashMap.back.Goals as goal
 

@@ -1,7 +1,6 @@
-use Rattle.std.proofs.Common.{slice_get, refl, sym, ap, ◌∙◌}
-use Rattle.linked_hash_map.proofs.Callers.Updates.{Updates-without}
-use Rattle.linked_hash_map.proofs.pairs.EntryMaps.{Keeps-same}
-use Rattle.linked_hash_map.proofs.pairs.OccupiedEntries.{slice_get-occupied, Updates-occupied}
+use Rattle.linked_hash_map.proofs.Names.{ap, refl, slice_get, sym, ◌∙◌}
+use Rattle.linked_hash_map.proofs.{Callers.Updates.Updates-without, pairs.EntryMaps.Keeps-same}
+use Rattle.linked_hash_map.proofs.pairs.OccupiedEntries.{Updates-occupied, slice_get-occupied}
 use Rattle.linked_hash_map.proofs.map.LinkedHashMap.back_entry.Goals as goal
 
 pub returns-then-seek_back : goal.returns-then-seek_back

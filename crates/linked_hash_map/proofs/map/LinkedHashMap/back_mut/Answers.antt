@@ -1,12 +1,9 @@
-use Rattle.std.proofs.Common.{option_map, refl, inl, ap, sym}
-use Rattle.linked_hash_map.specs.Nodes.{pairs_of, beside}
-use Rattle.linked_hash_map.proofs.nodes.CutNodes.{held-at, part-at, map_of-written}
+use Rattle.linked_hash_map.proofs.Names.{ap, inl, option_map, refl, sym, pointer_of, pointer_of_some, beside, pairs_of}
+use Rattle.linked_hash_map.proofs.nodes.CutNodes.{held-at, map_of-written, part-at}
 use Rattle.linked_hash_map.proofs.nodes.FirstAndLast.{IsAt-last, none-last}
-use Rattle.linked_hash_map.proofs.nodes.HeldPairs.{bare-change}
-use Rattle.linked_hash_map.proofs.nodes.Kept.{IsKept-same, distinct_keys, IsValid-view}
-use Rattle.linked_hash_map.proofs.pairs.Ends.{set_value_at-last, IsValid-set_last, Updates-set_last}
+use Rattle.linked_hash_map.proofs.nodes.{HeldPairs.bare-change, Kept.IsKept-same, Kept.IsValid-view, Kept.distinct_keys}
+use Rattle.linked_hash_map.proofs.pairs.Ends.{IsValid-set_last, Updates-set_last, set_value_at-last}
 use Rattle.linked_hash_map.proofs.map.LinkedHashMap.back_mut.Goals as goal
-use Rattle.lhm_ring.specs.Pointer.{pointer_of, pointer_of_some}
 
 pub value_mut-requires : goal.value_mut-requires
 value_mut-requires g c = held-at _ _ (IsAt-last c.self.inside.table.held c.in-Some.ensures.last)

@@ -1,6 +1,5 @@
-use Rattle.std.proofs.Common.{refl, []}
-use Rattle.linked_hash_map.proofs.nodes.EmptyMap.{IsKept-none}
-use Rattle.linked_hash_map.proofs.nodes.Kept.{IsValid-kept}
+use Rattle.linked_hash_map.proofs.Names.{[], refl}
+use Rattle.linked_hash_map.proofs.nodes.{EmptyMap.IsKept-none, Kept.IsValid-kept}
 use Rattle.linked_hash_map.proofs.map.LinkedHashMap.clear.Goals as goal
 
 pub invariant_of-self : goal.invariant_of-self

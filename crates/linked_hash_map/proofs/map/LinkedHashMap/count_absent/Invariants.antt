@@ -1,6 +1,4 @@
-use Rattle.std.proofs.Common.{◌≡◌, not, map, is_some, count_by}
-use Rattle.std.specs.Map.Iter.{deref}
-use Rattle.linked_hash_map.specs.Pairs.{find}
+use Rattle.linked_hash_map.proofs.Names.{count_by, is_some, map, not, ◌≡◌, find, deref}
 use Rattle.linked_hash_map.proofs.map.LinkedHashMap.count_absent.Given as goal
 
 abbrev pub invariant-loop-key : goal.invariant-loop-key

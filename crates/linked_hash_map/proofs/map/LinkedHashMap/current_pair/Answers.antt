@@ -1,5 +1,4 @@
-use Rattle.linked_hash_map.proofs.nodes.CutNodes.{held-at, pair-at}
-use Rattle.linked_hash_map.proofs.nodes.Current.{IsAt-current}
+use Rattle.linked_hash_map.proofs.nodes.{Current.IsAt-current, CutNodes.held-at, CutNodes.pair-at}
 use Rattle.linked_hash_map.proofs.map.LinkedHashMap.current_pair.Goals as goal
 
 pub key-requires : goal.key-requires

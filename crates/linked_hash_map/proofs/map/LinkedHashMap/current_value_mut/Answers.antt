@@ -1,11 +1,7 @@
-use Rattle.std.proofs.Common.{refl}
-use Rattle.linked_hash_map.specs.Nodes.{beside}
-use Rattle.linked_hash_map.proofs.nodes.HeldPairs.{bare-change}
-use Rattle.linked_hash_map.proofs.nodes.CutNodes.{held-at, part-at, map_of-written}
-use Rattle.linked_hash_map.proofs.nodes.Kept.{IsKept-same, IsValid-view}
-use Rattle.linked_hash_map.proofs.nodes.Current.{IsAt-current}
+use Rattle.linked_hash_map.proofs.Names.{refl, pointer_of, beside}
+use Rattle.linked_hash_map.proofs.nodes.{Current.IsAt-current, HeldPairs.bare-change, Kept.IsKept-same, Kept.IsValid-view}
+use Rattle.linked_hash_map.proofs.nodes.CutNodes.{held-at, map_of-written, part-at}
 use Rattle.linked_hash_map.proofs.map.LinkedHashMap.current_value_mut.Goals as goal
-use Rattle.lhm_ring.specs.Pointer.{pointer_of}
 
 pub value_mut-requires : goal.value_mut-requires
 value_mut-requires g c = held-at _ _ (IsAt-current c.self.inside.table.held c.self.invariant c.current.ensures c.unwrap-at.ensures)

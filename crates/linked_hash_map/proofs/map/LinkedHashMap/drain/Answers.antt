@@ -1,8 +1,6 @@
-use Rattle.std.proofs.Common.{refl, sym}
-use Rattle.linked_hash_map.proofs.Callers.Valid.{IsValid-drained}
-use Rattle.linked_hash_map.proofs.nodes.Drained.{drains_in_order, drains_in_reverse, stays, stays_back, rest_drained}
-use Rattle.linked_hash_map.proofs.nodes.EmptyMap.{IsKept-none}
-use Rattle.linked_hash_map.proofs.nodes.Kept.{IsValid-view}
+use Rattle.linked_hash_map.proofs.Names.{refl, sym}
+use Rattle.linked_hash_map.proofs.{Callers.Valid.IsValid-drained, nodes.EmptyMap.IsKept-none, nodes.Kept.IsValid-view}
+use Rattle.linked_hash_map.proofs.nodes.Drained.{drains_in_order, drains_in_reverse, rest_drained, stays, stays_back}
 use Rattle.linked_hash_map.proofs.map.LinkedHashMap.drain.Goals as goal
 
 pub invariant_of-self-lent : goal.invariant_of-self-lent

@@ -1,4 +1,4 @@
-use Rattle.std.proofs.Common.{length}
+use Rattle.linked_hash_map.proofs.Names.{length}
 use Rattle.linked_hash_map.proofs.map.LinkedHashMap.drop.Given as goal
 
 abbrev pub invariant-pairs : goal.invariant-pairs

@@ -1,10 +1,7 @@
-use Rattle.std.proofs.Common.{Some, refl, sym, ap, ◌∙◌}
-use Rattle.linked_hash_map.specs.LinkedMap.{nowhere, cursor_state}
-use Rattle.linked_hash_map.specs.Pairs.{key_or}
-use Rattle.linked_hash_map.proofs.pairs.Indexes.{is_some-index, find-index, value_at-index}
+use Rattle.linked_hash_map.proofs.Names.{Some, ap, refl, sym, ◌∙◌, cursor_state, nowhere, key_or}
 use Rattle.linked_hash_map.proofs.Callers.Updates.{Updates-put, Updates-set_or_push, Updates-without}
-use Rattle.linked_hash_map.proofs.log.ActsAs.{ActsAs-same, put-ActsAs}
-use Rattle.linked_hash_map.proofs.pairs.OccupiedEntries.{occupied_pair-index}
+use Rattle.linked_hash_map.proofs.{log.ActsAs.ActsAs-same, log.ActsAs.put-ActsAs, pairs.OccupiedEntries.occupied_pair-index}
+use Rattle.linked_hash_map.proofs.pairs.Indexes.{find-index, is_some-index, value_at-index}
 use Rattle.linked_hash_map.proofs.map.LinkedHashMap.entry.Goals as goal
 
 pub returns-then-found-clause-occupied : goal.returns-then-found-clause-occupied

@@ -1,7 +1,6 @@
-use Rattle.std.proofs.Common.{rules, ap, ◌∙◌}
-use Rattle.linked_hash_map.specs.Pairs.{find}
-use Rattle.linked_hash_map.proofs.pairs.ExtendSteps.{IsExtended-none, IsExtended-put, find-IsExtended_absent, room-IsExtended}
-use Rattle.linked_hash_map.proofs.pairs.ExtendSteps.{InsertsUntil-IsExtended}
+use Rattle.linked_hash_map.proofs.Names.{ap, rules, ◌∙◌, find}
+use Rattle.linked_hash_map.proofs.pairs.ExtendSteps.{InsertsUntil-IsExtended, IsExtended-none, IsExtended-put, find-IsExtended_absent}
+use Rattle.linked_hash_map.proofs.pairs.ExtendSteps.{room-IsExtended}
 use Rattle.linked_hash_map.proofs.map.LinkedHashMap.extend.Goals as goal
 
 pub loop-key-preserved : goal.loop-key-preserved

@@ -1,4 +1,4 @@
-use Rattle.std.specs.Map.Iter.{deref_pair}
+use Rattle.linked_hash_map.proofs.Names.{deref_pair}
 use Rattle.linked_hash_map.proofs.pairs.ExtendSteps.{IsExtended}
 use Rattle.linked_hash_map.proofs.map.LinkedHashMap.extend_refs.Given as goal
 

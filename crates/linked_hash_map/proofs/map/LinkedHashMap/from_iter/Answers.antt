@@ -1,12 +1,6 @@
-use Rattle.std.proofs.Common.{◌∙◌, ◌-◌, ◌≤◌, List, [], ◌∷◌, map, arith, ap, subst, sym, max, length, inr, Option, Some, Err}
-use Rattle.std.specs.Iterator.{Drains, YieldsThen}
-use Rattle.std.proofs.lemmas.List.{map-id, length-map}
-use Rattle.std.proofs.lemmas.Result.{err_from_is_err_and}
-use Rattle.linked_hash_map.specs.Counts.{rechained_each}
-use Rattle.linked_hash_map.specs.Inserts.{insert_each}
-use Rattle.linked_hash_map.specs.declared.map.TheConstants.{LIMIT}
-use Rattle.linked_hash_map.proofs.Callers.Collected.{length-insert_each_most}
-use Rattle.linked_hash_map.proofs.pairs.ExtendSteps.{to_visit-LeavesVisit}
+use Rattle.linked_hash_map.proofs.Names.{Err, List, Option, Some, [], ap, arith, inr, length, map, map-id, max, subst, sym, ◌-◌, ◌∙◌, ◌∷◌}
+use Rattle.linked_hash_map.proofs.Names.{◌≤◌, rechained_each, insert_each, LIMIT, length-map, err_from_is_err_and, Drains, YieldsThen}
+use Rattle.linked_hash_map.proofs.{Callers.Collected.length-insert_each_most, pairs.ExtendSteps.to_visit-LeavesVisit}
 use Rattle.linked_hash_map.proofs.map.LinkedHashMap.from_iter.Goals as goal
 
 -- what gives an item after others gives a first one

@@ -1,9 +1,5 @@
-use Rattle.std.proofs.Common.{sym}
-use Rattle.lhm_ring.proofs.tables.Positions.{IsAt-first_at}
-use Rattle.linked_hash_map.specs.Nodes.{pairs_of}
-use Rattle.linked_hash_map.proofs.nodes.CutNodes.{held-at, pair-at}
-use Rattle.linked_hash_map.proofs.nodes.Kept.{distinct_keys}
-use Rattle.linked_hash_map.proofs.pairs.Indexes.{find-own}
+use Rattle.linked_hash_map.proofs.Names.{sym, IsAt-first_at, pairs_of}
+use Rattle.linked_hash_map.proofs.{nodes.CutNodes.held-at, nodes.CutNodes.pair-at, nodes.Kept.distinct_keys, pairs.Indexes.find-own}
 use Rattle.linked_hash_map.proofs.map.LinkedHashMap.front.Goals as goal
 
 pub key-requires : goal.key-requires

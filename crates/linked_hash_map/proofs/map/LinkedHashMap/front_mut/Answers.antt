@@ -1,13 +1,9 @@
-use Rattle.std.proofs.Common.{option_map, refl, inl, ap, sym}
-use Rattle.linked_hash_map.specs.Nodes.{pairs_of, beside}
-use Rattle.linked_hash_map.proofs.nodes.CutNodes.{held-at, part-at, map_of-written}
-use Rattle.linked_hash_map.proofs.nodes.FirstAndLast.{none-first}
-use Rattle.linked_hash_map.proofs.nodes.HeldPairs.{bare-change}
-use Rattle.linked_hash_map.proofs.nodes.Kept.{IsKept-same, distinct_keys, IsValid-view}
-use Rattle.linked_hash_map.proofs.pairs.Ends.{set_value_at-first, IsValid-set_first, Updates-set_first}
+use Rattle.linked_hash_map.proofs.Names.{ap, inl, option_map, refl, sym, IsAt-first_at, pointer_of, pointer_of_some, beside, pairs_of}
+use Rattle.linked_hash_map.proofs.nodes.CutNodes.{held-at, map_of-written, part-at}
+use Rattle.linked_hash_map.proofs.nodes.{FirstAndLast.none-first, HeldPairs.bare-change}
+use Rattle.linked_hash_map.proofs.nodes.Kept.{IsKept-same, IsValid-view, distinct_keys}
+use Rattle.linked_hash_map.proofs.pairs.Ends.{IsValid-set_first, Updates-set_first, set_value_at-first}
 use Rattle.linked_hash_map.proofs.map.LinkedHashMap.front_mut.Goals as goal
-use Rattle.lhm_ring.proofs.tables.Positions.{IsAt-first_at}
-use Rattle.lhm_ring.specs.Pointer.{pointer_of, pointer_of_some}
 
 pub value_mut-requires : goal.value_mut-requires
 value_mut-requires g c = held-at _ _ (IsAt-first_at c.self.inside.table.held c.in-Some.ensures)

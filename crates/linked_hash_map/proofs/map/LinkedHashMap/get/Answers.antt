@@ -1,5 +1,5 @@
-use Rattle.std.proofs.Common.{Some, option_map, sym, ap, ◌∙◌}
-use Rattle.linked_hash_map.proofs.lists.Options.{of-Some, of-None}
+use Rattle.linked_hash_map.proofs.Names.{Some, ap, option_map, sym, ◌∙◌}
+use Rattle.linked_hash_map.proofs.lists.Options.{of-None, of-Some}
 use Rattle.linked_hash_map.proofs.map.LinkedHashMap.get.Goals as goal
 
 pub returns : goal.returns

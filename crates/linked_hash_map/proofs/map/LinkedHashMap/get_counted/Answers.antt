@@ -1,13 +1,10 @@
-use Rattle.std.proofs.Common.{◌≤◌, option_map, refl, sym, ap, ◌∙◌, subst}
-use Rattle.linked_hash_map.proofs.nodes.LookupCounts.{count_with_hash-spots, count_in_bucket-spots}
-use Rattle.linked_hash_map.proofs.pairs.Indexes.{value_at-slice_get}
-use Rattle.linked_hash_map.proofs.lists.Options.{of-Some, of-None, of-OnSome}
-use Rattle.linked_hash_map.proofs.nodes.FoundKeys.{index_of-HasKey, IsIndex-index_of}
-use Rattle.linked_hash_map.proofs.nodes.CutNodes.{part-at}
-use Rattle.linked_hash_map.proofs.nodes.Kept.{distinct_keys, IsValid-view}
-use Rattle.linked_hash_map.proofs.nodes.AbsentKeys.{hash_by-respects, find-LacksKey}
+use Rattle.linked_hash_map.proofs.Names.{ap, option_map, refl, subst, sym, ◌∙◌, ◌≤◌, IsAt-index_of}
+use Rattle.linked_hash_map.proofs.lists.Options.{of-None, of-OnSome, of-Some}
+use Rattle.linked_hash_map.proofs.nodes.AbsentKeys.{find-LacksKey, hash_by-respects}
+use Rattle.linked_hash_map.proofs.nodes.{CutNodes.part-at, Kept.IsValid-view, Kept.distinct_keys}
+use Rattle.linked_hash_map.proofs.{nodes.FoundKeys.IsIndex-index_of, nodes.FoundKeys.index_of-HasKey, pairs.Indexes.value_at-slice_get}
+use Rattle.linked_hash_map.proofs.nodes.LookupCounts.{count_in_bucket-spots, count_with_hash-spots}
 use Rattle.linked_hash_map.proofs.map.LinkedHashMap.get_counted.Goals as goal
-use Rattle.lhm_ring.proofs.tables.Positions.{IsAt-index_of}
 
 pub returns-in-Some : goal.returns-in-Some
 returns-in-Some g c =

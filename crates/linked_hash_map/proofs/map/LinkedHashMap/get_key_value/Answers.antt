@@ -1,5 +1,5 @@
-use Rattle.std.proofs.Common.{Some, sym, ap₂, ◌∙◌}
-use Rattle.linked_hash_map.proofs.lists.Options.{of-Some, of-None}
+use Rattle.linked_hash_map.proofs.Names.{Some, ap₂, sym, ◌∙◌}
+use Rattle.linked_hash_map.proofs.lists.Options.{of-None, of-Some}
 use Rattle.linked_hash_map.proofs.map.LinkedHashMap.get_key_value.Goals as goal
 
 pub returns : goal.returns

@@ -1,17 +1,11 @@
-use Rattle.std.proofs.Common.{Some, option_map, refl, inl, ap, sym, ◌∙◌}
-use Rattle.linked_hash_map.specs.Nodes.{beside, pairs_of}
-use Rattle.linked_hash_map.specs.Pairs.{value_at}
-use Rattle.linked_hash_map.proofs.Callers.Keys.{keys_of-set_value}
-use Rattle.linked_hash_map.proofs.pairs.Calls.{set_value-none}
-use Rattle.linked_hash_map.proofs.nodes.StoredKeys.{set_value-stored, UpdatesBy-set_value}
-use Rattle.linked_hash_map.proofs.pairs.Written.{IsValid-set_value}
-use Rattle.linked_hash_map.proofs.lists.Options.{of-Some, of-None}
-use Rattle.linked_hash_map.proofs.nodes.HeldPairs.{bare-change}
-use Rattle.linked_hash_map.proofs.nodes.CutNodes.{pairs_of-change_at}
-use Rattle.linked_hash_map.proofs.nodes.Kept.{IsKept-same, distinct_keys, IsValid-view, map_of-revalued}
+use Rattle.linked_hash_map.proofs.Names.{Some, ap, inl, option_map, refl, sym, ◌∙◌, pointer_of, change_at, revalued, beside, pairs_of}
+use Rattle.linked_hash_map.proofs.Names.{value_at}
+use Rattle.linked_hash_map.proofs.{Callers.Keys.keys_of-set_value, nodes.CutNodes.pairs_of-change_at, nodes.HeldPairs.bare-change}
+use Rattle.linked_hash_map.proofs.lists.Options.{of-None, of-Some}
+use Rattle.linked_hash_map.proofs.nodes.Kept.{IsKept-same, IsValid-view, distinct_keys, map_of-revalued}
+use Rattle.linked_hash_map.proofs.nodes.StoredKeys.{UpdatesBy-set_value, set_value-stored}
+use Rattle.linked_hash_map.proofs.pairs.{Calls.set_value-none, Written.IsValid-set_value}
 use Rattle.linked_hash_map.proofs.map.LinkedHashMap.get_mut.Goals as goal
-use Rattle.lhm_ring.specs.Pointer.{pointer_of}
-use Rattle.lhm_ring.specs.Ring.{change_at, revalued}
 
 pub invariant_of-self-lent : goal.invariant_of-self-lent
 invariant_of-self-lent g c w = IsKept-same (bare-change (pointer_of c.in-Some.at) w c.self.inside.table.held) refl c.self.invariant

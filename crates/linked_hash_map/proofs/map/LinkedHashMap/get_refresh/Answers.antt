@@ -1,13 +1,9 @@
-use Rattle.std.proofs.Common.{Bool, option_map, refl, inl, ap, sym, ◌∙◌}
-use Rattle.std.specs.Map.{lookup_entry}
-use Rattle.linked_hash_map.specs.Nodes.{map_of, beside, pairs_of}
-use Rattle.linked_hash_map.proofs.nodes.Kept.{no_visit, distinct_keys, IsValid-view}
-use Rattle.linked_hash_map.proofs.nodes.StoredKeys.{eq-stored, HasKey-stored, to_back_by-stored, UpdatesBy-to_back_by}
-use Rattle.linked_hash_map.proofs.nodes.StoredKeys.{last-to_back_by, length-to_back_by, IsValid-refreshed}
-use Rattle.linked_hash_map.proofs.lists.Options.{of-Some, of-None}
-use Rattle.linked_hash_map.proofs.nodes.CutNodes.{held-at}
-use Rattle.linked_hash_map.proofs.nodes.FoundKeys.{IsIndex-index_of}
-use Rattle.linked_hash_map.proofs.nodes.PutPair.{IsTouchedAt-back, touched_at, pairs-put, value_at-touched, IsKept-put}
+use Rattle.linked_hash_map.proofs.Names.{Bool, ap, inl, option_map, refl, sym, ◌∙◌, beside, map_of, pairs_of, lookup_entry}
+use Rattle.linked_hash_map.proofs.lists.Options.{of-None, of-Some}
+use Rattle.linked_hash_map.proofs.nodes.{CutNodes.held-at, FoundKeys.IsIndex-index_of, Kept.IsValid-view, Kept.distinct_keys, Kept.no_visit}
+use Rattle.linked_hash_map.proofs.nodes.PutPair.{IsKept-put, IsTouchedAt-back, pairs-put, touched_at, value_at-touched}
+use Rattle.linked_hash_map.proofs.nodes.StoredKeys.{HasKey-stored, IsValid-refreshed, UpdatesBy-to_back_by, eq-stored, last-to_back_by}
+use Rattle.linked_hash_map.proofs.nodes.StoredKeys.{length-to_back_by, to_back_by-stored}
 use Rattle.linked_hash_map.proofs.map.LinkedHashMap.get_refresh.Goals as goal
 
 pub value_mut-requires : goal.value_mut-requires

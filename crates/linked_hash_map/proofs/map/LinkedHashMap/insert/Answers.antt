@@ -1,18 +1,11 @@
-use Rattle.std.proofs.Common.{◌≡◌, ◌++◌, ◌∷◌, [], take, drop, Some, None, IsSome, subst, option_map, refl, sym, ap, ◌∙◌, arith, true≢false}
-use Rattle.std.specs.Map.{keys_of}
-use Rattle.linked_hash_map.specs.Nodes.{pairs_of}
-use Rattle.linked_hash_map.specs.Pairs.{find, put}
-use Rattle.linked_hash_map.proofs.Callers.Updates.{Updates-put}
-use Rattle.linked_hash_map.proofs.Callers.Lookups.{last-put}
-use Rattle.linked_hash_map.proofs.pairs.Calls.{put-absent}
-use Rattle.linked_hash_map.proofs.lists.Options.{of-Some, of-None}
-use Rattle.linked_hash_map.proofs.nodes.Kept.{distinct_keys, IsValid-kept, IsValid-view}
-use Rattle.linked_hash_map.proofs.nodes.FoundKeys.{index_of-HasKey, IsIndex-index_of}
-use Rattle.linked_hash_map.proofs.nodes.CutNodes.{held-at}
-use Rattle.linked_hash_map.proofs.nodes.PutPair.{IsTouchedAt, touched_at, value_at-touched, pairs-put, length-put, IsKept-put}
+use Rattle.linked_hash_map.proofs.Names.{IsSome, None, Some, [], ap, arith, drop, option_map, refl, subst, sym, take, true≢false, ◌++◌, ◌∙◌}
+use Rattle.linked_hash_map.proofs.Names.{◌∷◌, ◌≡◌, pointer_of, HasKey, pairs_of, find, put, keys_of}
+use Rattle.linked_hash_map.proofs.{Callers.Lookups.last-put, Callers.Updates.Updates-put, nodes.CutNodes.held-at, pairs.Calls.put-absent}
+use Rattle.linked_hash_map.proofs.lists.Options.{of-None, of-Some}
+use Rattle.linked_hash_map.proofs.nodes.FoundKeys.{IsIndex-index_of, index_of-HasKey}
+use Rattle.linked_hash_map.proofs.nodes.Kept.{IsValid-kept, IsValid-view, distinct_keys}
+use Rattle.linked_hash_map.proofs.nodes.PutPair.{IsKept-put, IsTouchedAt, length-put, pairs-put, touched_at, value_at-touched}
 use Rattle.linked_hash_map.proofs.map.LinkedHashMap.insert.Goals as goal
-use Rattle.lhm_ring.specs.Pointer.{pointer_of}
-use Rattle.lhm_ring.specs.Search.{HasKey}
 
 -- a position that is found is that of the key
 has : (g : _) (c : goal.After-drop-key g)

@@ -1,17 +1,10 @@
-use Rattle.std.proofs.Common.{Some, slice_get, option_map, sym, ap, ◌∙◌, subst}
-use Rattle.linked_hash_map.specs.Nodes.{pairs_of, beside, visit_of}
-use Rattle.linked_hash_map.specs.Indexes.{IsIndex}
-use Rattle.linked_hash_map.specs.Pairs.{put}
-use Rattle.linked_hash_map.proofs.nodes.Kept.{distinct_keys}
-use Rattle.linked_hash_map.proofs.nodes.CutNodes.{held-at}
-use Rattle.linked_hash_map.proofs.nodes.Current.{current_of-Some, current_at-Some, index_of-current, IsAt-current}
-use Rattle.linked_hash_map.proofs.nodes.Current.{IsCurrent-outside, MovesCurrent-nodes}
-use Rattle.linked_hash_map.proofs.nodes.Outside.{IsCurrent}
-use Rattle.linked_hash_map.proofs.nodes.PutPair.{IsTouchedAt, touched_at, value-touched, pair-touched, pairs-put}
-use Rattle.linked_hash_map.proofs.nodes.PutPair.{IsKept-put_current, to_visit-put, elsewhere-put}
+use Rattle.linked_hash_map.proofs.Names.{Some, ap, option_map, slice_get, subst, sym, ◌∙◌, pointer_of, change_at, revalued, IsIndex, beside}
+use Rattle.linked_hash_map.proofs.Names.{pairs_of, visit_of, put}
+use Rattle.linked_hash_map.proofs.nodes.Current.{IsAt-current, IsCurrent-outside, MovesCurrent-nodes, current_at-Some, current_of-Some}
+use Rattle.linked_hash_map.proofs.nodes.{Current.index_of-current, CutNodes.held-at, Kept.distinct_keys, Outside.IsCurrent}
+use Rattle.linked_hash_map.proofs.nodes.PutPair.{IsKept-put_current, IsTouchedAt, elsewhere-put, pair-touched, pairs-put, to_visit-put}
+use Rattle.linked_hash_map.proofs.nodes.PutPair.{touched_at, value-touched}
 use Rattle.linked_hash_map.proofs.map.LinkedHashMap.insert_current.Goals as goal
-use Rattle.lhm_ring.specs.Pointer.{pointer_of}
-use Rattle.lhm_ring.specs.Ring.{change_at, revalued}
 
 pub touch-requires : goal.touch-requires
 touch-requires g c = held-at _ _ (IsAt-current c.self.inside.table.held c.self.invariant c.current.ensures c.unwrap-at.ensures)

@@ -1,5 +1,5 @@
-use Rattle.std.proofs.Common.{is_some, sym, ap, ◌∙◌}
-use Rattle.linked_hash_map.proofs.Callers.Fronts.{put_front-put, first-put_front, Updates-reordered}
+use Rattle.linked_hash_map.proofs.Names.{ap, is_some, sym, ◌∙◌}
+use Rattle.linked_hash_map.proofs.Callers.Fronts.{Updates-reordered, first-put_front, put_front-put}
 use Rattle.linked_hash_map.proofs.pairs.Calls.{is_some-value_at}
 use Rattle.linked_hash_map.proofs.map.LinkedHashMap.insert_front.Goals as goal
 

@@ -1,5 +1,4 @@
-use Rattle.std.proofs.Common.{map, ap, ◌∙◌}
-use Rattle.linked_hash_map.specs.LinkedMap.{LinkedMap}
+use Rattle.linked_hash_map.proofs.Names.{ap, map, ◌∙◌, LinkedMap}
 use Rattle.linked_hash_map.proofs.nodes.HeldPairs.{pairs-triples}
 use Rattle.linked_hash_map.proofs.map.LinkedHashMap.into_pairs.Goals as goal
 

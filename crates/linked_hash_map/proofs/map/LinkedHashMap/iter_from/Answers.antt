@@ -1,11 +1,6 @@
-use Rattle.std.proofs.Common.{ap, subst, ◌∙◌}
-use Rattle.std.specs.List.{IsDistinct}
-use Rattle.std.specs.Map.Iter.{deref_pair}
-use Rattle.linked_hash_map.specs.Pairs.{from}
-use Rattle.linked_hash_map.proofs.lists.Options.{of-Some}
-use Rattle.linked_hash_map.proofs.nodes.HeldPairs.{keys-bare}
-use Rattle.linked_hash_map.proofs.nodes.NodesFrom.{pairs_from-key}
-use Rattle.linked_hash_map.proofs.pairs.IteratorLaws.{shows_in_order}
+use Rattle.linked_hash_map.proofs.Names.{ap, subst, ◌∙◌, from, IsDistinct, deref_pair}
+use Rattle.linked_hash_map.proofs.{lists.Options.of-Some, pairs.IteratorLaws.shows_in_order}
+use Rattle.linked_hash_map.proofs.nodes.{HeldPairs.keys-bare, NodesFrom.pairs_from-key}
 use Rattle.linked_hash_map.proofs.map.LinkedHashMap.iter_from.Goals as goal
 
 pub returns-in_err-found-clause-runs : goal.returns-in_err-found-clause-runs

@@ -1,4 +1,4 @@
-use Rattle.std.specs.Map.Iter.{deref}
+use Rattle.linked_hash_map.proofs.Names.{deref}
 use Rattle.linked_hash_map.proofs.pairs.IteratorLaws.{shows_in_order, shows_in_reverse}
 use Rattle.linked_hash_map.proofs.map.LinkedHashMap.keys.Goals as goal
 

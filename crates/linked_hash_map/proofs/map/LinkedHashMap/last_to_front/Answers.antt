@@ -1,4 +1,4 @@
-use Rattle.std.proofs.Common.{◌-◌, ◌++◌, take, drop, ap, ◌∙◌}
+use Rattle.linked_hash_map.proofs.Names.{ap, drop, take, ◌++◌, ◌-◌, ◌∙◌}
 use Rattle.linked_hash_map.proofs.map.LinkedHashMap.last_to_front.Goals as goal
 
 pub returns-clause-pairs : goal.returns-clause-pairs

@@ -1,11 +1,7 @@
-use Rattle.std.proofs.Common.{refl, sym, ap, ◌∙◌}
-use Rattle.linked_hash_map.specs.Nodes.{beside}
-use Rattle.linked_hash_map.proofs.nodes.CutNodes.{held-at, part-at, map_of-written}
-use Rattle.linked_hash_map.proofs.nodes.FirstAndLast.{IsAt-last}
-use Rattle.linked_hash_map.proofs.nodes.HeldPairs.{bare-change}
-use Rattle.linked_hash_map.proofs.nodes.Kept.{IsKept-same, IsValid-view}
+use Rattle.linked_hash_map.proofs.Names.{ap, refl, sym, ◌∙◌, pointer_of, pointer_of_some, beside}
+use Rattle.linked_hash_map.proofs.nodes.CutNodes.{held-at, map_of-written, part-at}
+use Rattle.linked_hash_map.proofs.nodes.{FirstAndLast.IsAt-last, HeldPairs.bare-change, Kept.IsKept-same, Kept.IsValid-view}
 use Rattle.linked_hash_map.proofs.map.LinkedHashMap.last_value_mut.Goals as goal
-use Rattle.lhm_ring.specs.Pointer.{pointer_of, pointer_of_some}
 
 pub value_mut-requires : goal.value_mut-requires
 value_mut-requires g c =

@@ -1,13 +1,9 @@
-use Rattle.std.proofs.Common.{None, refl, ap, ◌∙◌}
-use Rattle.linked_hash_map.specs.Nodes.{map_of, beside, visit_of}
-use Rattle.linked_hash_map.proofs.nodes.HeldPairs.{bare-change}
-use Rattle.linked_hash_map.proofs.nodes.CutNodes.{held-at, part-at, map_of-written}
-use Rattle.linked_hash_map.proofs.nodes.Kept.{IsKept-same, IsValid-view}
-use Rattle.linked_hash_map.proofs.lists.Options.{cond-None}
-use Rattle.linked_hash_map.proofs.nodes.Current.{IsAt-current, IsKept-left}
-use Rattle.linked_hash_map.proofs.map.LinkedHashMap.leave_current.Goals as goal
-use Rattle.lhm_ring.specs.Pointer.{pointer_of}
+use Rattle.linked_hash_map.proofs.Names.{None, ap, refl, ◌∙◌, pointer_of, beside, map_of, visit_of}
 use Rattle.lhm_ring.specs.TableAfterLoan.{with_value}
+use Rattle.linked_hash_map.proofs.{lists.Options.cond-None, nodes.HeldPairs.bare-change, nodes.Kept.IsKept-same, nodes.Kept.IsValid-view}
+use Rattle.linked_hash_map.proofs.nodes.Current.{IsAt-current, IsKept-left}
+use Rattle.linked_hash_map.proofs.nodes.CutNodes.{held-at, map_of-written, part-at}
+use Rattle.linked_hash_map.proofs.map.LinkedHashMap.leave_current.Goals as goal
 
 pub value_mut-requires : goal.value_mut-requires
 value_mut-requires g c = held-at _ _ (IsAt-current c.self.inside.table.held c.self.invariant c.current.ensures c.unwrap-at.ensures)

@@ -1,8 +1,5 @@
-use Rattle.std.proofs.Common.{sym, ◌∙◌, length}
-use Rattle.linked_hash_map.specs.Counts.{rechained_raised}
-use Rattle.linked_hash_map.proofs.lists.Results.{of-OnOk}
-use Rattle.linked_hash_map.proofs.nodes.HeldPairs.{length-pairs_of}
-use Rattle.linked_hash_map.proofs.pairs.RehashCounts.{rechained_raised-table}
+use Rattle.linked_hash_map.proofs.Names.{length, sym, ◌∙◌, rechained_raised}
+use Rattle.linked_hash_map.proofs.{lists.Results.of-OnOk, nodes.HeldPairs.length-pairs_of, pairs.RehashCounts.rechained_raised-table}
 use Rattle.linked_hash_map.proofs.map.LinkedHashMap.make_room.Goals as goal
 
 pub returns-clause-rechained : goal.returns-clause-rechained

@@ -1,19 +1,11 @@
-use Rattle.std.proofs.Common.{◌≡◌, ◌+◌, ◌++◌, ◌&&◌, cond, filter, not, option_to_list, is_some, take, drop, refl, sym, ap, ap₂, ◌∙◌}
-use Rattle.std.specs.Map.{lookup_entry}
-use Rattle.linked_hash_map.specs.Nodes.{pairs_of}
-use Rattle.linked_hash_map.specs.Pairs.{find}
-use Rattle.linked_hash_map.proofs.Callers.Beside.{find-to_behind}
-use Rattle.linked_hash_map.proofs.lists.Options.{of-Some, of-None}
-use Rattle.linked_hash_map.proofs.nodes.FoundKeys.{index_of-HasKey, IsIndex-index_of}
-use Rattle.linked_hash_map.proofs.nodes.Kept.{distinct_keys, IsValid-kept}
-use Rattle.linked_hash_map.proofs.nodes.MovedBeside.{pairs-beside, length-beside, IsKept-beside, count_before-stored, to_behind-stored}
-use Rattle.linked_hash_map.proofs.nodes.StoredKeys.{HasKey-stored}
-use Rattle.linked_hash_map.proofs.pairs.Places.{to_behind-index}
+use Rattle.linked_hash_map.proofs.Names.{ap, ap₂, cond, drop, filter, is_some, not, option_to_list, refl, sym, take, ◌&&◌, ◌++◌, ◌+◌, ◌∙◌}
+use Rattle.linked_hash_map.proofs.Names.{◌≡◌, IsAt-index_of, pointer_of, index_of, to_before_at, HasKey, pairs_of, find, lookup_entry}
+use Rattle.linked_hash_map.proofs.{Callers.Beside.find-to_behind, pairs.Places.to_behind-index}
+use Rattle.linked_hash_map.proofs.lists.Options.{of-None, of-Some}
+use Rattle.linked_hash_map.proofs.nodes.FoundKeys.{IsIndex-index_of, index_of-HasKey}
+use Rattle.linked_hash_map.proofs.nodes.{Kept.IsValid-kept, Kept.distinct_keys, StoredKeys.HasKey-stored}
+use Rattle.linked_hash_map.proofs.nodes.MovedBeside.{IsKept-beside, count_before-stored, length-beside, pairs-beside, to_behind-stored}
 use Rattle.linked_hash_map.proofs.map.LinkedHashMap.move_beside.Goals as goal
-use Rattle.lhm_ring.proofs.tables.Positions.{IsAt-index_of}
-use Rattle.lhm_ring.specs.Pointer.{pointer_of}
-use Rattle.lhm_ring.specs.Positions.{index_of, to_before_at}
-use Rattle.lhm_ring.specs.Search.{HasKey}
 
 -- the positions that are found are those of the two keys
 has : (g : _) (c : goal.After-move_before g)

@@ -1,17 +1,9 @@
-use Rattle.std.proofs.Common.{sym, ap, ◌∙◌, subst}
-use Rattle.linked_hash_map.specs.declared.map.Mode.TheVariants.{Touch}
-use Rattle.linked_hash_map.specs.Nodes.{pairs_of, beside, visit_of}
-use Rattle.linked_hash_map.specs.Indexes.{IsIndex}
+use Rattle.linked_hash_map.proofs.Names.{ap, subst, sym, ◌∙◌, IsAt-index_of, pointer_of, IsIndex, beside, pairs_of, visit_of, Touch}
+use Rattle.linked_hash_map.proofs.nodes.Current.{IsAt-current, IsCurrent-outside, MovesCurrent-nodes, current_at-Some}
+use Rattle.linked_hash_map.proofs.nodes.{CutNodes.held-at, Kept.distinct_keys, MovedNode.pairs-moved, Outside.IsCurrent}
+use Rattle.linked_hash_map.proofs.nodes.PutPair.{IsKept-touched, IsTouchedAt, elsewhere-touched, slice_get-touched, to_visit-touched}
 use Rattle.linked_hash_map.proofs.pairs.Indexes.{to_back_as_is-index}
-use Rattle.linked_hash_map.proofs.nodes.Kept.{distinct_keys}
-use Rattle.linked_hash_map.proofs.nodes.CutNodes.{held-at}
-use Rattle.linked_hash_map.proofs.nodes.Current.{current_at-Some, IsAt-current, IsCurrent-outside, MovesCurrent-nodes}
-use Rattle.linked_hash_map.proofs.nodes.MovedNode.{pairs-moved}
-use Rattle.linked_hash_map.proofs.nodes.Outside.{IsCurrent}
-use Rattle.linked_hash_map.proofs.nodes.PutPair.{IsTouchedAt, slice_get-touched, IsKept-touched, to_visit-touched, elsewhere-touched}
 use Rattle.linked_hash_map.proofs.map.LinkedHashMap.move_current_to_back.Goals as goal
-use Rattle.lhm_ring.proofs.tables.Positions.{IsAt-index_of}
-use Rattle.lhm_ring.specs.Pointer.{pointer_of}
 
 pub move_to_back-requires : goal.move_to_back-requires
 move_to_back-requires g c = held-at _ _ (IsAt-current c.self.inside.table.held c.self.invariant c.current.ensures c.unwrap-at.ensures)

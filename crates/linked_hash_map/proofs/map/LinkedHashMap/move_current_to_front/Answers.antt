@@ -1,17 +1,9 @@
-use Rattle.std.proofs.Common.{◌≡◌, ◌++◌, remove, slice_get, sym, ap, ap₂, ◌∙◌, subst}
-use Rattle.linked_hash_map.specs.Nodes.{pairs_of, beside, visit_of}
-use Rattle.lhm_ring.specs.Positions.{index_of, to_front_at}
-use Rattle.linked_hash_map.specs.Indexes.{IsIndex}
-use Rattle.linked_hash_map.proofs.pairs.Indexes.{to_front-index}
-use Rattle.linked_hash_map.proofs.nodes.Kept.{distinct_keys}
-use Rattle.linked_hash_map.proofs.nodes.CutNodes.{held-at}
-use Rattle.linked_hash_map.proofs.nodes.Current.{current_at-Some, IsAt-current, IsCurrent-outside, MovesCurrent-nodes}
-use Rattle.linked_hash_map.proofs.nodes.MovedToFront.{pairs-moved, index_of-to_front, IsKept-moved, to_visit-moved, elsewhere-moved}
-use Rattle.linked_hash_map.proofs.nodes.Outside.{IsCurrent}
+use Rattle.linked_hash_map.proofs.Names.{ap, ap₂, option_to_list, remove, slice_get, subst, sym, ◌++◌, ◌∙◌, ◌≡◌, IsAt-index_of, pointer_of}
+use Rattle.linked_hash_map.proofs.Names.{index_of, to_front_at, IsIndex, beside, pairs_of, visit_of}
+use Rattle.linked_hash_map.proofs.nodes.Current.{IsAt-current, IsCurrent-outside, MovesCurrent-nodes, current_at-Some}
+use Rattle.linked_hash_map.proofs.{nodes.CutNodes.held-at, nodes.Kept.distinct_keys, nodes.Outside.IsCurrent, pairs.Indexes.to_front-index}
+use Rattle.linked_hash_map.proofs.nodes.MovedToFront.{IsKept-moved, elsewhere-moved, index_of-to_front, pairs-moved, to_visit-moved}
 use Rattle.linked_hash_map.proofs.map.LinkedHashMap.move_current_to_front.Goals as goal
-use Rattle.std.specs.Option.{option_to_list}
-use Rattle.lhm_ring.proofs.tables.Positions.{IsAt-index_of}
-use Rattle.lhm_ring.specs.Pointer.{pointer_of}
 
 pub move_to_front-requires : goal.move_to_front-requires
 move_to_front-requires g c = held-at _ _ (IsAt-current c.self.inside.table.held c.self.invariant c.current.ensures c.unwrap-at.ensures)

@@ -1,21 +1,12 @@
-use Rattle.std.proofs.Common.{rules, ◌≡◌, ◌++◌, Bool, filter, not, option_to_list, is_some, refl, sym, ap, ◌∙◌}
-use Rattle.std.specs.Map.{lookup_entry}
-use Rattle.linked_hash_map.specs.Nodes.{pairs_of}
-use Rattle.linked_hash_map.specs.Pairs.{first, find, to_front}
-use Rattle.linked_hash_map.proofs.Callers.Ends.{first-to_front}
-use Rattle.linked_hash_map.proofs.Callers.Moves.{find-to_front, to_front-absent}
-use Rattle.linked_hash_map.proofs.lists.Options.{of-Some, of-None}
-use Rattle.linked_hash_map.proofs.nodes.FoundKeys.{index_of-HasKey, IsIndex-index_of}
-use Rattle.linked_hash_map.proofs.nodes.HeldPairs.{length-pairs_of}
-use Rattle.linked_hash_map.proofs.nodes.Kept.{distinct_keys, IsValid-kept, IsValid-view}
-use Rattle.linked_hash_map.proofs.nodes.MovedToFront.{pairs-moved, length-to_front, IsKept-front}
-use Rattle.linked_hash_map.proofs.nodes.StoredKeys.{eq-stored, HasKey-stored}
-use Rattle.linked_hash_map.proofs.pairs.Indexes.{to_front-index}
+use Rattle.linked_hash_map.proofs.Names.{Bool, ap, filter, is_some, not, option_to_list, refl, rules, sym, ◌++◌, ◌∙◌, ◌≡◌, IsAt-index_of}
+use Rattle.linked_hash_map.proofs.Names.{pointer_of, index_of, to_front_at, HasKey, pairs_of, find, first, to_front, lookup_entry}
+use Rattle.linked_hash_map.proofs.Callers.{Ends.first-to_front, Moves.find-to_front, Moves.to_front-absent}
+use Rattle.linked_hash_map.proofs.{lists.Options.of-None, lists.Options.of-Some, nodes.StoredKeys.HasKey-stored, nodes.StoredKeys.eq-stored}
+use Rattle.linked_hash_map.proofs.nodes.FoundKeys.{IsIndex-index_of, index_of-HasKey}
+use Rattle.linked_hash_map.proofs.{nodes.HeldPairs.length-pairs_of, pairs.Indexes.to_front-index}
+use Rattle.linked_hash_map.proofs.nodes.Kept.{IsValid-kept, IsValid-view, distinct_keys}
+use Rattle.linked_hash_map.proofs.nodes.MovedToFront.{IsKept-front, length-to_front, pairs-moved}
 use Rattle.linked_hash_map.proofs.map.LinkedHashMap.move_to_front.Goals as goal
-use Rattle.lhm_ring.proofs.tables.Positions.{IsAt-index_of}
-use Rattle.lhm_ring.specs.Pointer.{pointer_of}
-use Rattle.lhm_ring.specs.Positions.{index_of, to_front_at}
-use Rattle.lhm_ring.specs.Search.{HasKey}
 
 -- a position that is found is that of the key
 has : (g : _) (c : goal.After-move_to_front g)

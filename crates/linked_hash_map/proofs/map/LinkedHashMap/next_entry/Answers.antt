@@ -1,6 +1,5 @@
-use Rattle.std.proofs.Common.{slice_get, refl, sym, ap, ◌∙◌}
-use Rattle.std.specs.Map.{keys_of}
-use Rattle.linked_hash_map.proofs.pairs.OccupiedEntries.{value_at-occupied, slice_get-occupied_key}
+use Rattle.linked_hash_map.proofs.Names.{ap, refl, slice_get, sym, ◌∙◌, keys_of}
+use Rattle.linked_hash_map.proofs.pairs.OccupiedEntries.{slice_get-occupied_key, value_at-occupied}
 use Rattle.linked_hash_map.proofs.map.LinkedHashMap.next_entry.Goals as goal
 
 pub returns-then-visit_next : goal.returns-then-visit_next

@@ -1,7 +1,5 @@
-use Rattle.std.proofs.Common.{refl, ap}
-use Rattle.linked_hash_map.specs.Nodes.{bare}
-use Rattle.linked_hash_map.proofs.nodes.EmptyMap.{IsKept-none}
-use Rattle.linked_hash_map.proofs.nodes.Kept.{IsValid-kept}
+use Rattle.linked_hash_map.proofs.Names.{ap, refl, bare}
+use Rattle.linked_hash_map.proofs.nodes.{EmptyMap.IsKept-none, Kept.IsValid-kept}
 use Rattle.linked_hash_map.proofs.map.LinkedHashMap.of_empty.Goals as goal
 
 pub invariant_of-result : goal.invariant_of-result

@@ -1,16 +1,8 @@
-use Rattle.std.proofs.Common.{rules, ◌-◌, length, refl, sym, ◌∙◌}
-use Rattle.lhm_ring.proofs.tables.Positions.{IsAt-within}
-use Rattle.linked_hash_map.specs.Nodes.{pairs_of}
-use Rattle.linked_hash_map.proofs.nodes.CutNodes.{held-at}
-use Rattle.linked_hash_map.proofs.nodes.FirstAndLast.{IsAt-last}
-use Rattle.linked_hash_map.proofs.nodes.Kept.{IsValid-kept, IsValid-view}
-use Rattle.linked_hash_map.proofs.runs.Effects.{remove-last}
-use Rattle.linked_hash_map.proofs.pairs.Calls.{find-none}
-use Rattle.linked_hash_map.proofs.runs.Pops.{Updates-take_but_last}
-use Rattle.linked_hash_map.proofs.nodes.TakenNode.{pairs-removed, IsKept-removed}
+use Rattle.linked_hash_map.proofs.Names.{length, refl, rules, sym, ◌-◌, ◌∙◌, IsAt-within, pointer_of, IsAt, pairs_of}
+use Rattle.linked_hash_map.proofs.nodes.{CutNodes.held-at, FirstAndLast.IsAt-last, Kept.IsValid-kept, Kept.IsValid-view}
+use Rattle.linked_hash_map.proofs.nodes.TakenNode.{IsKept-removed, pairs-removed}
+use Rattle.linked_hash_map.proofs.{pairs.Calls.find-none, runs.Effects.remove-last, runs.Pops.Updates-take_but_last}
 use Rattle.linked_hash_map.proofs.map.LinkedHashMap.pop_back.Goals as goal
-use Rattle.lhm_ring.specs.Pointer.{pointer_of}
-use Rattle.lhm_ring.specs.Positions.{IsAt}
 
 pub remove_at-requires : goal.remove_at-requires
 remove_at-requires g c = held-at _ _ (IsAt-last c.self.inside.table.held c.in_ok-back.ensures.last)

@@ -1,15 +1,8 @@
-use Rattle.std.proofs.Common.{rules, refl, sym, ◌∙◌}
-use Rattle.linked_hash_map.specs.Nodes.{pairs_of}
-use Rattle.linked_hash_map.proofs.nodes.CutNodes.{held-at}
-use Rattle.linked_hash_map.proofs.nodes.Kept.{IsValid-kept, IsValid-view}
-use Rattle.lhm_ring.proofs.tables.Positions.{IsAt-first_at, IsAt-within}
-use Rattle.linked_hash_map.proofs.runs.Effects.{remove-first}
-use Rattle.linked_hash_map.proofs.pairs.Calls.{find-none}
-use Rattle.linked_hash_map.proofs.runs.Pops.{Updates-drop_first}
-use Rattle.linked_hash_map.proofs.nodes.TakenNode.{pairs-removed, IsKept-removed}
+use Rattle.linked_hash_map.proofs.Names.{refl, rules, sym, ◌∙◌, IsAt-first_at, IsAt-within, pointer_of, IsAt, pairs_of}
+use Rattle.linked_hash_map.proofs.nodes.{CutNodes.held-at, Kept.IsValid-kept, Kept.IsValid-view}
+use Rattle.linked_hash_map.proofs.nodes.TakenNode.{IsKept-removed, pairs-removed}
+use Rattle.linked_hash_map.proofs.{pairs.Calls.find-none, runs.Effects.remove-first, runs.Pops.Updates-drop_first}
 use Rattle.linked_hash_map.proofs.map.LinkedHashMap.pop_front.Goals as goal
-use Rattle.lhm_ring.specs.Pointer.{pointer_of}
-use Rattle.lhm_ring.specs.Positions.{IsAt}
 
 pub remove_at-requires : goal.remove_at-requires
 remove_at-requires g c = held-at _ _ (IsAt-first_at c.self.inside.table.held c.in_ok-front.ensures)

@@ -1,14 +1,8 @@
-use Rattle.std.proofs.Common.{rules, ◌≡◌, ◌<◌, None, length, refl, sym, subst, arith}
-use Rattle.linked_hash_map.specs.LinkedMap.{LinkedMap, cursor_state}
-use Rattle.linked_hash_map.specs.Nodes.{pairs_of, unvisited_of}
-use Rattle.linked_hash_map.specs.Hashers.{hash_by}
-use Rattle.linked_hash_map.specs.Pairs.{find}
-use Rattle.linked_hash_map.proofs.nodes.PushedPair.{IsKept-push, pairs_of-push, bookmark_at-push, current_at-push, to_visit-push}
-use Rattle.linked_hash_map.proofs.nodes.HeldPairs.{length-pairs_of}
-use Rattle.linked_hash_map.proofs.nodes.Kept.{IsValid-kept}
+use Rattle.linked_hash_map.proofs.Names.{None, arith, length, refl, rules, subst, sym, ◌<◌, ◌≡◌, pointer_of, held, hash_by, LinkedMap}
+use Rattle.linked_hash_map.proofs.Names.{cursor_state, pairs_of, unvisited_of, find}
+use Rattle.linked_hash_map.proofs.nodes.{HeldPairs.length-pairs_of, Kept.IsValid-kept}
+use Rattle.linked_hash_map.proofs.nodes.PushedPair.{IsKept-push, bookmark_at-push, current_at-push, pairs_of-push, to_visit-push}
 use Rattle.linked_hash_map.proofs.map.LinkedHashMap.push_back.Goals as goal
-use Rattle.lhm_ring.specs.Pointer.{pointer_of}
-use Rattle.lhm_ring.specs.Ring.{held}
 
 pub push_back-requires : goal.push_back-requires
 push_back-requires g c =

@@ -1,4 +1,4 @@
-use Rattle.std.proofs.Common.{◌≤◌, arith, subst}
+use Rattle.linked_hash_map.proofs.Names.{arith, subst, ◌≤◌}
 use Rattle.lhm_ring.proofs.indexes.BucketCounts.{buckets-below}
 use Rattle.linked_hash_map.proofs.pairs.RehashCounts.{buckets-table}
 use Rattle.linked_hash_map.proofs.map.LinkedHashMap.rechained.Goals as goal

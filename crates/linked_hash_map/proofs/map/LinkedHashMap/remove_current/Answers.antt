@@ -1,14 +1,8 @@
-use Rattle.std.proofs.Common.{rules, ◌≡◌, remove, refl, sym, ap, ◌∙◌}
-use Rattle.linked_hash_map.specs.Nodes.{pairs_of, visit_of}
-use Rattle.lhm_ring.specs.Positions.{index_of}
-use Rattle.linked_hash_map.proofs.nodes.Kept.{IsValid-kept, IsValid-view}
-use Rattle.linked_hash_map.proofs.nodes.Outside.{IsCurrent}
-use Rattle.linked_hash_map.proofs.nodes.CutNodes.{held-at}
-use Rattle.linked_hash_map.proofs.nodes.Current.{current_at-Some, IsAt-current, IsCurrent-outside, IsKept-left}
-use Rattle.linked_hash_map.proofs.nodes.TakenNode.{pairs-removed, to_visit-removed, IsKept-taken}
+use Rattle.linked_hash_map.proofs.Names.{ap, refl, remove, rules, sym, ◌∙◌, ◌≡◌, IsAt-index_of, pointer_of, index_of, pairs_of, visit_of}
+use Rattle.linked_hash_map.proofs.nodes.Current.{IsAt-current, IsCurrent-outside, IsKept-left, current_at-Some}
+use Rattle.linked_hash_map.proofs.nodes.{CutNodes.held-at, Outside.IsCurrent, Kept.IsValid-kept, Kept.IsValid-view}
+use Rattle.linked_hash_map.proofs.nodes.TakenNode.{IsKept-taken, pairs-removed, to_visit-removed}
 use Rattle.linked_hash_map.proofs.map.LinkedHashMap.remove_current.Goals as goal
-use Rattle.lhm_ring.proofs.tables.Positions.{IsAt-index_of}
-use Rattle.lhm_ring.specs.Pointer.{pointer_of}
 
 pub remove_at-requires : goal.remove_at-requires
 remove_at-requires g c = held-at _ _ (IsAt-current c.self.inside.table.held c.self.invariant c.current.ensures c.unwrap-at.ensures)

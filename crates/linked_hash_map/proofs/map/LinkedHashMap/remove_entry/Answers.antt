@@ -1,18 +1,11 @@
-use Rattle.std.proofs.Common.{rules, ◌≡◌, List, take, drop, Some, None, refl, sym, ap, ◌∙◌}
-use Rattle.std.specs.Map.{keys_of}
-use Rattle.linked_hash_map.specs.Nodes.{pairs_of, bare, bookmark_at, bookmark_of, unvisited_of}
-use Rattle.linked_hash_map.specs.Pairs.{find}
-use Rattle.linked_hash_map.proofs.lists.Options.{of-Some, of-None}
-use Rattle.linked_hash_map.proofs.pairs.Calls.{filter-none}
-use Rattle.linked_hash_map.proofs.nodes.Kept.{distinct_keys, IsValid-kept, IsValid-view}
-use Rattle.linked_hash_map.proofs.nodes.AbsentKeys.{hash_by-respects, find-LacksKey}
-use Rattle.linked_hash_map.proofs.nodes.FoundKeys.{index_of-HasKey}
-use Rattle.linked_hash_map.proofs.nodes.StoredKeys.{find-stored, without-stored, UpdatesBy-without, length-without_stored, UpdatesBy-absent}
-use Rattle.linked_hash_map.proofs.nodes.TakenNode.{IsKept-removed}
+use Rattle.linked_hash_map.proofs.Names.{List, None, Some, ap, drop, refl, rules, sym, take, ◌∙◌, ◌≡◌, IsAt-index_of, remove-at, Held}
+use Rattle.linked_hash_map.proofs.Names.{TableState, bare, bookmark_at, bookmark_of, pairs_of, unvisited_of, find, keys_of}
+use Rattle.linked_hash_map.proofs.lists.Options.{of-None, of-Some}
+use Rattle.linked_hash_map.proofs.nodes.AbsentKeys.{find-LacksKey, hash_by-respects}
+use Rattle.linked_hash_map.proofs.{nodes.FoundKeys.index_of-HasKey, nodes.TakenNode.IsKept-removed, pairs.Calls.filter-none}
+use Rattle.linked_hash_map.proofs.nodes.Kept.{IsValid-kept, IsValid-view, distinct_keys}
+use Rattle.linked_hash_map.proofs.nodes.StoredKeys.{UpdatesBy-absent, UpdatesBy-without, find-stored, length-without_stored, without-stored}
 use Rattle.linked_hash_map.proofs.map.LinkedHashMap.remove_entry.Goals as goal
-use Rattle.lhm_ring.proofs.tables.Positions.{IsAt-index_of, remove-at}
-use Rattle.lhm_ring.specs.Ring.{Held}
-use Rattle.lhm_ring.specs.Table.{TableState}
 
 -- a key that is not found is absent
 absent : (g : _) (c : goal.After-from_residual g) → find g.Q.Equivalent.equivalent c.args.self.now.pairs c.args.key ≡ None

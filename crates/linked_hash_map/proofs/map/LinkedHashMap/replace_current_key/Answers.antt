@@ -1,17 +1,11 @@
-use Rattle.std.proofs.Common.{◌≡◌, ℕ, ◌+◌, ◌<◌, ◌≤◌, ◌⊎◌, IsTrue, Some, slice_get, length, sym, ap, ◌∙◌, subst}
-use Rattle.linked_hash_map.specs.LinkedMap.{LinkedMap}
-use Rattle.linked_hash_map.specs.Nodes.{pairs_of, bare, beside, visit_of, current_of, current_at}
-use Rattle.linked_hash_map.specs.Indexes.{IsIndex}
-use Rattle.linked_hash_map.proofs.nodes.AbsentKeys.{hash_by-respects}
-use Rattle.linked_hash_map.proofs.nodes.Current.{current_at-Some, IsAt-current, IsCurrent-outside, MovesCurrent-nodes}
+use Rattle.linked_hash_map.proofs.Names.{IsTrue, Some, ap, length, slice_get, subst, sym, ℕ, ◌+◌, ◌<◌, ◌∙◌, ◌≡◌, ◌≤◌, ◌⊎◌, Some-injective}
+use Rattle.linked_hash_map.proofs.Names.{pointer_of, IsIndex, LinkedMap, bare, beside, current_at, current_of, pairs_of, visit_of}
+use Rattle.linked_hash_map.proofs.nodes.{AbsentKeys.hash_by-respects, Kept.distinct_keys, Outside.IsCurrent, Outside.IsElsewhere}
+use Rattle.linked_hash_map.proofs.nodes.Current.{IsAt-current, IsCurrent-outside, MovesCurrent-nodes, current_at-Some}
 use Rattle.linked_hash_map.proofs.nodes.CutNodes.{CutAt, CutAt-index_of, held-at, part-at, slice_get-held}
-use Rattle.linked_hash_map.proofs.nodes.Kept.{distinct_keys}
-use Rattle.linked_hash_map.proofs.nodes.Outside.{IsElsewhere, IsCurrent}
-use Rattle.linked_hash_map.proofs.nodes.ReplacedKey.{index_of-rekeyed, cursor_at-rekeyed, slice_get-rekeyed}
-use Rattle.linked_hash_map.proofs.nodes.ReplacedKey.{to_visit-rekeyed, set_key-rekeyed, IsKept-rekeyed}
+use Rattle.linked_hash_map.proofs.nodes.ReplacedKey.{IsKept-rekeyed, cursor_at-rekeyed, index_of-rekeyed, set_key-rekeyed}
+use Rattle.linked_hash_map.proofs.nodes.ReplacedKey.{slice_get-rekeyed, to_visit-rekeyed}
 use Rattle.linked_hash_map.proofs.map.LinkedHashMap.replace_current_key.Goals as goal
-use Rattle.lhm_ring.proofs.lists.Options.{Some-injective}
-use Rattle.lhm_ring.specs.Pointer.{pointer_of}
 
 -- the current pair's node, which is none of those to visit
 now : (g : _) (c : goal.After-replace_key g)

@@ -1,16 +1,11 @@
-use Rattle.std.proofs.Common.{rules, ◌≡◌, Some, None, map, take, drop, length, option_map, refl, sym, ap, ◌∙◌}
-use Rattle.std.specs.Map.{keys_of}
-use Rattle.std.proofs.lemmas.List.{take-map, drop-map}
-use Rattle.linked_hash_map.specs.Nodes.{pairs_of, bare, bookmark_at, visit_of}
-use Rattle.linked_hash_map.specs.Pairs.{find, value_at, replaced, set_key}
-use Rattle.linked_hash_map.proofs.Callers.ReplacedKeys.{keys_of-set_key, value_at-set_key, length-set_key, set_key-absent}
-use Rattle.linked_hash_map.proofs.lists.Options.{of-Some, of-None}
-use Rattle.linked_hash_map.proofs.nodes.AbsentKeys.{hash_by-respects}
-use Rattle.linked_hash_map.proofs.nodes.Kept.{distinct_keys, IsValid-kept, IsValid-view}
-use Rattle.linked_hash_map.proofs.nodes.ReplacedKey.{cursor_at-rekeyed, set_key-rekeyed, IsKept-rekeyed}
+use Rattle.linked_hash_map.proofs.Names.{None, Some, ap, drop, length, map, option_map, refl, rules, sym, take, ◌∙◌, ◌≡◌, pointer_of}
+use Rattle.linked_hash_map.proofs.Names.{HasKey, bare, bookmark_at, pairs_of, visit_of, find, replaced, set_key, value_at, drop-map}
+use Rattle.linked_hash_map.proofs.Names.{take-map, keys_of}
+use Rattle.linked_hash_map.proofs.Callers.ReplacedKeys.{keys_of-set_key, length-set_key, set_key-absent, value_at-set_key}
+use Rattle.linked_hash_map.proofs.lists.Options.{of-None, of-Some}
+use Rattle.linked_hash_map.proofs.nodes.{AbsentKeys.hash_by-respects, Kept.IsValid-kept, Kept.IsValid-view, Kept.distinct_keys}
+use Rattle.linked_hash_map.proofs.nodes.ReplacedKey.{IsKept-rekeyed, cursor_at-rekeyed, set_key-rekeyed}
 use Rattle.linked_hash_map.proofs.map.LinkedHashMap.replace_key.Goals as goal
-use Rattle.lhm_ring.specs.Pointer.{pointer_of}
-use Rattle.lhm_ring.specs.Search.{HasKey}
 
 -- a position that is found is that of the key
 has : (g : _) (c : goal.After-replace_key g)

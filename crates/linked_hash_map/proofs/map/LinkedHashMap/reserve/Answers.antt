@@ -1,9 +1,7 @@
-use Rattle.std.proofs.Common.{sym, ◌∙◌, length}
-use Rattle.linked_hash_map.specs.Counts.{rechained_raised}
-use Rattle.linked_hash_map.proofs.nodes.HeldPairs.{length-pairs_of}
-use Rattle.linked_hash_map.proofs.pairs.RehashCounts.{rechained_raised-table}
+use Rattle.linked_hash_map.proofs.Names.{length, sym, ◌∙◌, rechained_raised}
+use Rattle.linked_hash_map.proofs.map.LinkedHashMap.reserve.Goals.{in-Err, in-Ok}
+use Rattle.linked_hash_map.proofs.{nodes.HeldPairs.length-pairs_of, pairs.RehashCounts.rechained_raised-table}
 use Rattle.linked_hash_map.proofs.map.LinkedHashMap.reserve.Goals as goal
-use Rattle.linked_hash_map.proofs.map.LinkedHashMap.reserve.Goals.{in-Ok, in-Err}
 
 pub returns-clause-rechained : goal.returns-clause-rechained
 returns-clause-rechained g c =

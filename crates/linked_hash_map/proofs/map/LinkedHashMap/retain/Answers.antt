@@ -1,7 +1,6 @@
-use Rattle.std.proofs.Common.{rules, refl, sym, subst}
-use Rattle.std.specs.Map.Calls.{CallableOnEachPair, CalledAtPair, TakesPair}
+use Rattle.linked_hash_map.proofs.Names.{refl, rules, subst, sym, CallableOnEachPair, CalledAtPair, TakesPair}
 use Rattle.linked_hash_map.proofs.nodes.Kept.{IsValid-kept, IsValid-view}
-use Rattle.linked_hash_map.proofs.nodes.Retained.{bare-retained, pairs-retained, keys-some, length-some, IsKept-some}
+use Rattle.linked_hash_map.proofs.nodes.Retained.{IsKept-some, bare-retained, keys-some, length-some, pairs-retained}
 use Rattle.linked_hash_map.proofs.map.LinkedHashMap.retain.Goals as goal
 
 pub retain-requires : goal.retain-requires

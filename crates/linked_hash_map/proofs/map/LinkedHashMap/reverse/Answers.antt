@@ -1,8 +1,6 @@
-use Rattle.std.proofs.Common.{refl, ap, ◌∙◌}
-use Rattle.linked_hash_map.specs.Pairs.{find}
-use Rattle.linked_hash_map.proofs.Callers.Permuted.{find-reverse}
-use Rattle.linked_hash_map.proofs.nodes.Kept.{IsValid-kept, IsValid-view}
-use Rattle.linked_hash_map.proofs.nodes.Reordered.{pairs-reversed, IsPermutation-reversed, length-reordered, IsKept-reordered}
+use Rattle.linked_hash_map.proofs.Names.{ap, refl, ◌∙◌, find}
+use Rattle.linked_hash_map.proofs.{Callers.Permuted.find-reverse, nodes.Kept.IsValid-kept, nodes.Kept.IsValid-view}
+use Rattle.linked_hash_map.proofs.nodes.Reordered.{IsKept-reordered, IsPermutation-reversed, length-reordered, pairs-reversed}
 use Rattle.linked_hash_map.proofs.map.LinkedHashMap.reverse.Goals as goal
 
 pub invariant_of-self : goal.invariant_of-self

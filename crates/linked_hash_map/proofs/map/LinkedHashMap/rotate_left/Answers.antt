@@ -1,9 +1,7 @@
-use Rattle.std.proofs.Common.{length, refl, ap, ◌∙◌, arith}
-use Rattle.linked_hash_map.specs.Pairs.{find}
+use Rattle.linked_hash_map.proofs.Names.{ap, arith, length, refl, ◌∙◌, find}
 use Rattle.linked_hash_map.proofs.Callers.Moves.{find-rotated}
-use Rattle.linked_hash_map.proofs.nodes.HeldPairs.{length-pairs_of}
-use Rattle.linked_hash_map.proofs.nodes.Kept.{IsValid-kept, IsValid-view}
-use Rattle.linked_hash_map.proofs.nodes.Rotated.{pairs-rotated, length-rotated, IsKept-rotated}
+use Rattle.linked_hash_map.proofs.nodes.{HeldPairs.length-pairs_of, Kept.IsValid-kept, Kept.IsValid-view}
+use Rattle.linked_hash_map.proofs.nodes.Rotated.{IsKept-rotated, length-rotated, pairs-rotated}
 use Rattle.linked_hash_map.proofs.map.LinkedHashMap.rotate_left.Goals as goal
 
 pub rotate_left-requires : goal.rotate_left-requires

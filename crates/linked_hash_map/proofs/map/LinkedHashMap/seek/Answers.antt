@@ -1,10 +1,7 @@
-use Rattle.std.proofs.Common.{Some}
-use Rattle.linked_hash_map.proofs.lists.Options.{of-Some, of-None}
-use Rattle.linked_hash_map.proofs.nodes.Current.{IsKept-visited}
-use Rattle.linked_hash_map.proofs.nodes.FoundKeys.{index_of-HasKey_bare, IsIndex-index_of_bare}
+use Rattle.linked_hash_map.proofs.Names.{Some, pointer_of, HasKey}
+use Rattle.linked_hash_map.proofs.lists.Options.{of-None, of-Some}
+use Rattle.linked_hash_map.proofs.nodes.{Current.IsKept-visited, FoundKeys.IsIndex-index_of_bare, FoundKeys.index_of-HasKey_bare}
 use Rattle.linked_hash_map.proofs.map.LinkedHashMap.seek.Goals as goal
-use Rattle.lhm_ring.specs.Pointer.{pointer_of}
-use Rattle.lhm_ring.specs.Search.{HasKey}
 
 -- a position that is found is that of the key
 has : (g : _) (c : goal.After-self-1 g)

@@ -1,9 +1,7 @@
-use Rattle.std.proofs.Common.{Some, ap}
-use Rattle.lhm_ring.proofs.rings.Ends.{Last, Last-last_at, last_held}
+use Rattle.linked_hash_map.proofs.Names.{Some, ap, Last, Last-last_at, last_held, pointer_of, pointer_of_some}
 use Rattle.linked_hash_map.proofs.nodes.Current.{IsKept-visited}
-use Rattle.linked_hash_map.proofs.nodes.FirstAndLast.{index_of-last, index_of-bare_within, index_of-pairs_within, pairs_of-none_last}
+use Rattle.linked_hash_map.proofs.nodes.FirstAndLast.{index_of-bare_within, index_of-last, index_of-pairs_within, pairs_of-none_last}
 use Rattle.linked_hash_map.proofs.map.LinkedHashMap.seek_back.Goals as goal
-use Rattle.lhm_ring.specs.Pointer.{pointer_of, pointer_of_some}
 
 -- its node is the last
 is_last : (g : _) (c : goal.After-self-1 g) → Last c.self.inside.table.held (pointer_of c.in-Some.back)

@@ -1,9 +1,7 @@
-use Rattle.std.proofs.Common.{Some, ap}
-use Rattle.lhm_ring.proofs.rings.Ends.{First, First-first_at, first_held}
+use Rattle.linked_hash_map.proofs.Names.{Some, ap, First, First-first_at, first_held, pointer_of, pointer_of_some}
 use Rattle.linked_hash_map.proofs.nodes.Current.{IsKept-visited}
-use Rattle.linked_hash_map.proofs.nodes.FirstAndLast.{index_of-first, index_of-bare_within, index_of-pairs_within, pairs_of-none_first}
+use Rattle.linked_hash_map.proofs.nodes.FirstAndLast.{index_of-bare_within, index_of-first, index_of-pairs_within, pairs_of-none_first}
 use Rattle.linked_hash_map.proofs.map.LinkedHashMap.seek_front.Goals as goal
-use Rattle.lhm_ring.specs.Pointer.{pointer_of, pointer_of_some}
 
 -- its node is the first
 is_first : (g : _) (c : goal.After-self-1 g) → First c.self.inside.table.held (pointer_of c.in-Some.front)

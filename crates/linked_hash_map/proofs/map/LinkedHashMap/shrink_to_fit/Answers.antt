@@ -1,8 +1,5 @@
-use Rattle.std.proofs.Common.{refl, sym, ap, ◌∙◌, arith, length}
-use Rattle.linked_hash_map.specs.Counts.{buckets, rechained_fitted}
-use Rattle.linked_hash_map.proofs.nodes.Fitted.{IsKept-fitted, pairs_of-triples}
-use Rattle.linked_hash_map.proofs.nodes.HeldPairs.{length-pairs_of}
-use Rattle.linked_hash_map.proofs.nodes.Kept.{IsValid-kept}
+use Rattle.linked_hash_map.proofs.Names.{ap, arith, length, refl, sym, ◌∙◌, buckets, rechained_fitted}
+use Rattle.linked_hash_map.proofs.nodes.{Fitted.IsKept-fitted, Fitted.pairs_of-triples, HeldPairs.length-pairs_of, Kept.IsValid-kept}
 use Rattle.linked_hash_map.proofs.pairs.RehashCounts.{buckets-table, rechained_fitted-table}
 use Rattle.linked_hash_map.proofs.map.LinkedHashMap.shrink_to_fit.Goals as goal
 

@@ -1,5 +1,4 @@
-use Rattle.std.proofs.Common.{◌≡◌, sym, ap, ◌∙◌}
-use Rattle.linked_hash_map.specs.declared.map.Mode.TheVariants.{Touch, Keep}
+use Rattle.linked_hash_map.proofs.Names.{ap, sym, ◌∙◌, ◌≡◌, Keep, Touch}
 use Rattle.linked_hash_map.proofs.map.LinkedHashMap.touch_front.Goals as goal
 
 pub returns-in-Touch-clause-keep : goal.returns-in-Touch-clause-keep

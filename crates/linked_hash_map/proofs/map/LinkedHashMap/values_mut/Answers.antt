@@ -1,10 +1,6 @@
-use Rattle.std.proofs.Common.{refl}
-use borrow.Follows.Closed.{read_of}
-use Rattle.linked_hash_map.specs.Nodes.{pairs_of, beside, map_of}
-use Rattle.linked_hash_map.specs.MutableValues.{values_loan}
+use Rattle.linked_hash_map.proofs.Names.{refl, values_loan, beside, map_of, pairs_of, read_of}
+use Rattle.linked_hash_map.proofs.nodes.{HeldPairs.bare-values, Kept.IsKept-same, Kept.IsValid-view, Kept.map_of-values}
 use Rattle.linked_hash_map.proofs.pairs.IteratorLaws.{keys_stand, lends_values_in_order, lends_values_in_reverse}
-use Rattle.linked_hash_map.proofs.nodes.Kept.{IsKept-same, IsValid-view, map_of-values}
-use Rattle.linked_hash_map.proofs.nodes.HeldPairs.{bare-values}
 use Rattle.linked_hash_map.proofs.map.LinkedHashMap.values_mut.Goals as goal
 
 pub invariant_of-self-lent : goal.invariant_of-self-lent

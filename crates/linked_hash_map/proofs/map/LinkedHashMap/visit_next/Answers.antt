@@ -1,9 +1,7 @@
-use Rattle.std.proofs.Common.{refl, sym, ap, ◌∙◌, ◌-◌, Some}
-use Rattle.linked_hash_map.specs.Nodes.{visit_of}
+use Rattle.linked_hash_map.proofs.Names.{Some, ap, refl, sym, ◌-◌, ◌∙◌, pointer_of, pointer_of_some, visit_of}
+use Rattle.linked_hash_map.proofs.nodes.BookmarkMoves.{Goes, IsAt-bookmark, kept_on, outside_on, to_visit_on}
 use Rattle.linked_hash_map.proofs.nodes.CutNodes.{held-at}
-use Rattle.linked_hash_map.proofs.nodes.BookmarkMoves.{Goes, IsAt-bookmark, outside_on, kept_on, to_visit_on}
 use Rattle.linked_hash_map.proofs.map.LinkedHashMap.visit_next.Goals as goal
-use Rattle.lhm_ring.specs.Pointer.{pointer_of, pointer_of_some}
 
 -- the visit goes on from the pair at its bookmark
 goes : (g : _) (c : goal.After-self-1 g)

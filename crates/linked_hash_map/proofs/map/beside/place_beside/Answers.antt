@@ -1,7 +1,4 @@
-use Rattle.std.proofs.Common.{◌+◌, cond, Some, subst, sym}
-use Rattle.lhm_ring.proofs.tables.Positions.{IsAt-split}
-use Rattle.lhm_ring.specs.Pointer.{pointer_of, pointer_of_some}
-use Rattle.lhm_ring.specs.Positions.{PlaceAt}
+use Rattle.linked_hash_map.proofs.Names.{Some, cond, subst, sym, ◌+◌, IsAt-split, pointer_of, pointer_of_some, PlaceAt}
 use Rattle.linked_hash_map.proofs.nodes.MovedBeside.{IsHeld-PlaceAt}
 use Rattle.linked_hash_map.proofs.map.beside.place_beside.Goals as goal
 

@@ -1,11 +1,6 @@
-use Rattle.std.proofs.Common.{subst}
-use Rattle.std.proofs.lemmas.Option.{IfSome_then}
-use Rattle.std.specs.List.{IsDistinct}
-use Rattle.linked_hash_map.proofs.nodes.AbsentKeys.{hash_by-respects, find-LacksKey}
-use Rattle.linked_hash_map.proofs.nodes.HeldPairs.{keys-bare}
-use Rattle.linked_hash_map.proofs.nodes.StoredKeys.{find-stored}
+use Rattle.linked_hash_map.proofs.Names.{subst, IfNone-then, IfSome_then, IsDistinct}
+use Rattle.linked_hash_map.proofs.nodes.{AbsentKeys.find-LacksKey, AbsentKeys.hash_by-respects, HeldPairs.keys-bare, StoredKeys.find-stored}
 use Rattle.linked_hash_map.proofs.map.get.locate.Goals as goal
-use Rattle.lhm_ring.proofs.lists.Options.{IfNone-then}
 
 pub returns-clause-found : goal.returns-clause-found
 returns-clause-found g c =

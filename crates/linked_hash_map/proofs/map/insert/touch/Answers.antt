@@ -1,8 +1,5 @@
-use Rattle.std.proofs.Common.{refl, sym, subst}
-use Rattle.linked_hash_map.specs.Touches.{IsTouched}
+use Rattle.linked_hash_map.proofs.Names.{refl, subst, sym, IsAt-index_of, index_of-held, pointer_of, IsTouched}
 use Rattle.linked_hash_map.proofs.map.insert.touch.Goals as goal
-use Rattle.lhm_ring.proofs.tables.Positions.{IsAt-index_of, index_of-held}
-use Rattle.lhm_ring.specs.Pointer.{pointer_of}
 
 pub returns-in-Touch-clause-touched : goal.returns-in-Touch-clause-touched
 returns-in-Touch-clause-touched g c = subst

@@ -1,4 +1,4 @@
-use Rattle.linked_hash_map.specs.SessionTables.{deref_session}
+use Rattle.linked_hash_map.proofs.Names.{deref_session}
 use Rattle.linked_hash_map.proofs.pairs.IteratorLaws.{shows_in_order}
 use Rattle.linked_hash_map.proofs.sessions.Sessions.iter.Goals as goal
 

@@ -1,5 +1,4 @@
-use Rattle.std.proofs.Common.{ap, ◌∙◌, arith}
-use Rattle.std.specs.Prelude.{unwrap_or}
+use Rattle.linked_hash_map.proofs.Names.{ap, arith, unwrap_or, ◌∙◌}
 use Rattle.linked_hash_map.proofs.session_table.Pairs.{total_weight-others}
 use Rattle.linked_hash_map.proofs.sessions.Sessions.plan_put.Goals as goal
 

@@ -1,7 +1,5 @@
-use Rattle.std.proofs.Common.{rules, ◌≤◌, ◌++◌, Vec, Global, length, sym, ap, ◌∙◌, arith}
-use Rattle.std.specs.Borrow.{MutBor}
-use Rattle.linked_hash_map.specs.SessionTables.{Session, with_last, leaving}
-use Rattle.linked_hash_map.proofs.session_table.HandOuts.{leaving-fit, HasPushed-calls, callable-pushes}
+use Rattle.linked_hash_map.proofs.Names.{Global, Vec, ap, arith, length, rules, sym, ◌++◌, ◌∙◌, ◌≤◌, Session, leaving, with_last, MutBor}
+use Rattle.linked_hash_map.proofs.session_table.HandOuts.{HasPushed-calls, callable-pushes, leaving-fit}
 use Rattle.linked_hash_map.proofs.session_table.Plans.{length-leaving_put}
 use Rattle.linked_hash_map.proofs.sessions.Sessions.put.Goals as goal
 

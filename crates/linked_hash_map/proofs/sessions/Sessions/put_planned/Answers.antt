@@ -1,10 +1,7 @@
-use Rattle.std.proofs.Common.{length, sym, ap, ◌∙◌, subst, arith, not}
-use Rattle.std.specs.List.{FoldsTo}
-use Rattle.linked_hash_map.specs.SessionHandOuts.{CalledWithSession, CallableWithEachSession}
-use Rattle.linked_hash_map.specs.SessionTables.{total_weight}
-use Rattle.linked_hash_map.proofs.log.LiveKeys.{none_is}
-use Rattle.linked_hash_map.proofs.session_table.Pairs.{IsValidTable-kept, length-sessions_of}
-use Rattle.linked_hash_map.proofs.session_table.Plans.{all-fit, staying-within, take-put, total_weight-left, HasPut-planned}
+use Rattle.linked_hash_map.proofs.Names.{ap, arith, length, not, subst, sym, ◌∙◌, CallableWithEachSession, CalledWithSession, total_weight}
+use Rattle.linked_hash_map.proofs.Names.{FoldsTo}
+use Rattle.linked_hash_map.proofs.{log.LiveKeys.none_is, session_table.Pairs.IsValidTable-kept, session_table.Pairs.length-sessions_of}
+use Rattle.linked_hash_map.proofs.session_table.Plans.{HasPut-planned, all-fit, staying-within, take-put, total_weight-left}
 use Rattle.linked_hash_map.proofs.sessions.Sessions.put_planned.Goals as goal
 
 pub returns-in_default-clause-none_goes : goal.returns-in_default-clause-none_goes

@@ -1,8 +1,6 @@
-use Rattle.std.proofs.Common.{rules, ◌≡◌, ◌-◌, option_map, sym, ap, ◌∙◌, subst, arith}
-use Rattle.std.specs.Prelude.{unwrap_or}
-use Rattle.linked_hash_map.specs.SessionsKept.{sessions_of, IsKeptWithin}
-use Rattle.linked_hash_map.proofs.session_table.Pairs.{IsValidTable-kept, IsKeptWithin-without, total_weight-others, sessions_of-without}
-use Rattle.linked_hash_map.proofs.session_table.Pairs.{weight_of-sessions_of, payload_of-sessions_of, length-sessions_of}
+use Rattle.linked_hash_map.proofs.Names.{ap, arith, option_map, rules, subst, sym, unwrap_or, ◌-◌, ◌∙◌, ◌≡◌, IsKeptWithin, sessions_of}
+use Rattle.linked_hash_map.proofs.session_table.Pairs.{IsKeptWithin-without, IsValidTable-kept, length-sessions_of, payload_of-sessions_of}
+use Rattle.linked_hash_map.proofs.session_table.Pairs.{sessions_of-without, total_weight-others, weight_of-sessions_of}
 use Rattle.linked_hash_map.proofs.sessions.Sessions.remove.Goals as goal
 
 pub invariant_of-self : goal.invariant_of-self

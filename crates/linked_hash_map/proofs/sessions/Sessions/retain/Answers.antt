@@ -1,11 +1,6 @@
-use Rattle.std.proofs.Common.{rules, sym, ◌∙◌, subst, arith}
-use Rattle.std.specs.Borrow.{MutBor}
-use Rattle.linked_hash_map.specs.SessionTables.{Session}
-use Rattle.linked_hash_map.specs.SessionRetains.{TakesSession, CallableOnEachSession}
-use Rattle.linked_hash_map.specs.SessionsKept.{sessions_of}
-use Rattle.linked_hash_map.proofs.session_table.Pairs.{IsValidTable-kept}
-use Rattle.linked_hash_map.proofs.session_table.Retained.{sessions-retained, lighter-retained, callable-sessions}
-use Rattle.linked_hash_map.proofs.session_table.Retained.{weights-retained, total_weight-retained}
+use Rattle.linked_hash_map.proofs.Names.{arith, rules, subst, sym, ◌∙◌, CallableOnEachSession, TakesSession, Session, sessions_of, MutBor}
+use Rattle.linked_hash_map.proofs.session_table.{Pairs.IsValidTable-kept, Retained.weights-retained}
+use Rattle.linked_hash_map.proofs.session_table.Retained.{callable-sessions, lighter-retained, sessions-retained, total_weight-retained}
 use Rattle.linked_hash_map.proofs.sessions.Sessions.retain.Goals as goal
 
 pub retain-requires : goal.retain-requires

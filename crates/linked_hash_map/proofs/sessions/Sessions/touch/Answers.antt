@@ -1,7 +1,6 @@
-use Rattle.std.proofs.Common.{◌≡◌, ◌⊎◌, inl, option_map, refl, sym, ap, ◌∙◌}
-use Rattle.linked_hash_map.specs.SessionTables.{session_table}
-use Rattle.linked_hash_map.proofs.session_table.Pairs.{IsValidTable-kept, IsKeptWithin-refreshed, sessions_of-refreshed}
-use Rattle.linked_hash_map.proofs.session_table.Pairs.{payload_of-sessions_of, payload_of-with_last_here, payload_of-with_last_apart}
+use Rattle.linked_hash_map.proofs.Names.{ap, inl, option_map, refl, sym, ◌∙◌, ◌≡◌, ◌⊎◌, session_table}
+use Rattle.linked_hash_map.proofs.session_table.Pairs.{IsKeptWithin-refreshed, IsValidTable-kept, payload_of-sessions_of}
+use Rattle.linked_hash_map.proofs.session_table.Pairs.{payload_of-with_last_apart, payload_of-with_last_here, sessions_of-refreshed}
 use Rattle.linked_hash_map.proofs.sessions.Sessions.touch.Goals as goal
 
 -- two tables that a reference is lent out of are the same if each value written leaves the two so

@@ -1,6 +1,5 @@
-use Rattle.std.proofs.Common.{subst, arith}
-use Rattle.linked_hash_map.specs.SessionsKept.{sessions_of}
-use Rattle.linked_hash_map.proofs.session_table.Leaving.{IsPast, IsPast-more, AreLeaving-past, few-past}
+use Rattle.linked_hash_map.proofs.Names.{arith, subst, sessions_of}
+use Rattle.linked_hash_map.proofs.session_table.Leaving.{AreLeaving-past, IsPast, IsPast-more, few-past}
 use Rattle.linked_hash_map.proofs.session_table.Pairs.{length-sessions_of}
 use Rattle.linked_hash_map.proofs.sessions.storage.find_leaving.Goals as goal
 

@@ -1,7 +1,6 @@
-use Rattle.std.proofs.Common.{rules, ◌≡◌, nat_eq, option_map, sym, ap, ◌∙◌}
+use Rattle.linked_hash_map.proofs.Names.{ap, eqb as nat_eq, option_map, rules, sym, ◌∙◌, ◌≡◌, sessions_of}
+use Rattle.linked_hash_map.proofs.session_table.Pairs.{payload_of-sessions_of, sessions_of-to_back}
 use Rattle.linked_hash_map.specs.Pairs as pairs
-use Rattle.linked_hash_map.specs.SessionsKept.{sessions_of}
-use Rattle.linked_hash_map.proofs.session_table.Pairs.{sessions_of-to_back, payload_of-sessions_of}
 use Rattle.linked_hash_map.proofs.sessions.storage.insert_newest.Goals as goal
 
 pub returns-clause-sessions : goal.returns-clause-sessions

@@ -1,14 +1,7 @@
-use Rattle.std.proofs.Common.{length, drop, take, sym, ap, ◌∙◌, subst, arith, length-drop}
-use Rattle.std.specs.List.{FoldsTo}
-use Rattle.std.proofs.lemmas.Fn.{FoldsTo-push}
-use Rattle.std.proofs.lemmas.List.{drop-drop}
-use Rattle.linked_hash_map.specs.Pairs.{without_first}
-use Rattle.linked_hash_map.specs.SessionHandOuts.{CalledWithSession}
-use Rattle.linked_hash_map.specs.SessionTables.{Session}
-use Rattle.linked_hash_map.specs.SessionsKept.{sessions_of}
-use Rattle.linked_hash_map.proofs.lists.Elements.{length-first_none, cons-without_first}
-use Rattle.linked_hash_map.proofs.session_table.HandOuts.{take-at, take-next}
-use Rattle.linked_hash_map.proofs.session_table.Puts.{sessions_of-drop}
+use Rattle.linked_hash_map.proofs.Names.{ap, arith, drop, length, length-drop, subst, sym, take, ◌∙◌, without_first, CalledWithSession}
+use Rattle.linked_hash_map.proofs.Names.{Session, sessions_of, FoldsTo-push, drop-drop, FoldsTo}
+use Rattle.linked_hash_map.proofs.lists.Elements.{cons-without_first, length-first_none}
+use Rattle.linked_hash_map.proofs.session_table.{HandOuts.take-at, HandOuts.take-next, Puts.sessions_of-drop}
 use Rattle.linked_hash_map.proofs.sessions.storage.remove_oldest.Goals as goal
 
 pub unreachable-requires : goal.unreachable-requires

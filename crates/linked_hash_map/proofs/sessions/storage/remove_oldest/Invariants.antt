@@ -1,8 +1,4 @@
-use Rattle.std.proofs.Common.{◌≡◌, drop, nat_eq, take}
-use Rattle.std.specs.List.{FoldsTo}
-use Rattle.linked_hash_map.specs.SessionHandOuts.{CalledWithSession}
-use Rattle.linked_hash_map.specs.SessionsKept.{sessions_of}
-use Rattle.linked_hash_map.specs.Validity.{IsValid}
+use Rattle.linked_hash_map.proofs.Names.{drop, eqb as nat_eq, take, ◌≡◌, CalledWithSession, sessions_of, IsValid, FoldsTo}
 use Rattle.linked_hash_map.proofs.sessions.storage.remove_oldest.Given as goal
 
 -- the closure was called with those that are gone so far

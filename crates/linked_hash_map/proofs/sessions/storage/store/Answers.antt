@@ -1,10 +1,7 @@
-use Rattle.std.proofs.Common.{drop, length, take, not, true≢false, sym, ap, ◌∙◌, subst, arith}
-use Rattle.std.specs.List.{FoldsTo}
-use Rattle.linked_hash_map.specs.SessionHandOuts.{CalledWithSession, CallableWithEachSession}
-use Rattle.linked_hash_map.specs.SessionTables.{payload_of}
-use Rattle.linked_hash_map.specs.SessionsKept.{sessions_of}
-use Rattle.linked_hash_map.proofs.session_table.Puts.{sessions_of-drop, not-absent}
-use Rattle.linked_hash_map.proofs.session_table.Puts.{few-new, length-drop_new, take-new, with_last-drop, payload_of-drop_new}
+use Rattle.linked_hash_map.proofs.Names.{ap, arith, drop, length, not, subst, sym, take, true≢false, ◌∙◌, CallableWithEachSession}
+use Rattle.linked_hash_map.proofs.Names.{CalledWithSession, payload_of, sessions_of, FoldsTo}
+use Rattle.linked_hash_map.proofs.session_table.Puts.{few-new, length-drop_new, not-absent, payload_of-drop_new, sessions_of-drop, take-new}
+use Rattle.linked_hash_map.proofs.session_table.Puts.{with_last-drop}
 use Rattle.linked_hash_map.proofs.sessions.storage.store.Goals as goal
 
 pub remove_oldest-requires-clause-enough : goal.remove_oldest-requires-clause-enough

@@ -1,6 +1,4 @@
-use Rattle.std.proofs.Common.{◌≡◌, ◌+◌}
-use Rattle.linked_hash_map.specs.SessionTables.{total_weight}
-use Rattle.linked_hash_map.specs.SessionsKept.{sessions_of}
+use Rattle.linked_hash_map.proofs.Names.{◌+◌, ◌≡◌, total_weight, sessions_of}
 use Rattle.linked_hash_map.proofs.sessions.storage.total_of.Given as goal
 
 -- the sum so far and that of the sessions to come are the sum of all

@@ -1,4 +1,4 @@
-use Rattle.std.proofs.Common.{sym, ap, ◌∙◌, option_map}
+use Rattle.linked_hash_map.proofs.Names.{ap, option_map, sym, ◌∙◌}
 use Rattle.linked_hash_map.proofs.session_table.Pairs.{weight-sessions_of}
 use Rattle.linked_hash_map.proofs.sessions.storage.weight_at.Goals as goal
 

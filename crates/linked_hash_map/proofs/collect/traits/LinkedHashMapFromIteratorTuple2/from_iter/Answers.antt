@@ -1,4 +1,4 @@
-use Rattle.std.proofs.Common.{sym, subst}
+use Rattle.linked_hash_map.proofs.Names.{subst, sym}
 use Rattle.linked_hash_map.proofs.pairs.ExtendSteps.{CollectsInto-ExtendsWith}
 use Rattle.linked_hash_map.proofs.collect.traits.LinkedHashMapFromIteratorTuple2.from_iter.Goals as goal
 

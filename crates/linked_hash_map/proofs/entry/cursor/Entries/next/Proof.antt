@@ -1,58 +1,30 @@
 -- `next` lends the map of the cursor, by `as_map`, and hands on what the map's own `next_entry`
 -- returns. By hand, since the borrow checker proves no loan from a type that names a lifetime to an
 -- entry in an `Option`.
-use mathlib.Core.Option as maybe
-use mathlib.Core.Path.{subst}
-use seplogic.Ra.Ura.{Ura}
-use base.Fml.{GName, ftrue, flft}
-use base.Logic.{ent, sep, emp, fst∗, id⊢}
-use contract.BorrowLft.{◌⊑◌}
-use contract.Lifetimes.{Lfts}
-use contract.Fact.{fact_i}
-use contract.Monad.{fact}
-use contract.Running.{tables}
-use mir.MapTy.{inst_fn}
-use mir.Syntax.{Args, a_type, dcons, dnil, named}
-use mir.Val.{Val}
-use types.Logic.{Logic, sem}
-use types.Kit.{‵, raw, ◌⊛◌, some, later, ◌$◌, ◌∵◌, !, qed, move, drop, use0, use1, use2, split}
-use types.Kit.{join, pick, await, rewrite, suffices, frame, group, by}
-use types.Run.{enter, addr, stop, no_more, and_then, returns}
-use types.ByLocal.{alloc_all, pass_all, free_all, look_at, get, through, sets, lands_as}
-use denote.Exit.{no}
-use denote.Follow.{follows, follows_if, follows_by, followed}
-use denote.Laws.{Is, shows}
-use denote.Param.{bounded, param}
-use denote.Param.Laws.{param_laws}
-use denote.RattleType.{RattleType}
-use denote.Ref.{MutRef, mut_vals, mut_Tells}
-use denote.Signature.{mut_ref_to, named_lft, plain}
-use denote.Steps.{nothing, heard, peeks, only}
-use denote.Triple.Call.{calls_at}
-use denote.Triple.Clauses.{Ended, Lasts, lasts}
-use denote.Triple.Entry.{on_entry}
-use denote.Triple.Spec.{triple_of}
-use denote.Triple.Table.{framed}
-use denote.Triple.Walked.{Stays, says, stay_dropped, Goes-spent_ref, ends_at}
-use Rattle.std.proofs.Common.{◌≡◌, [], ◌∷◌, refl, sym, ap, rules}
+use Rattle.linked_hash_map.proofs.Names.{Bool, IfNone, IfSome, None, Option, Some, [], ap, refl, rules, subst, sym, ◌∷◌, ◌≡◌, Keeps}
+use Rattle.linked_hash_map.proofs.Names.{to_visit, occupied_key, occupied_map, occupied_value, LinkedMap, value_at, IsValid, OccupiedEntry}
+use Rattle.linked_hash_map.proofs.Names.{proved, name_if_some, GName, flft, ftrue, emp, ent, fst∗, id⊢, sep, ◌⊑◌, fact_i, fact, tables, no}
+use Rattle.linked_hash_map.proofs.Names.{followed, follows, follows_by, follows_if, bounded, param, RattleType, MutRef, mut_Tells, mut_vals}
+use Rattle.linked_hash_map.proofs.Names.{mut_ref_to, named_lft, plain, heard, nothing, only, peeks, calls_at, Ended, Lasts, lasts, on_entry}
+use Rattle.linked_hash_map.proofs.Names.{triple_of, framed, Goes-spent_ref, Stays, ends_at, says, stay_dropped, inst_fn, Args, a_type}
+use Rattle.linked_hash_map.proofs.Names.{dcons, dnil, named, alloc_all, free_all, get, lands_as, look_at, pass_all, sets, through, !, await}
+use Rattle.linked_hash_map.proofs.Names.{by, frame, group, join, later, move, pick, qed, raw, rewrite, some, split, suffices, use0, use1}
+use Rattle.linked_hash_map.proofs.Names.{use2, ‵, ◌$◌, ◌∵◌, ◌⊛◌, addr, and_then, enter, no_more, returns, stop}
+use Rattle.linked_hash_map.proofs.entry.cursor.Entries.next.Statement.{statement}
+use Rattle.linked_hash_map.specs.CursorLends.{lends_map, lends_next_entry, with_cursor_map}
 use Rattle.std.proofs.option.Option.TheLaws.{the_row_laws as option_laws}
-use Rattle.std.proofs.raw_atomic.Walks.{proved}
-use Rattle.std.specs.Borrow.{name_if_some}
 use Rattle.std.specs.HashMap.Lent.{HashMembers}
-use Rattle.std.specs.Prelude.{Bool, Option, Some, None, IfSome, IfNone}
+use contract.Lifetimes.{Lfts}
+use denote.{Laws.Is, Laws.shows, Param.Laws.param_laws}
+use mir.Val.{Val}
+use seplogic.Ra.Ura.{Ura}
+use types.{Kit.drop, Logic.Logic, Logic.sem}
+use mathlib.Core.Option as maybe
 use Rattle.std.specs.contracts.option.Option as option
 use Rattle.std.specs.declared.cmp.PartialEq as eq
 use Rattle.std.specs.declared.hash.Hash as hash
 use Rattle.std.specs.declared.hash.Hasher as hasher
 use Rattle.std.specs.declared.hash.BuildHasher as builder
-use Rattle.linked_hash_map.specs.LinkedMap.{LinkedMap}
-use Rattle.linked_hash_map.specs.Cursor.{to_visit}
-use Rattle.linked_hash_map.specs.Changes.{Keeps}
-use Rattle.linked_hash_map.specs.Validity.{IsValid}
-use Rattle.linked_hash_map.specs.Pairs.{value_at}
-use Rattle.linked_hash_map.specs.Entry.{occupied_map, occupied_key, occupied_value}
-use Rattle.linked_hash_map.specs.CursorLends.{lends_map, lends_next_entry, with_cursor_map}
-use Rattle.linked_hash_map.specs.declared.entry.OccupiedEntry.{OccupiedEntry}
 use Rattle.linked_hash_map.specs.contracts.map.LinkedHashMap as map
 use Rattle.linked_hash_map.specs.contracts.entry.OccupiedEntry as entry
 use Rattle.linked_hash_map.specs.contracts.entry.cursor.Entries as cursor
@@ -62,7 +34,6 @@ use Rattle.linked_hash_map.specs.contracts.entry.cursor.Entries.next as f
 use Rattle.linked_hash_map.proofs.entry.OccupiedEntry.TheLaws as entry-laws
 use Rattle.linked_hash_map.proofs.entry.cursor.Entries.as_map.Met as as_map
 use Rattle.linked_hash_map.proofs.map.LinkedHashMap.next_entry.Met as next_entry
-use Rattle.linked_hash_map.proofs.entry.cursor.Entries.next.Statement.{statement}
 use Rattle.linked_hash_map.proofs.entry.cursor.Entries.next.Code as code
 
 -- if a lender follows a part, and the part is handed on whole or rests at v, the lender follows

@@ -1,6 +1,4 @@
-use Rattle.std.proofs.Common.{map, ◌∙◌, subst}
-use Rattle.std.proofs.lemmas.Result.{MatchResult-from_err}
-use Rattle.linked_hash_map.specs.Clones.{AreClones}
+use Rattle.linked_hash_map.proofs.Names.{map, subst, ◌∙◌, AreClones, MatchResult-from_err}
 use Rattle.linked_hash_map.proofs.pairs.Clones.{AreClones-of, none-of}
 use Rattle.linked_hash_map.proofs.iter.into_iter.IntoIterClone.clone.Goals as goal
 

@@ -1,4 +1,4 @@
-use Rattle.lhm_ring.proofs.tables.Positions.{index_of-held}
+use Rattle.linked_hash_map.proofs.Names.{index_of-held}
 use Rattle.linked_hash_map.proofs.iter.iter_from.IterBackFrom.new.Goals as goal
 
 pub invariant_of-result : goal.invariant_of-result

@@ -1,6 +1,4 @@
-use Rattle.std.proofs.Common.{ap, arith, length}
-use Rattle.lhm_ring.specs.Pointer.{pointer_of_some}
-use Rattle.linked_hash_map.specs.Nodes.{pairs_back_from}
+use Rattle.linked_hash_map.proofs.Names.{ap, arith, length, pointer_of_some, pairs_back_from}
 use Rattle.linked_hash_map.proofs.nodes.NodesFrom.{IsAt-some, length-pairs_back_from, some-pairs_back_from}
 use Rattle.linked_hash_map.proofs.iter.iter_from.IterBackFromIterator.size_hint.Goals as goal
 

@@ -1,6 +1,4 @@
-use Rattle.std.proofs.Common.{ap, sym, ◌∙◌, arith, length}
-use Rattle.lhm_ring.specs.Pointer.{pointer_of_some}
-use Rattle.linked_hash_map.specs.Nodes.{pairs_from}
+use Rattle.linked_hash_map.proofs.Names.{ap, arith, length, sym, ◌∙◌, pointer_of_some, pairs_from}
 use Rattle.linked_hash_map.proofs.nodes.CutNodes.{held-at, pair-at}
 use Rattle.linked_hash_map.proofs.nodes.NodesFrom.{IsAt-some, Lies-place, pairs_from-step}
 use Rattle.linked_hash_map.proofs.iter.iter_from.IterFromIterator.next.Goals as goal

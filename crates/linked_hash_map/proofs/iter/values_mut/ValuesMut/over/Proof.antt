@@ -1,54 +1,28 @@
 -- `over` hands on what the table's own `iter_mut` returns, as an iterator of another type. By hand,
 -- since the borrow checker proves a loan handed on only if the result is handed on as it is.
+use Rattle.linked_hash_map.proofs.Names.{set_held_values, TableState, values_left, values_loan, !, follows_if, Goes-spent_ref, stay_dropped}
+use Rattle.linked_hash_map.proofs.Names.{layouts, nothing, calls_at, on_entry, ends_at, free_all, lands_as, pass_all, suffices, ‵, and_then}
+use Rattle.linked_hash_map.proofs.Names.{refl, proved, fact_i, tables, framed, inst_fn, a_type, look_at, through, rewrite, no_more, returns}
+use Rattle.linked_hash_map.proofs.Names.{flft, fact, sets, group, join, later, move, pick, some, split, use0, use1, use2, addr, enter, stop}
+use Rattle.linked_hash_map.proofs.Names.{pairs_of, values_of, RattleType, mut_Tells, mut_vals, mut_ref_to, named_lft, triple_of, alloc_all}
+use Rattle.linked_hash_map.proofs.Names.{GName, ftrue, Array, param, plain, heard, peeks, Ended, Lasts, lasts, Stays, named, await, frame}
+use Rattle.linked_hash_map.proofs.Names.{[], ap, sym, ◌∙◌, ◌∷◌, ◌≡◌, Fml, emp, id⊢, ◌⊑◌, no, get, by, qed, raw, ◌$◌, ◌∵◌, ◌⊛◌}
+use Rattle.linked_hash_map.proofs.iter.values_mut.ValuesMut.over.Statement.{statement}
+use denote.{Laws.Is, Laws.shows, Param.Laws.param_laws}
+use types.Kit.{drop}
 use mathlib.Core.Option as maybe
-use base.Fml.{Fml, GName, ftrue, flft}
-use base.Logic.{emp, id⊢}
-use contract.BorrowLft.{◌⊑◌}
-use contract.Fact.{fact_i}
-use contract.Monad.{fact}
-use contract.Running.{tables}
-use mir.MapTy.{inst_fn}
-use mir.Syntax.{a_type, named}
-use types.Kit.{‵, raw, ◌⊛◌, some, later, ◌$◌, ◌∵◌, !, qed, move, drop}
-use types.Kit.{use0, use1, use2, split, join, pick, await, rewrite, suffices, frame, group, by}
-use types.Run.{enter, addr, stop, no_more, and_then, returns}
-use types.ByLocal.{alloc_all, pass_all, free_all, look_at, get, through, sets, lands_as}
-use denote.Array.{Array}
-use denote.Exit.{no}
-use denote.Follow.{follows_if}
-use denote.Laws.{Is, shows}
-use denote.Param.{layouts, param}
-use denote.Param.Laws.{param_laws}
-use denote.RattleType.{RattleType}
-use denote.Ref.{mut_vals, mut_Tells}
-use denote.Signature.{mut_ref_to, named_lft, plain}
-use denote.Steps.{nothing, heard, peeks}
-use denote.Triple.Call.{calls_at}
-use denote.Triple.Clauses.{Ended, Lasts, lasts}
-use denote.Triple.Entry.{on_entry}
-use denote.Triple.Spec.{triple_of}
-use denote.Triple.Table.{framed}
-use denote.Triple.Walked.{Stays, stay_dropped, Goes-spent_ref, ends_at}
-use Rattle.std.proofs.Common.{◌≡◌, [], ◌∷◌, ◌∙◌, ap, refl, sym}
-use Rattle.std.proofs.raw_atomic.Walks.{proved}
-use Rattle.std.specs.Map.{values_of}
 use Rattle.lhm_ring.specs.Iter as table
 use Rattle.lhm_ring.specs.contracts.iter.IterMut as Nodes-type
 use Rattle.lhm_ring.specs.contracts.table.Table as Table-type
 use Rattle.lhm_ring.specs.contracts.table.Table.iter_mut as g
 use Rattle.lhm_ring.proofs.iter.IterMut.TheLaws as nodes-laws
 use Rattle.lhm_ring.proofs.table.Table.iter_mut.Met as iter_mut
-use Rattle.linked_hash_map.specs.Nodes.{pairs_of}
-use Rattle.linked_hash_map.specs.MutableValues.{values_left, values_loan}
 use Rattle.linked_hash_map.specs.contracts.iter.values_mut.ValuesMut as Iter-type
 use Rattle.linked_hash_map.specs.contracts.iter.values_mut.ValuesMut.of as h
 use Rattle.linked_hash_map.specs.contracts.iter.values_mut.ValuesMut.over as f
 use Rattle.linked_hash_map.proofs.iter.values_mut.ValuesMut.TheLaws as iter-laws
 use Rattle.linked_hash_map.proofs.iter.values_mut.ValuesMut.of.Met as of
-use Rattle.linked_hash_map.proofs.iter.values_mut.ValuesMut.over.Statement.{statement}
 use Rattle.linked_hash_map.proofs.iter.values_mut.ValuesMut.over.Code as code
-use Rattle.lhm_ring.specs.Ring.{set_held_values}
-use Rattle.lhm_ring.specs.Table.{TableState}
 
 pub over_spec : {M : Type 1} → statement M
 over_spec 𝓤 𝓛 𝓜 𝓡 wired K V LK LV =

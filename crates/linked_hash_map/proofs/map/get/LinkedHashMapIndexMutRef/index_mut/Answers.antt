@@ -1,4 +1,4 @@
-use Rattle.std.proofs.Common.{refl, sym}
+use Rattle.linked_hash_map.proofs.Names.{refl, sym}
 use Rattle.linked_hash_map.proofs.map.get.LinkedHashMapIndexMutRef.index_mut.Goals as goal
 
 pub returns : goal.returns

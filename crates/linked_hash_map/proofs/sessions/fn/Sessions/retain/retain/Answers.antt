@@ -1,4 +1,4 @@
-use Rattle.std.proofs.Common.{refl}
+use Rattle.linked_hash_map.proofs.Names.{refl}
 use Rattle.linked_hash_map.proofs.sessions.fn.Sessions.retain.retain.Goals as goal
 
 pub returns : goal.returns
