@@ -236,6 +236,7 @@ impl<K, V> Index<K, V> {
 impl<K: Eq + Hash, V> Index<K, V> {
     /// Returns the position of the node with this hash and key, if any. It reads no node if the
     /// filter lacks the hash.
+    #[inline(always)]
     pub fn position<Q: Equivalent<K>>(
         &self,
         ring: &Ring<K, V>,

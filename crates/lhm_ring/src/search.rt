@@ -53,6 +53,7 @@ const FEW_BUCKETS: usize = 1 << 17;
 
 /// Counts a node, and returns whether it has the hash and the key; compares the key only if the
 /// hash is equal.
+#[inline(always)]
 fn step<K: Eq + Hash, V, Q: Equivalent<K>>(
     ring: &Ring<K, V>,
     at: Position<K, V>,
@@ -119,6 +120,7 @@ impl<K: Eq + Hash, V> Index<K, V> {
 
     /// Follows the rest of a chain to the node with the key. Every search of a chain reads the
     /// nodes here, except the first one in `begin`.
+    #[inline(always)]
     pub(crate) fn search_on<Q: Equivalent<K>>(
         &self,
         ring: &Ring<K, V>,
@@ -154,7 +156,9 @@ impl<K: Eq + Hash, V> Index<K, V> {
     /// not the only one.
     ///
     /// Which of the first two nodes has the key cannot be predicted, so a conditional move chooses
-    /// it: `&`, since `&&` may become a branch.
+    /// it: `&`, since `&&` may become a branch. That holds only where this and `search_on` are
+    /// inlined, whatever the key.
+    #[inline(always)]
     pub(crate) fn begin(&self, ring: &Ring<K, V>, first: Position<K, V>, hash: u64) -> Reached<K, V>
         requires first { slice_index_or self.now.heads (hash % length self.now.heads) None
             ≡ Some (pointer_of first) }

@@ -390,6 +390,7 @@ impl<K: Eq + Hash, V> Table<K, V> {
 
     /// Returns the position of the pair with this hash and key, if any. It reads no pair if the
     /// filter lacks the hash.
+    #[inline(always)]
     pub fn position<Q: Equivalent<K>>(&self, hash: u64, key: Q) -> Option<Position<K, V>>
         ensures found { IfSome result (λ p.
             HasKey (Q.equivalent key) hash self.now.held (pointer_of p)) }
