@@ -2,29 +2,50 @@
 
 use super::Map;
 use super::call::Call;
-use super::counts::share;
-use super::fills::pair;
+use super::identity::Identity;
 use super::key::Key;
 use super::value::Value;
-use linked_hash_map::LIMIT;
+use linked_hash_map::{Iter, LIMIT};
 use std::alloc::AllocError;
+use std::ops::Range;
 
 /// Makes a map of the pairs of the words, by an iterator that knows how many they are.
 fn from_iter(call: &Call, map: &mut Map) {
-    let words = call.words_left();
-    let items = (0..words / 2 + words % 2).map(|_| (call.key(), call.value()));
-    call.store(map, Map::from_iter(call.alloc, items));
+    let mut pairs = call.pairs();
+    pairs.has_hint = true;
+    call.store(map, Map::from_iter(call.alloc, pairs));
+}
+
+/// What has no pair, but says that it has more than are allowed.
+#[derive(Drop)]
+struct TooMany {
+    numbers: Range<usize>,
+    guard: Identity,
+}
+
+impl Iterator for TooMany {
+    type Item = (Key, Value);
+
+    ghost can_next = { λ pairs. ⟦<Range<usize> as Iterator>⟧.can_next pairs.numbers };
+
+    ghost remaining = { λ pairs. ⟦<Range<usize> as Iterator>⟧.remaining pairs.numbers };
+
+    fn next(&mut self) -> Option<(Key, Value)> {
+        None
+    }
+
+    fn size_hint(&self) -> (usize, Option<usize>) {
+        self.numbers.size_hint()
+    }
 }
 
 /// Makes a map of more pairs than are allowed, of which none is taken.
 fn from_iter_too_large(call: &Call, map: &mut Map) {
-    let guard = call.guard();
-    let counts = share(call.counts());
-    let items = (0..LIMIT + 1).map(move |number| {
-        guard.hold();
-        pair(number as u64, &counts)
-    });
-    call.store(map, Map::from_iter(call.alloc, items));
+    let pairs = TooMany {
+        numbers: 0..LIMIT + 1,
+        guard: call.guard(),
+    };
+    call.store(map, Map::from_iter(call.alloc, pairs));
 }
 
 /// Makes a map of the pairs of the words by `collect`.
@@ -39,10 +60,30 @@ fn extend_trait(call: &Call, map: &mut Map) {
     call.show_refusal(extended);
 }
 
+/// Copies of the pairs of a map.
+#[derive(Drop)]
+struct Copies<'m> {
+    pairs: Iter<'m, Key, Value>,
+}
+
+impl<'m> Iterator for Copies<'m> {
+    type Item = (Key, Value);
+
+    ghost can_next = { λ copies. ⟦<Iter<'m, Key, Value> as Iterator>⟧.can_next copies.pairs };
+
+    ghost remaining = { λ copies. ⟦<Iter<'m, Key, Value> as Iterator>⟧.remaining copies.pairs };
+
+    fn next(&mut self) -> Option<(Key, Value)> {
+        let (key, value) = self.pairs.next()?;
+        Some((key.copy(), value.copy()))
+    }
+}
+
 /// Inserts copies of the pairs of another map.
 fn extend_by_copies(map: &mut Map, other: &Map, call: &Call) {
-    let copies = other.iter().map(|(key, value)| (key.copy(), value.copy()));
-    call.show_refusal(map.extend(copies));
+    call.show_refusal(map.extend(Copies {
+        pairs: other.iter(),
+    }));
 }
 
 /// Runs the call of a line, and returns whether there is one.

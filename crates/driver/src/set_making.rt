@@ -21,8 +21,8 @@ fn with_capacity(call: &Call, set: &mut Set) {
 
 /// Makes a set of the words, by an iterator that knows how many they are.
 fn from_iter(call: &Call, set: &mut Set) {
-    let count = call.words_left();
-    let items = (0..count).map(|_| call.key());
+    let mut items = call.keys();
+    items.has_hint = true;
     call.store(set, Set::from_iter(call.alloc, items));
 }
 

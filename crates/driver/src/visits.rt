@@ -2,21 +2,15 @@
 
 use super::Map;
 use super::call::Call;
-use super::entries::{Edit, edit_in_place, edit_occupied};
-use super::hasher::BuildKeyHasher;
-use super::key::Key;
-use super::value::Value;
-use linked_hash_map::Entries;
+use super::entries::{Edit, Occupied, edit_occupied};
 use std::mem;
 
-/// Makes an edit by the next entry of a cursor.
-fn edit_next(entries: &mut Entries<Key, Value, BuildKeyHasher>, edit: &mut Edit, call: &Call) {
-    call.begin();
-    let Some(mut entry) = entries.next() else {
-        call.push_str("end ");
-        return;
-    };
-    edit_occupied!(entry, edit, call);
+/// Makes an edit by an entry, if there is one.
+fn edit_if_some(entry: Option<Occupied>, edit: &mut Edit, call: &Call) {
+    match entry {
+        Some(entry) => edit_occupied(entry, edit, call),
+        None => call.push_str("end "),
+    }
 }
 
 /// Makes an edit by each entry of a cursor, up to the end of the word, and drops or forgets the
@@ -28,7 +22,8 @@ fn edit_each(map: &mut Map, call: &Call) {
     for letter in edits.bytes() {
         call.show(&entries.remaining());
         edit.letter = letter;
-        edit_next(&mut entries, &mut edit, call);
+        call.begin();
+        edit_if_some(entries.next(), &mut edit, call);
     }
     if call.word() == "forget" {
         mem::forget(entries);
@@ -37,31 +32,9 @@ fn edit_each(map: &mut Map, call: &Call) {
     }
 }
 
-/// Makes an edit by an entry, if there is one.
-macro_rules! edit_if_some {
-    ($entry:expr, $call:ident) => {
-        let mut edit = Edit::new("", $call.word(), $call);
-        let Some(mut entry) = $entry else {
-            $call.push_str("end ");
-            return;
-        };
-        edit_occupied!(entry, &mut edit, $call);
-    };
-}
-
-/// Makes an edit by the next entry of a visit.
-fn edit_next_entry(map: &mut Map, call: &Call) {
-    edit_if_some!(map.next_entry(), call);
-}
-
-/// Makes an edit by the entry of the front pair.
-fn edit_front(map: &mut Map, call: &Call) {
-    edit_if_some!(map.front_entry(), call);
-}
-
-/// Makes an edit by the entry of the back pair.
-fn edit_back(map: &mut Map, call: &Call) {
-    edit_if_some!(map.back_entry(), call);
+/// Makes the edit of a word by the entry that a call returned, if there is one.
+fn edit_one(entry: Option<Occupied>, call: &Call) {
+    edit_if_some(entry, &mut Edit::new("", call.word(), call), call);
 }
 
 /// Begins a visit.
@@ -74,9 +47,9 @@ pub fn run(call: &Call, map: &mut Map) -> bool {
     match call.name() {
         "entries" => edit_each(map, call),
         "visit" => visit(map),
-        "next_entry" => edit_next_entry(map, call),
-        "front_entry" => edit_front(map, call),
-        "back_entry" => edit_back(map, call),
+        "next_entry" => edit_one(map.next_entry(), call),
+        "front_entry" => edit_one(map.front_entry(), call),
+        "back_entry" => edit_one(map.back_entry(), call),
         _ => return false,
     }
     true
