@@ -152,6 +152,13 @@ impl Call {
         }
     }
 
+    /// Takes the words that are left as keys, and says how many they are.
+    pub fn counted_keys(&self) -> Keys {
+        let mut keys = self.keys();
+        keys.has_hint = true;
+        keys
+    }
+
     /// Takes the words that are left as pairs of a key and a value.
     pub fn pairs(&self) -> Pairs {
         Pairs {
@@ -160,6 +167,13 @@ impl Call {
             has_hint: false,
             counts: share(&self.shared),
         }
+    }
+
+    /// Takes the words that are left as pairs, and says how many they are.
+    pub fn counted_pairs(&self) -> Pairs {
+        let mut pairs = self.pairs();
+        pairs.has_hint = true;
+        pairs
     }
 }
 
@@ -177,7 +191,7 @@ pub struct Keys {
     left: Range<usize>,
     words: SplitWhitespace<'static>,
     /// Whether it says how many are left.
-    pub has_hint: bool,
+    has_hint: bool,
     counts: Shared,
 }
 
@@ -208,7 +222,7 @@ pub struct Pairs {
     left: Range<usize>,
     words: SplitWhitespace<'static>,
     /// Whether it says how many are left.
-    pub has_hint: bool,
+    has_hint: bool,
     counts: Shared,
 }
 

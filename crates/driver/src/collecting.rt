@@ -9,13 +9,6 @@ use linked_hash_map::{Iter, LIMIT};
 use std::alloc::AllocError;
 use std::ops::Range;
 
-/// Makes a map of the pairs of the words, by an iterator that knows how many they are.
-fn from_iter(call: &Call, map: &mut Map) {
-    let mut pairs = call.pairs();
-    pairs.has_hint = true;
-    call.store(map, Map::from_iter(call.alloc, pairs));
-}
-
 /// What has no pair, but says that it has more than are allowed.
 #[derive(Drop)]
 struct TooMany {
@@ -54,12 +47,6 @@ fn collect(call: &Call, map: &mut Map) {
     call.store(map, made);
 }
 
-/// Inserts the pairs of the words by the trait.
-fn extend_trait(call: &Call, map: &mut Map) {
-    let extended = <Map as Extend<(Key, Value)>>::extend(map, call.pairs());
-    call.show_refusal(extended);
-}
-
 /// Copies of the pairs of a map.
 #[derive(Drop)]
 struct Copies<'m> {
@@ -79,22 +66,20 @@ impl<'m> Iterator for Copies<'m> {
     }
 }
 
-/// Inserts copies of the pairs of another map.
-fn extend_by_copies(map: &mut Map, other: &Map, call: &Call) {
-    call.show_refusal(map.extend(Copies {
-        pairs: other.iter(),
-    }));
-}
-
 /// Runs the call of a line, and returns whether there is one.
 pub fn run(call: &Call, map: &mut Map, other: &mut Map) -> bool {
     match call.name() {
         "extend" => call.show_refusal(map.extend(call.pairs())),
-        "extend_trait" => extend_trait(call, map),
-        "extend_refs" => extend_by_copies(map, other, call),
+        "extend_trait" => {
+            call.show_refusal(<Map as Extend<(Key, Value)>>::extend(map, call.pairs()));
+        }
+        "extend_refs" => {
+            let pairs = other.iter();
+            call.show_refusal(map.extend(Copies { pairs }));
+        }
         "extend_drain" => call.show_refusal(map.extend(other.drain())),
         "append" => call.show_refusal(map.append(other)),
-        "from_iter" => from_iter(call, map),
+        "from_iter" => call.store(map, Map::from_iter(call.alloc, call.counted_pairs())),
         "from_iter_unhinted" => call.store(map, Map::from_iter(call.alloc, call.pairs())),
         "from_iter_too_large" => from_iter_too_large(call, map),
         "collect" => collect(call, map),

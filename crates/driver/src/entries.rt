@@ -93,29 +93,38 @@ fn edit_place_or_key(entry: &mut Occupied, edit: &Edit, call: &Call) {
 }
 
 /// Makes an edit in place.
-fn edit_in_place(entry: &mut Occupied, edit: &mut Edit, call: &Call) {
+pub fn edit_in_place(entry: &mut Occupied, edit: &mut Edit, call: &Call) {
     edit_value(entry, edit, call);
     edit_place_or_key(entry, edit, call);
 }
 
-/// Shows an entry and makes an edit by it: a removal at `r` or `e`, a write to what the entry turns
-/// into at `m`, one in place, or at `o` none, and the entry is forgotten.
-pub fn edit_occupied(entry: Occupied, edit: &mut Edit, call: &Call) {
-    let mut entry = entry;
-    call.show_pair(entry.key(), entry.get());
-    call.begin();
-    match edit.letter {
-        b'r' => call.show(&entry.remove()),
-        b'e' => call.show(&entry.remove_entry()),
-        b'm' => call.replace(entry.into_mut(), edit.values.take()),
-        b'o' => mem::forget(entry),
-        _ => {
-            edit_in_place(&mut entry, edit, call);
-            call.drop_within(entry);
+/// Shows an entry that is bound to a name, and makes an edit by it: a removal at `r` or `e`, a
+/// write to what the entry turns into at `m`, one in place, or at `o` none, and the entry is
+/// forgotten.
+macro_rules! edit_occupied {
+    ($entry:ident, $edit:expr, $call:expr) => {
+        $call.show_pair($entry.key(), $entry.get());
+        $call.begin();
+        match $edit.letter {
+            b'r' => $call.show(&$entry.remove()),
+            b'e' => $call.show(&$entry.remove_entry()),
+            b'm' => {
+                let value = $edit.take();
+                let lent = $entry.into_mut();
+                $call.end();
+                *lent = value;
+            }
+            b'o' => mem::forget($entry),
+            _ => {
+                edit_in_place(&mut $entry, $edit, $call);
+                $call.drop_within($entry);
+            }
         }
-    }
-    call.end();
+        $call.end();
+    };
 }
+
+pub(crate) use edit_occupied;
 
 /// Appends a value that was inserted.
 fn show_inserted(lent: &Lent, call: &Call) {
@@ -138,7 +147,9 @@ fn write_inserted(lent: &mut Lent, value: Value, call: &Call) {
 /// written at `m`, at `o` it is forgotten, or none.
 fn edit_by_entry(map: &mut Map, key: Key, edit: &mut Edit, call: &Call) {
     match map.entry(key) {
-        Entry::Occupied(entry) => edit_occupied(entry, edit, call),
+        Entry::Occupied(mut entry) => {
+            edit_occupied!(entry, edit, call);
+        }
         Entry::Vacant(entry) => {
             call.push_str("vacant ");
             call.show(entry.key());
@@ -165,13 +176,6 @@ fn edit_entry(map: &mut Map, call: &Call) {
     edit_by_entry(map, key, &mut edit, call);
 }
 
-/// Appends the key of an entry, and drops the entry.
-fn show_entry_key(map: &mut Map, key: Key, call: &Call) {
-    let entry = map.entry(key);
-    call.show(entry.key());
-    call.drop_within(entry);
-}
-
 /// Replaces the key of a present entry by another.
 fn replace_entry_key(map: &mut Map, call: &Call) {
     let (key, other) = (call.key(), call.key());
@@ -188,7 +192,11 @@ fn replace_entry_key(map: &mut Map, call: &Call) {
 pub fn run(call: &Call, map: &mut Map) -> bool {
     match call.name() {
         "entry" => edit_entry(map, call),
-        "entry_key" => show_entry_key(map, call.key(), call),
+        "entry_key" => {
+            let entry = map.entry(call.key());
+            call.show(entry.key());
+            call.drop_within(entry);
+        }
         "entry_replace_key" => replace_entry_key(map, call),
         _ => return false,
     }

@@ -139,7 +139,7 @@ fn fill_at_once(map: &mut Map, count: u64, name: &str, call: &Call) {
 }
 
 /// Fills a map by a call, up to a refusal.
-fn fill(map: &mut Map, call: &Call) {
+pub fn fill(map: &mut Map, call: &Call) {
     let (count, name) = (call.number(), call.word());
     match name {
         "extend" | "extend_trait" | "collect" | "from_iter" => {
@@ -147,14 +147,4 @@ fn fill(map: &mut Map, call: &Call) {
         }
         _ => fill_one_by_one(map, count, name, call),
     }
-}
-
-/// Runs the call of a line, and returns whether there is one.
-pub fn run(call: &Call, map: &mut Map) -> bool {
-    match call.name() {
-        "fill" => fill(map, call),
-        "refuse_clone" => call.refuse_clone(),
-        _ => return false,
-    }
-    true
 }

@@ -2,6 +2,7 @@
 
 use super::Map;
 use super::call::Call;
+use super::iterators_from::advance_if_present;
 use super::key::Key;
 use super::making::take;
 use super::value::Value;
@@ -156,6 +157,14 @@ pub fn run(call: &Call, map: &Map) -> bool {
         "keys" => iterate_and_clone(map.keys(), call),
         "values" => iterate_and_clone(map.values(), call),
         "loop" => show_all(map, call),
+        "iter_from" => {
+            let key = call.key();
+            advance_if_present(map.iter_from(&key), call);
+        }
+        "iter_back_from" => {
+            let key = call.key();
+            advance_if_present(map.iter_back_from(&key), call);
+        }
         _ => return false,
     }
     true

@@ -2,15 +2,21 @@
 
 use super::Map;
 use super::call::Call;
-use super::entries::{Edit, Occupied, edit_occupied};
+use super::entries::{Edit, Occupied, edit_in_place, edit_occupied};
+use super::hasher::BuildKeyHasher;
+use super::key::Key;
+use super::value::Value;
+use linked_hash_map::Entries;
 use std::mem;
 
-/// Makes an edit by an entry, if there is one.
-fn edit_if_some(entry: Option<Occupied>, edit: &mut Edit, call: &Call) {
-    match entry {
-        Some(entry) => edit_occupied(entry, edit, call),
-        None => call.push_str("end "),
-    }
+/// Makes an edit by the next entry of a cursor.
+fn edit_next(entries: &mut Entries<Key, Value, BuildKeyHasher>, edit: &mut Edit, call: &Call) {
+    call.begin();
+    let Some(mut entry) = entries.next() else {
+        call.push_str("end ");
+        return;
+    };
+    edit_occupied!(entry, edit, call);
 }
 
 /// Makes an edit by each entry of a cursor, up to the end of the word, and drops or forgets the
@@ -22,8 +28,7 @@ fn edit_each(map: &mut Map, call: &Call) {
     for letter in edits.bytes() {
         call.show(&entries.remaining());
         edit.letter = letter;
-        call.begin();
-        edit_if_some(entries.next(), &mut edit, call);
+        edit_next(&mut entries, &mut edit, call);
     }
     if call.word() == "forget" {
         mem::forget(entries);
@@ -32,24 +37,33 @@ fn edit_each(map: &mut Map, call: &Call) {
     }
 }
 
-/// Makes the edit of a word by the entry that a call returned, if there is one.
-fn edit_one(entry: Option<Occupied>, call: &Call) {
-    edit_if_some(entry, &mut Edit::new("", call.word(), call), call);
+/// Makes the call of a line that returns an entry.
+fn entry_of<'m>(map: &'m mut Map, call: &Call) -> Option<Occupied<'m>> {
+    match call.name() {
+        "next_entry" => map.next_entry(),
+        "front_entry" => map.front_entry(),
+        _ => map.back_entry(),
+    }
 }
 
-/// Begins a visit.
-fn visit(map: &mut Map) {
-    let _map = map.visit();
+/// Makes an edit by the entry that a call returns, if there is one.
+fn edit_one(map: &mut Map, call: &Call) {
+    let mut edit = Edit::new("", call.word(), call);
+    let Some(mut entry) = entry_of(map, call) else {
+        call.push_str("end ");
+        return;
+    };
+    edit_occupied!(entry, &mut edit, call);
 }
 
 /// Runs the call of a line, and returns whether there is one.
 pub fn run(call: &Call, map: &mut Map) -> bool {
     match call.name() {
         "entries" => edit_each(map, call),
-        "visit" => visit(map),
-        "next_entry" => edit_one(map.next_entry(), call),
-        "front_entry" => edit_one(map.front_entry(), call),
-        "back_entry" => edit_one(map.back_entry(), call),
+        "visit" => {
+            let _map = map.visit();
+        }
+        "next_entry" | "front_entry" | "back_entry" => edit_one(map, call),
         _ => return false,
     }
     true
