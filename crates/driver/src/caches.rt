@@ -99,9 +99,16 @@ fn run_by_key(call: &Call, cache: &mut Cache) -> bool {
     true
 }
 
-/// Runs the call of a line that makes, fills or drops a cache, and returns whether there is one.
+/// Runs the call of a line on a whole cache, and returns whether there is one.
 fn run_on_whole(call: &Call, cache: &mut Cache, other: &Cache) -> bool {
     match call.name() {
+        "set_capacity" => cache.set_capacity(call.size()),
+        "clear" => cache.clear(),
+        "retain" => retain(cache, call),
+        "reserve" => call.show_refusal(cache.reserve(call.size())),
+        "iter_mut" => iterate_and_write(cache.iter_mut(), call),
+        "drain" => iterate_to_the_end(cache.drain(), call),
+        "loop_mut" => add(cache, call.number()),
         "new" => show_new(call),
         "with_hasher" => {
             let (hasher, limit) = (call.hasher(), call.size());
@@ -120,28 +127,10 @@ fn run_on_whole(call: &Call, cache: &mut Cache, other: &Cache) -> bool {
     true
 }
 
-/// Runs the call of a line on all pairs, and returns whether there is one.
-fn run_on_all(call: &Call, cache: &mut Cache) -> bool {
-    match call.name() {
-        "set_capacity" => cache.set_capacity(call.size()),
-        "clear" => cache.clear(),
-        "retain" => retain(cache, call),
-        "reserve" => call.show_refusal(cache.reserve(call.size())),
-        "iter_mut" => iterate_and_write(cache.iter_mut(), call),
-        "drain" => iterate_to_the_end(cache.drain(), call),
-        "loop_mut" => add(cache, call.number()),
-        _ => return false,
-    }
-    true
-}
-
 /// Runs the call of a line, appends what it returns, the limit and the list, and returns whether
 /// there is such a call.
 pub fn run(call: &Call, cache: &mut Cache, other: &Cache) -> bool {
-    let is_known = read(call, cache)
-        || run_by_key(call, cache)
-        || run_on_whole(call, cache, other)
-        || run_on_all(call, cache);
+    let is_known = read(call, cache) || run_by_key(call, cache) || run_on_whole(call, cache, other);
     if is_known {
         call.push_str("| ");
         call.show(&cache.capacity());

@@ -149,19 +149,27 @@ impl Counts {
     }
 }
 
-/// Each effect that is not 0, after a blank.
+/// Writes an effect that is not 0, after a blank.
+fn write_effect<W: fmt::Write>(
+    name: &str,
+    count: u64,
+    sum: Option<&u64>,
+    f: &mut fmt::Formatter<W>,
+) -> fmt::Result {
+    match sum {
+        _ if count == 0 => Ok(()),
+        Some(sum) => write!(f, " {name} {count}:{sum}"),
+        None => write!(f, " {name} {count}"),
+    }
+}
+
+/// Each effect that is not 0.
 impl fmt::Display for Counts {
     fn fmt<W: fmt::Write>(&self, f: &mut fmt::Formatter<W>) -> fmt::Result {
         let (counts, sums) = (self.counts.get(), self.sums.get());
         let mut sums = sums.iter();
         for (name, count) in NAMES.iter().zip(counts.iter()) {
-            let sum = sums.next();
-            if *count != 0 {
-                write!(f, " {name} {count}")?;
-                if let Some(sum) = sum {
-                    write!(f, ":{sum}")?;
-                }
-            }
+            write_effect(name, *count, sums.next(), f)?;
         }
         Ok(())
     }

@@ -1,8 +1,8 @@
-//! Insertions by the entry of an absent key.
+//! Calls that go by the entry of a key.
 
 use super::Map;
 use super::call::Call;
-use super::entries::Lent;
+use super::entries::{Lent, edit_entry, replace_entry_key};
 use super::refusal::Refusal;
 use std::alloc::Global;
 
@@ -68,6 +68,13 @@ pub fn run(call: &Call, map: &mut Map) -> bool {
         "or_insert_with_box" => or_insert_with(map, true, call),
         "or_default" => show_and_increase(&mut map.entry(call.key()).or_default(), call),
         "and_modify" => and_modify(map, call),
+        "entry" => edit_entry(map, call),
+        "entry_key" => {
+            let entry = map.entry(call.key());
+            call.show(entry.key());
+            call.drop_within(entry);
+        }
+        "entry_replace_key" => replace_entry_key(map, call),
         _ => return false,
     }
     true

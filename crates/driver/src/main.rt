@@ -128,7 +128,6 @@ fn change_map(call: &Call, map: &mut Map) -> bool {
             return lookups::run_to_write(call, map)
                 || changes::run(call, map)
                 || order::run(call, map)
-                || entries::run(call, map)
                 || insertions::run(call, map)
                 || visits::run(call, map)
                 || iterators::run_to_take(call, map)

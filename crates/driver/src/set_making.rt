@@ -1,8 +1,6 @@
 //! Calls that make a set, and those that take items in.
 
 use super::call::Call;
-use super::hasher::BuildKeyHasher;
-use super::set_fills;
 use super::sets::Set;
 use linked_hash_set::{LinkedHashSet, ReserveError};
 use std::alloc::AllocError;
@@ -45,7 +43,7 @@ fn show_new_with_capacity(call: &Call) {
 }
 
 /// Runs the call of a line that leaves the hasher to be shown, and returns whether there is one.
-fn make(call: &Call, set: &mut Set, other: &Set) -> bool {
+pub fn run(call: &Call, set: &mut Set, other: &Set) -> bool {
     match call.name() {
         "new" => insert_twice(&mut LinkedHashSet::new(call.alloc), call.number(), call),
         "new_with_capacity" => show_new_with_capacity(call),
@@ -65,18 +63,5 @@ fn make(call: &Call, set: &mut Set, other: &Set) -> bool {
         _ => return false,
     }
     call.show(set.hasher());
-    true
-}
-
-/// Runs the call of a line, and returns whether there is one.
-pub fn run(call: &Call, set: &mut Set, other: &Set) -> bool {
-    match call.name() {
-        "fill" => set_fills::fill(set, call),
-        "drop" => {
-            let empty = Set::with_hasher(call.alloc, BuildKeyHasher::default());
-            call.drop_and_replace(set, empty);
-        }
-        _ => return make(call, set, other),
-    }
     true
 }
