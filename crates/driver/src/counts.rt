@@ -149,27 +149,19 @@ impl Counts {
     }
 }
 
-/// Writes an effect that is not 0, after a blank.
-fn write_effect<W: fmt::Write>(
-    name: &str,
-    count: u64,
-    sum: Option<&u64>,
-    f: &mut fmt::Formatter<W>,
-) -> fmt::Result {
-    match sum {
-        _ if count == 0 => Ok(()),
-        Some(sum) => write!(f, " {name} {count}:{sum}"),
-        None => write!(f, " {name} {count}"),
-    }
-}
-
-/// Each effect that is not 0.
+/// Each effect that is not 0, after a blank.
 impl fmt::Display for Counts {
     fn fmt<W: fmt::Write>(&self, f: &mut fmt::Formatter<W>) -> fmt::Result {
         let (counts, sums) = (self.counts.get(), self.sums.get());
         let mut sums = sums.iter();
         for (name, count) in NAMES.iter().zip(counts.iter()) {
-            write_effect(name, *count, sums.next(), f)?;
+            let sum = sums.next();
+            if *count != 0 {
+                write!(f, " {name} {count}")?;
+                if let Some(sum) = sum {
+                    write!(f, ":{sum}")?;
+                }
+            }
         }
         Ok(())
     }
