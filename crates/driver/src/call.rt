@@ -9,7 +9,6 @@ use super::key::Key;
 use super::value::{Value, Values};
 use std::alloc::Global;
 use std::cell::Cell;
-use std::ops::Range;
 use std::rc::Rc;
 use std::str::SplitWhitespace;
 
@@ -145,35 +144,17 @@ impl Call {
     /// Takes the words that are left as keys.
     pub fn keys(&self) -> Keys {
         Keys {
-            left: 0..self.words_left(),
             words: self.rest(),
-            has_hint: false,
             counts: share(&self.shared),
         }
-    }
-
-    /// Takes the words that are left as keys, and says how many they are.
-    pub fn counted_keys(&self) -> Keys {
-        let mut keys = self.keys();
-        keys.has_hint = true;
-        keys
     }
 
     /// Takes the words that are left as pairs of a key and a value.
     pub fn pairs(&self) -> Pairs {
         Pairs {
-            left: 0..self.words_left().div_ceil(2),
             words: self.rest(),
-            has_hint: false,
             counts: share(&self.shared),
         }
-    }
-
-    /// Takes the words that are left as pairs, and says how many they are.
-    pub fn counted_pairs(&self) -> Pairs {
-        let mut pairs = self.pairs();
-        pairs.has_hint = true;
-        pairs
     }
 }
 
@@ -188,63 +169,43 @@ fn number_of(word: &str) -> u64 {
 /// Words as keys, each of which is made when it is taken.
 #[derive(Drop)]
 pub struct Keys {
-    left: Range<usize>,
     words: SplitWhitespace<'static>,
-    /// Whether it says how many are left.
-    has_hint: bool,
     counts: Shared,
 }
 
 impl Iterator for Keys {
     type Item = Key;
 
-    ghost can_next = { λ keys. ⟦<Range<usize> as Iterator>⟧.can_next keys.left };
+    ghost can_next = { λ keys. ⟦<SplitWhitespace<'static> as Iterator>⟧.can_next keys.words };
 
-    ghost remaining = { λ keys. ⟦<Range<usize> as Iterator>⟧.remaining keys.left };
+    ghost remaining = { λ keys. ⟦<SplitWhitespace<'static> as Iterator>⟧.remaining keys.words };
 
     fn next(&mut self) -> Option<Key> {
-        self.left.next()?;
-        Some(Key::new(self.words.next().unwrap_or(""), &self.counts))
-    }
-
-    fn size_hint(&self) -> (usize, Option<usize>) {
-        if self.has_hint {
-            self.left.size_hint()
-        } else {
-            (0, None)
-        }
+        let word = self.words.next()?;
+        Some(Key::new(word, &self.counts))
     }
 }
 
 /// Words as pairs, each of which is made when it is taken.
 #[derive(Drop)]
 pub struct Pairs {
-    left: Range<usize>,
     words: SplitWhitespace<'static>,
-    /// Whether it says how many are left.
-    has_hint: bool,
     counts: Shared,
 }
 
 impl Iterator for Pairs {
     type Item = (Key, Value);
 
-    ghost can_next = { λ pairs. ⟦<Range<usize> as Iterator>⟧.can_next pairs.left };
+    ghost can_next = { λ pairs. ⟦<SplitWhitespace<'static> as Iterator>⟧.can_next pairs.words };
 
-    ghost remaining = { λ pairs. ⟦<Range<usize> as Iterator>⟧.remaining pairs.left };
+    ghost remaining = { λ pairs. ⟦<SplitWhitespace<'static> as Iterator>⟧.remaining pairs.words };
 
     fn next(&mut self) -> Option<(Key, Value)> {
-        self.left.next()?;
-        let key = Key::new(self.words.next().unwrap_or(""), &self.counts);
-        let number = number_of(self.words.next().unwrap_or(""));
+        let key = Key::new(self.words.next()?, &self.counts);
+        let number = match self.words.next() {
+            Some(word) => number_of(word),
+            None => 0,
+        };
         Some((key, Value::new(number, &self.counts)))
-    }
-
-    fn size_hint(&self) -> (usize, Option<usize>) {
-        if self.has_hint {
-            self.left.size_hint()
-        } else {
-            (0, None)
-        }
     }
 }

@@ -2,43 +2,29 @@
 
 use super::Map;
 use super::call::Call;
-use super::identity::Identity;
+use super::counts::share;
+use super::fills::pair;
 use super::key::Key;
 use super::value::Value;
 use linked_hash_map::{Iter, LIMIT};
 use std::alloc::AllocError;
-use std::ops::Range;
 
-/// What has no pair, but says that it has more than are allowed.
-#[derive(Drop)]
-struct TooMany {
-    numbers: Range<usize>,
-    guard: Identity,
-}
-
-impl Iterator for TooMany {
-    type Item = (Key, Value);
-
-    ghost can_next = { λ pairs. ⟦<Range<usize> as Iterator>⟧.can_next pairs.numbers };
-
-    ghost remaining = { λ pairs. ⟦<Range<usize> as Iterator>⟧.remaining pairs.numbers };
-
-    fn next(&mut self) -> Option<(Key, Value)> {
-        None
-    }
-
-    fn size_hint(&self) -> (usize, Option<usize>) {
-        self.numbers.size_hint()
-    }
+/// Makes a map of the pairs of the words, by an iterator that knows how many they are.
+fn from_iter(call: &Call, map: &mut Map) {
+    let words = call.words_left();
+    let items = (0..words / 2 + words % 2).map(|_| (call.key(), call.value()));
+    call.store(map, Map::from_iter(call.alloc, items));
 }
 
 /// Makes a map of more pairs than are allowed, of which none is taken.
 fn from_iter_too_large(call: &Call, map: &mut Map) {
-    let pairs = TooMany {
-        numbers: 0..LIMIT + 1,
-        guard: call.guard(),
-    };
-    call.store(map, Map::from_iter(call.alloc, pairs));
+    let guard = call.guard();
+    let counts = share(call.counts());
+    let items = (0..LIMIT + 1).map(move |number| {
+        guard.hold();
+        pair(number as u64, &counts)
+    });
+    call.store(map, Map::from_iter(call.alloc, items));
 }
 
 /// Makes a map of the pairs of the words by `collect`.
@@ -79,7 +65,7 @@ pub fn run(call: &Call, map: &mut Map, other: &mut Map) -> bool {
         }
         "extend_drain" => call.show_refusal(map.extend(other.drain())),
         "append" => call.show_refusal(map.append(other)),
-        "from_iter" => call.store(map, Map::from_iter(call.alloc, call.counted_pairs())),
+        "from_iter" => from_iter(call, map),
         "from_iter_unhinted" => call.store(map, Map::from_iter(call.alloc, call.pairs())),
         "from_iter_too_large" => from_iter_too_large(call, map),
         "collect" => collect(call, map),

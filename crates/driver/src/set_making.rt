@@ -6,6 +6,13 @@ use linked_hash_set::{LinkedHashSet, ReserveError};
 use std::alloc::AllocError;
 use std::default::{Emptied, MadeWith};
 
+/// Makes a set of the words, by an iterator that knows how many they are.
+fn from_iter(call: &Call, set: &mut Set) {
+    let count = call.words_left();
+    let items = (0..count).map(|_| call.key());
+    call.store(set, Set::from_iter(call.alloc, items));
+}
+
 /// Makes a set of the words by `collect`.
 fn collect(call: &Call, set: &mut Set) {
     let made: Result<Set, AllocError> = call.keys().collect(call.alloc);
@@ -55,7 +62,7 @@ pub fn run(call: &Call, set: &mut Set, other: &Set) -> bool {
         }
         "emptied" => call.store(set, Emptied::emptied(other)),
         "made_with" => call.replace(set, MadeWith::made_with(call.alloc)),
-        "from_iter" => call.store(set, Set::from_iter(call.alloc, call.counted_keys())),
+        "from_iter" => from_iter(call, set),
         "collect" => collect(call, set),
         "extend" => call.show_refusal(set.extend(call.keys())),
         "extend_refs" => extend_by_copies(set, other, call),
