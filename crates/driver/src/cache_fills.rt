@@ -24,6 +24,7 @@ pub fn fill(cache: &mut Cache, call: &Call) {
         return fill_one_by_one(cache, count, name, call);
     }
     let last = Cell::new(0);
-    let is_given = call.is_given(cache.extend(Numbered::new(count, &last, call.counts())));
+    let items = Numbered::new(count, &last, false, call.counts());
+    let is_given = call.is_given(cache.extend(items));
     call.show_filled(is_given, count, last.get());
 }

@@ -10,16 +10,9 @@ use super::retaining::{Calls, keep_and_increase};
 use super::value::Value;
 use super::{cache_fills, cache_replays};
 use lru_cache::LruCache;
-use std::mem;
 
 /// The caches that the lines speak of.
 pub type Cache = LruCache<Key, Value, BuildKeyHasher>;
-
-/// Makes an empty cache, with the hasher that the next word names and the limit after it.
-fn with_hasher(call: &Call, cache: &mut Cache) {
-    let hasher = call.hasher();
-    call.replace(cache, Cache::with_hasher(call.alloc, call.size(), hasher));
-}
 
 /// Makes a cache of one pair with the default hasher, inserts two pairs, and appends its text.
 fn show_new(call: &Call) {
@@ -50,12 +43,6 @@ fn retain(cache: &mut Cache, call: &Call) {
         keep_and_increase(value, number, noted.note())
     });
     calls.show(call);
-}
-
-/// Drops a cache within a window, and leaves a new one of the limit 0 in its place.
-fn drop_cache(call: &Call, cache: &mut Cache) {
-    let empty = Cache::with_hasher(call.alloc, 0, BuildKeyHasher::default());
-    call.drop_within(mem::replace(cache, empty));
 }
 
 /// Adds a number to every value in place, in a loop over the cache.
@@ -112,23 +99,8 @@ fn run_by_key(call: &Call, cache: &mut Cache) -> bool {
     true
 }
 
-/// Runs the call of a line that makes, fills or drops a cache, and returns whether there is one.
+/// Runs the call of a line on a whole cache, and returns whether there is one.
 fn run_on_whole(call: &Call, cache: &mut Cache, other: &Cache) -> bool {
-    match call.name() {
-        "new" => show_new(call),
-        "with_hasher" => with_hasher(call, cache),
-        "clone" => call.store(cache, other.clone()),
-        "extend" => call.show_refusal(cache.extend(call.pairs())),
-        "replay" => cache_replays::replay_all(cache, call),
-        "fill" => cache_fills::fill(cache, call),
-        "drop" => drop_cache(call, cache),
-        _ => return false,
-    }
-    true
-}
-
-/// Runs the call of a line on all pairs, and returns whether there is one.
-fn run_on_all(call: &Call, cache: &mut Cache) -> bool {
     match call.name() {
         "set_capacity" => cache.set_capacity(call.size()),
         "clear" => cache.clear(),
@@ -137,6 +109,19 @@ fn run_on_all(call: &Call, cache: &mut Cache) -> bool {
         "iter_mut" => iterate_and_write(cache.iter_mut(), call),
         "drain" => iterate_to_the_end(cache.drain(), call),
         "loop_mut" => add(cache, call.number()),
+        "new" => show_new(call),
+        "with_hasher" => {
+            let (hasher, limit) = (call.hasher(), call.size());
+            call.replace(cache, Cache::with_hasher(call.alloc, limit, hasher));
+        }
+        "clone" => call.store(cache, other.clone()),
+        "extend" => call.show_refusal(cache.extend(call.pairs())),
+        "replay" => cache_replays::replay_all(cache, call),
+        "fill" => cache_fills::fill(cache, call),
+        "drop" => {
+            let empty = Cache::with_hasher(call.alloc, 0, BuildKeyHasher::default());
+            call.drop_and_replace(cache, empty);
+        }
         _ => return false,
     }
     true
@@ -145,10 +130,7 @@ fn run_on_all(call: &Call, cache: &mut Cache) -> bool {
 /// Runs the call of a line, appends what it returns, the limit and the list, and returns whether
 /// there is such a call.
 pub fn run(call: &Call, cache: &mut Cache, other: &Cache) -> bool {
-    let is_known = read(call, cache)
-        || run_by_key(call, cache)
-        || run_on_whole(call, cache, other)
-        || run_on_all(call, cache);
+    let is_known = read(call, cache) || run_by_key(call, cache) || run_on_whole(call, cache, other);
     if is_known {
         call.push_str("| ");
         call.show(&cache.capacity());

@@ -2,7 +2,7 @@
 
 use super::Map;
 use super::call::Call;
-use super::making::take;
+use super::making::empty;
 
 /// Inserts a pair, if its key is present or there is room.
 fn insert_within_capacity(map: &mut Map, call: &Call) {
@@ -10,7 +10,7 @@ fn insert_within_capacity(map: &mut Map, call: &Call) {
     call.end();
     if map.len() < map.capacity() || map.contains_key(&key) {
         call.begin();
-        call.show_ok(&map.insert_within_capacity(key, value));
+        call.show(&Ok::<_, ()>(map.insert_within_capacity(key, value)));
     } else {
         call.push_str("full ");
     }
@@ -30,7 +30,7 @@ pub fn run(call: &Call, map: &mut Map) -> bool {
         "clear" => map.clear(),
         "reserve" => call.show_refusal(map.reserve(call.size())),
         "shrink_to_fit" => call.show_refusal(map.shrink_to_fit()),
-        "drop" => call.drop_within(take(call, map)),
+        "drop" => call.drop_and_replace(map, empty(call)),
         _ => return false,
     }
     true

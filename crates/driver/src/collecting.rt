@@ -6,7 +6,7 @@ use super::counts::share;
 use super::fills::pair;
 use super::key::Key;
 use super::value::Value;
-use linked_hash_map::LIMIT;
+use linked_hash_map::{Iter, LIMIT};
 use std::alloc::AllocError;
 
 /// Makes a map of the pairs of the words, by an iterator that knows how many they are.
@@ -33,24 +33,36 @@ fn collect(call: &Call, map: &mut Map) {
     call.store(map, made);
 }
 
-/// Inserts the pairs of the words by the trait.
-fn extend_trait(call: &Call, map: &mut Map) {
-    let extended = <Map as Extend<(Key, Value)>>::extend(map, call.pairs());
-    call.show_refusal(extended);
+/// Copies of the pairs of a map.
+#[derive(Drop)]
+struct Copies<'m> {
+    pairs: Iter<'m, Key, Value>,
 }
 
-/// Inserts copies of the pairs of another map.
-fn extend_by_copies(map: &mut Map, other: &Map, call: &Call) {
-    let copies = other.iter().map(|(key, value)| (key.copy(), value.copy()));
-    call.show_refusal(map.extend(copies));
+impl<'m> Iterator for Copies<'m> {
+    type Item = (Key, Value);
+
+    ghost can_next = { λ copies. ⟦<Iter<'m, Key, Value> as Iterator>⟧.can_next copies.pairs };
+
+    ghost remaining = { λ copies. ⟦<Iter<'m, Key, Value> as Iterator>⟧.remaining copies.pairs };
+
+    fn next(&mut self) -> Option<(Key, Value)> {
+        let (key, value) = self.pairs.next()?;
+        Some((key.copy(), value.copy()))
+    }
 }
 
 /// Runs the call of a line, and returns whether there is one.
 pub fn run(call: &Call, map: &mut Map, other: &mut Map) -> bool {
     match call.name() {
         "extend" => call.show_refusal(map.extend(call.pairs())),
-        "extend_trait" => extend_trait(call, map),
-        "extend_refs" => extend_by_copies(map, other, call),
+        "extend_trait" => {
+            call.show_refusal(<Map as Extend<(Key, Value)>>::extend(map, call.pairs()));
+        }
+        "extend_refs" => {
+            let pairs = other.iter();
+            call.show_refusal(map.extend(Copies { pairs }));
+        }
         "extend_drain" => call.show_refusal(map.extend(other.drain())),
         "append" => call.show_refusal(map.append(other)),
         "from_iter" => from_iter(call, map),

@@ -109,7 +109,7 @@ fn copied<'k>(call: &Call, map: &'k Map) -> Copied<'k> {
 
 /// Extends a copy of a map by references to the pairs of a copy of another, by the trait or by the
 /// map's own call, and appends it.
-fn extend_by_refs<'k>(by_trait: bool, call: &Call, map: &'k Map, other: &'k Map) {
+pub fn extend_by_refs<'k>(by_trait: bool, call: &Call, map: &'k Map, other: &'k Map) {
     call.end();
     let mut map = copied(call, map);
     let other = copied(call, other);
@@ -126,14 +126,4 @@ fn extend_by_refs<'k>(by_trait: bool, call: &Call, map: &'k Map, other: &'k Map)
         call.push_str("refused ");
     }
     call.show(&map);
-}
-
-/// Runs the call of this name, and returns whether there is one.
-pub fn run(call: &Call, map: &Map, other: &Map) -> bool {
-    match call.name() {
-        "extend_copied_refs" => extend_by_refs(false, call, map, other),
-        "extend_trait_refs" => extend_by_refs(true, call, map, other),
-        _ => return false,
-    }
-    true
 }

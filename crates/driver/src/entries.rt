@@ -9,7 +9,8 @@ use super::value::{Value, Values};
 use linked_hash_map::{Entry, OccupiedEntry, Refused, VacantEntry};
 use std::mem;
 
-type Occupied<'m> = OccupiedEntry<'m, Key, Value, BuildKeyHasher>;
+/// The entry of a present key.
+pub type Occupied<'m> = OccupiedEntry<'m, Key, Value, BuildKeyHasher>;
 
 type Vacant<'m> = VacantEntry<'m, Key, Value, BuildKeyHasher>;
 
@@ -50,51 +51,23 @@ impl Edit {
     }
 }
 
-/// Inserts a value by an entry, and appends the one that was there.
-fn show_replaced(entry: &mut Occupied, value: Value, call: &Call) {
-    call.begin();
-    call.show(&entry.insert(value));
-}
-
-/// Inserts a value and then 0.
-fn insert_twice(entry: &mut Occupied, values: &mut Values, call: &Call) {
-    let value = values.take();
-    let zero = values.zero();
-    show_replaced(entry, value, call);
-    show_replaced(entry, zero, call);
-}
-
-/// Writes the value of an entry at `w`, inserts one at `i`, or inserts one and then 0 at `t`.
-fn edit_value(entry: &mut Occupied, edit: &mut Edit, call: &Call) {
+/// Makes an edit in place: writes the value at `w`, inserts one at `i`, or one and then 0 at `t`,
+/// moves the pair to the back at `b` or to the front at `f`, or replaces the key at `p`.
+pub fn edit_in_place(entry: &mut Occupied, edit: &mut Edit, call: &Call) {
     match edit.letter {
-        b'w' => call.replace(entry.get_mut(), edit.values.take()),
-        b'i' => show_replaced(entry, edit.values.take(), call),
-        b't' => insert_twice(entry, &mut edit.values, call),
-        _ => {}
-    }
-}
-
-/// Replaces the key of an entry.
-fn replace_key(entry: &mut Occupied, key: Key, call: &Call) {
-    call.begin();
-    call.show_key(entry.replace_key(key));
-}
-
-/// Moves the pair of an entry to the back at `b` or to the front at `f`, or replaces its key at
-/// `p`.
-fn edit_place_or_key(entry: &mut Occupied, edit: &Edit, call: &Call) {
-    match edit.letter {
+        b'w' => call.replace(entry.get_mut(), edit.take()),
+        b'i' => call.show(&entry.insert(edit.take())),
+        b't' => {
+            let (value, zero) = (edit.take(), edit.values.zero());
+            call.show(&entry.insert(value));
+            call.begin();
+            call.show(&entry.insert(zero));
+        }
         b'b' => entry.move_to_back(),
         b'f' => entry.move_to_front(),
-        b'p' => replace_key(entry, edit.key(), call),
+        b'p' => call.show_key(entry.replace_key(edit.key())),
         _ => {}
     }
-}
-
-/// Makes an edit in place.
-pub fn edit_in_place(entry: &mut Occupied, edit: &mut Edit, call: &Call) {
-    edit_value(entry, edit, call);
-    edit_place_or_key(entry, edit, call);
 }
 
 /// Shows an entry that is bound to a name, and makes an edit by it: a removal at `r` or `e`, a
@@ -168,22 +141,15 @@ fn edit_by_entry(map: &mut Map, key: Key, edit: &mut Edit, call: &Call) {
 }
 
 /// Makes an edit by the entry of a key.
-fn edit_entry(map: &mut Map, call: &Call) {
+pub fn edit_entry(map: &mut Map, call: &Call) {
     let word = call.word();
     let key = call.key_of(word);
     let mut edit = Edit::new(word, call.word(), call);
     edit_by_entry(map, key, &mut edit, call);
 }
 
-/// Appends the key of an entry, and drops the entry.
-fn show_entry_key(map: &mut Map, key: Key, call: &Call) {
-    let entry = map.entry(key);
-    call.show(entry.key());
-    call.drop_within(entry);
-}
-
 /// Replaces the key of a present entry by another.
-fn replace_entry_key(map: &mut Map, call: &Call) {
+pub fn replace_entry_key(map: &mut Map, call: &Call) {
     let (key, other) = (call.key(), call.key());
     match map.entry(key) {
         Entry::Occupied(mut entry) => call.show_key(entry.replace_key(other)),
@@ -192,15 +158,4 @@ fn replace_entry_key(map: &mut Map, call: &Call) {
             call.push_str("absent ");
         }
     }
-}
-
-/// Runs the call of a line, and returns whether there is one.
-pub fn run(call: &Call, map: &mut Map) -> bool {
-    match call.name() {
-        "entry" => edit_entry(map, call),
-        "entry_key" => show_entry_key(map, call.key(), call),
-        "entry_replace_key" => replace_entry_key(map, call),
-        _ => return false,
-    }
-    true
 }

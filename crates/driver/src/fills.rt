@@ -22,15 +22,18 @@ pub struct Numbered<'l> {
     numbers: Range<u64>,
     /// The number that was taken last.
     last: &'l Cell<u64>,
+    /// Whether it says how many are left.
+    has_hint: bool,
     counts: Shared,
 }
 
 impl<'l> Numbered<'l> {
     /// Begins before the pair of 0, with those of the numbers below a count.
-    pub fn new(count: u64, last: &'l Cell<u64>, counts: &Shared) -> Numbered<'l> {
+    pub fn new(count: u64, last: &'l Cell<u64>, has_hint: bool, counts: &Shared) -> Numbered<'l> {
         Numbered {
             numbers: 0..count,
             last,
+            has_hint,
             counts: share(counts),
         }
     }
@@ -47,6 +50,14 @@ impl<'l> Iterator for Numbered<'l> {
         let number = self.numbers.next()?;
         self.last.set(number);
         Some(pair(number, &self.counts))
+    }
+
+    fn size_hint(&self) -> (usize, Option<usize>) {
+        if self.has_hint {
+            self.numbers.size_hint()
+        } else {
+            (0, None)
+        }
     }
 }
 
@@ -114,34 +125,21 @@ fn take_in(name: &str, items: Numbered<'_>, call: &Call, map: &mut Map) -> bool 
             let made: Result<Map, AllocError> = items.collect(call.alloc);
             call.is_stored(map, made)
         }
+        "from_iter" => call.is_stored(map, Map::from_iter(call.alloc, items)),
         _ => call.is_given(<Map as Extend<(Key, Value)>>::extend(map, items)),
     }
-}
-
-/// Makes a map of pairs by an iterator that knows how many they are, and returns whether there was
-/// memory.
-fn make(count: u64, last: &Cell<u64>, call: &Call, map: &mut Map) -> bool {
-    let counts = share(call.counts());
-    let items = (0..count).map(move |number| {
-        last.set(number);
-        pair(number, &counts)
-    });
-    call.is_stored(map, Map::from_iter(call.alloc, items))
 }
 
 /// Takes in the pairs of the numbers below a count, by one call.
 fn fill_at_once(map: &mut Map, count: u64, name: &str, call: &Call) {
     let last = Cell::new(0);
-    let is_given = if name == "from_iter" {
-        make(count, &last, call, map)
-    } else {
-        take_in(name, Numbered::new(count, &last, call.counts()), call, map)
-    };
+    let items = Numbered::new(count, &last, name == "from_iter", call.counts());
+    let is_given = take_in(name, items, call, map);
     call.show_filled(is_given, count, last.get());
 }
 
 /// Fills a map by a call, up to a refusal.
-fn fill(map: &mut Map, call: &Call) {
+pub fn fill(map: &mut Map, call: &Call) {
     let (count, name) = (call.number(), call.word());
     match name {
         "extend" | "extend_trait" | "collect" | "from_iter" => {
@@ -149,14 +147,4 @@ fn fill(map: &mut Map, call: &Call) {
         }
         _ => fill_one_by_one(map, count, name, call),
     }
-}
-
-/// Runs the call of a line, and returns whether there is one.
-pub fn run(call: &Call, map: &mut Map) -> bool {
-    match call.name() {
-        "fill" => fill(map, call),
-        "refuse_clone" => call.refuse_clone(),
-        _ => return false,
-    }
-    true
 }

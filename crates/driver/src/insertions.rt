@@ -1,8 +1,8 @@
-//! Insertions by the entry of an absent key.
+//! Calls that go by the entry of a key.
 
 use super::Map;
 use super::call::Call;
-use super::entries::Lent;
+use super::entries::{Lent, edit_entry, replace_entry_key};
 use super::refusal::Refusal;
 use std::alloc::Global;
 
@@ -29,11 +29,21 @@ fn and_modify(map: &mut Map, call: &Call) {
     show_and_increase(&mut entry.or_insert(zero), call);
 }
 
-fn or_insert_with(map: &mut Map, call: &Call) {
+/// Asks for one box, whether or not it is given.
+fn ask_for_box(alloc: Global) {
+    let _ = Box::new(alloc, 0u64);
+}
+
+/// Inserts what a closure makes, which may ask for memory too.
+fn or_insert_with(map: &mut Map, asks: bool, call: &Call) {
     let (key, value) = (call.key(), call.value());
     let guard = call.guard();
+    let alloc = call.alloc;
     let make = move || {
         drop(guard);
+        if asks {
+            ask_for_box(alloc);
+        }
         value
     };
     show_and_increase(&mut map.entry(key).or_insert_with(make), call);
@@ -49,33 +59,22 @@ fn or_insert_with_key(map: &mut Map, call: &Call) {
     show_and_increase(&mut map.entry(key).or_insert_with_key(make), call);
 }
 
-/// Asks for one box, whether or not it is given.
-fn ask_for_box(alloc: Global) {
-    let _ = Box::new(alloc, 0u64);
-}
-
-/// Inserts what a closure makes that asks for memory too.
-fn or_insert_with_box(map: &mut Map, call: &Call) {
-    let (key, value) = (call.key(), call.value());
-    let guard = call.guard();
-    let alloc = call.alloc;
-    let make = move || {
-        drop(guard);
-        ask_for_box(alloc);
-        value
-    };
-    show_and_increase(&mut map.entry(key).or_insert_with(make), call);
-}
-
 /// Runs the call of a line, and returns whether there is one.
 pub fn run(call: &Call, map: &mut Map) -> bool {
     match call.name() {
         "or_insert" => show_and_increase(&mut map.entry(call.key()).or_insert(call.value()), call),
-        "or_insert_with" => or_insert_with(map, call),
+        "or_insert_with" => or_insert_with(map, false, call),
         "or_insert_with_key" => or_insert_with_key(map, call),
-        "or_insert_with_box" => or_insert_with_box(map, call),
+        "or_insert_with_box" => or_insert_with(map, true, call),
         "or_default" => show_and_increase(&mut map.entry(call.key()).or_default(), call),
         "and_modify" => and_modify(map, call),
+        "entry" => edit_entry(map, call),
+        "entry_key" => {
+            let entry = map.entry(call.key());
+            call.show(entry.key());
+            call.drop_within(entry);
+        }
+        "entry_replace_key" => replace_entry_key(map, call),
         _ => return false,
     }
     true

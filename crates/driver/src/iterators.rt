@@ -2,6 +2,7 @@
 
 use super::Map;
 use super::call::Call;
+use super::iterators_from::advance_if_present;
 use super::key::Key;
 use super::making::take;
 use super::value::Value;
@@ -126,13 +127,6 @@ fn show_all(map: &Map, call: &Call) {
     }
 }
 
-/// Iterates over a map that is taken, and forgets what is left.
-fn iterate_and_forget(map: Map, steps: &str, call: &Call) {
-    let mut pairs = map.into_iter();
-    iterate(&mut pairs, steps, call);
-    mem::forget(pairs);
-}
-
 /// Iterates, and drops or forgets the iterator.
 pub fn iterate_to_the_end<
     T: Debug + Drop,
@@ -156,6 +150,14 @@ pub fn run(call: &Call, map: &Map) -> bool {
         "keys" => iterate_and_clone(map.keys(), call),
         "values" => iterate_and_clone(map.values(), call),
         "loop" => show_all(map, call),
+        "iter_from" => {
+            let key = call.key();
+            advance_if_present(map.iter_from(&key), call);
+        }
+        "iter_back_from" => {
+            let key = call.key();
+            advance_if_present(map.iter_back_from(&key), call);
+        }
         _ => return false,
     }
     true
@@ -169,7 +171,11 @@ pub fn run_to_take(call: &Call, map: &mut Map) -> bool {
         "drain" => iterate_to_the_end(map.drain(), call),
         "loop_mut" => add(map, call.number()),
         "into_iter" => iterate_and_clone(take(call, map).into_iter(), call),
-        "into_iter_forget" => iterate_and_forget(take(call, map), call.word(), call),
+        "into_iter_forget" => {
+            let mut pairs = take(call, map).into_iter();
+            iterate(&mut pairs, call.word(), call);
+            mem::forget(pairs);
+        }
         "into_keys" => iterate_to_the_end(take(call, map).into_keys(), call),
         "into_values" => iterate_to_the_end(take(call, map).into_values(), call),
         _ => return false,

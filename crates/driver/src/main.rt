@@ -106,12 +106,12 @@ fn read_map(call: &Call, map: &Map, other: &Map) -> bool {
     match call.name() {
         "pair_lists" => pair_lists::show_calls(call, map),
         "refused_texts" => refused_texts::show_all(call),
+        "extend_copied_refs" => copied::extend_by_refs(false, call, map, other),
+        "extend_trait_refs" => copied::extend_by_refs(true, call, map, other),
         _ => {
             return lookups::run(call, map)
                 || iterators::run(call, map)
-                || iterators_from::run(call, map)
-                || comparisons::run(call, map, other)
-                || copied::run(call, map, other);
+                || comparisons::run(call, map, other);
         }
     }
     true
@@ -122,16 +122,16 @@ fn change_map(call: &Call, map: &mut Map) -> bool {
     match call.name() {
         "retain" => retaining::retain(map, call),
         "replay" => replays::replay_all(call, map),
+        "fill" => fills::fill(map, call),
+        "refuse_clone" => call.refuse_clone(),
         _ => {
             return lookups::run_to_write(call, map)
                 || changes::run(call, map)
                 || order::run(call, map)
-                || entries::run(call, map)
                 || insertions::run(call, map)
                 || visits::run(call, map)
                 || iterators::run_to_take(call, map)
-                || sorts::run(call, map)
-                || fills::run(call, map);
+                || sorts::run(call, map);
         }
     }
     true

@@ -6,16 +6,6 @@ use super::hasher::BuildKeyHasher;
 use std::default::{Emptied, MadeWith};
 use std::mem;
 
-/// Makes an empty map, with the hasher that the next word names and the capacity after it.
-fn with_capacity(call: &Call, map: &mut Map) {
-    let hasher = call.hasher();
-    let capacity = call.size();
-    call.store(
-        map,
-        Map::with_capacity_and_hasher(call.alloc, capacity, hasher),
-    );
-}
-
 /// Makes an empty map with the default hasher.
 pub fn empty(call: &Call) -> Map {
     Map::with_hasher(call.alloc, BuildKeyHasher::default())
@@ -30,7 +20,11 @@ pub fn take(call: &Call, map: &mut Map) -> Map {
 pub fn run(call: &Call, map: &mut Map, other: &mut Map) -> bool {
     match call.name() {
         "with_hasher" => call.replace(map, Map::with_hasher(call.alloc, call.hasher())),
-        "with_capacity" => with_capacity(call, map),
+        "with_capacity" => {
+            let (hasher, capacity) = (call.hasher(), call.size());
+            let made = Map::with_capacity_and_hasher(call.alloc, capacity, hasher);
+            call.store(map, made);
+        }
         "default" => call.replace(map, empty(call)),
         "made_with" => call.replace(map, MadeWith::made_with(call.alloc)),
         "emptied" => call.store(map, Emptied::emptied(other)),

@@ -20,11 +20,6 @@ fn again(refused: &Pair, counts: &Shared) -> Pair {
     }
 }
 
-/// Appends the kind of an error, which was made within a window.
-pub fn show_kind(error: io::Error, call: &Call) {
-    call.show(&error.kind());
-}
-
 /// Appends the text of an error of a pair, and what it is turned into.
 fn show_refused(call: &Call) {
     let first = Refused {
@@ -35,7 +30,7 @@ fn show_refused(call: &Call) {
     let third = again(&first, call.counts());
     call.show_text(&first);
     call.begin();
-    show_kind(io::Error::from(second), call);
+    call.show(&io::Error::from(second).kind());
     call.begin();
     call.show(&AllocError::from(third));
 }
@@ -43,17 +38,17 @@ fn show_refused(call: &Call) {
 /// Appends the text of an error of a reservation, and what it is turned into.
 pub fn show_reserve_errors(call: &Call) {
     call.show_text(&ReserveError::TooLarge);
-    show_kind(io::Error::from(ReserveError::TooLarge), call);
+    call.show(&io::Error::from(ReserveError::TooLarge).kind());
     call.show(&AllocError::from(ReserveError::TooLarge));
     call.show_text(&ReserveError::NoRoom);
-    show_kind(io::Error::from(ReserveError::NoRoom), call);
+    call.show(&io::Error::from(ReserveError::NoRoom).kind());
     call.show(&AllocError::from(ReserveError::NoRoom));
 }
 
 /// Appends the text of the error of a shrinking, and what it is turned into.
 pub fn show_no_room(call: &Call) {
     call.show_text(&NoRoom);
-    show_kind(io::Error::from(NoRoom), call);
+    call.show(&io::Error::from(NoRoom).kind());
     call.show(&AllocError::from(NoRoom));
 }
 

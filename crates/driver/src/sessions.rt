@@ -10,7 +10,6 @@ use super::value::Value;
 use linked_hash_map::sessions::{Put, PutRefused, Sessions};
 use std::alloc::Global;
 use std::cell::Cell;
-use std::mem;
 
 /// The tables that the lines speak of.
 pub type Table = Sessions<Value>;
@@ -22,17 +21,6 @@ impl Refusal for PutRefused<Value> {
         call.show(&self.reason);
         call.show_numbered(&self.payload, self.payload.serial());
     }
-}
-
-/// Makes an empty table of a limit and a capacity.
-fn with_capacity(call: &Call, table: &mut Table) {
-    let limit = call.number();
-    call.store(table, Table::with_capacity(call.alloc, limit, call.size()));
-}
-
-/// Drops a table within a window, and leaves a new one of the limit 0 in its place.
-fn drop_table(call: &Call, table: &mut Table) {
-    call.drop_within(mem::replace(table, Table::new(call.alloc, 0)));
 }
 
 /// Appends a session that went.
@@ -198,8 +186,11 @@ fn run_call(call: &Call, table: &mut Table) -> bool {
         "iter" => iterate(table, call.word(), call),
         "fill" => fill(table, call),
         "new" => call.replace(table, Table::new(call.alloc, call.number())),
-        "with_capacity" => with_capacity(call, table),
-        "drop" => drop_table(call, table),
+        "with_capacity" => {
+            let (limit, capacity) = (call.number(), call.size());
+            call.store(table, Table::with_capacity(call.alloc, limit, capacity));
+        }
+        "drop" => call.drop_and_replace(table, Table::new(call.alloc, 0)),
         _ => return false,
     }
     true

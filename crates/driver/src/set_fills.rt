@@ -29,6 +29,10 @@ impl<'l> Iterator for NumberedItems<'l> {
         self.last.set(number);
         Some(Key::decimal(number, &self.counts))
     }
+
+    fn size_hint(&self) -> (usize, Option<usize>) {
+        self.numbers.size_hint()
+    }
 }
 
 /// Inserts an item that a closure makes anew, and returns whether there was memory.
@@ -55,36 +59,28 @@ impl Fillable for Set {
     }
 }
 
-/// Makes a set of the items of the numbers below a count, by an iterator that knows how many they
-/// are, and returns whether there was memory.
-fn make(set: &mut Set, count: u64, last: &Cell<u64>, call: &Call) -> bool {
-    let counts = share(call.counts());
-    let items = (0..count).map(move |number| {
-        last.set(number);
-        Key::decimal(number, &counts)
-    });
-    call.is_stored(set, Set::from_iter(call.alloc, items))
-}
-
-/// Inserts the items of the numbers below a count by one call, and returns whether there was
-/// memory.
-fn extend(set: &mut Set, count: u64, last: &Cell<u64>, call: &Call) -> bool {
-    let items = NumberedItems {
-        numbers: 0..count,
-        last,
-        counts: share(call.counts()),
-    };
-    call.is_given(set.extend(items))
+/// Takes in the items of the numbers below a count by the call of this name, and returns whether
+/// there was memory.
+fn take_in(name: &str, items: NumberedItems<'_>, call: &Call, set: &mut Set) -> bool {
+    if name == "extend" {
+        call.is_given(set.extend(items))
+    } else {
+        call.is_stored(set, Set::from_iter(call.alloc, items))
+    }
 }
 
 /// Fills a set by a call, up to a refusal.
 pub fn fill(set: &mut Set, call: &Call) {
     let (count, name) = (call.number(), call.word());
+    if name != "extend" && name != "from_iter" {
+        return fill_one_by_one(set, count, name, call);
+    }
     let last = Cell::new(0);
-    let is_given = match name {
-        "extend" => extend(set, count, &last, call),
-        "from_iter" => make(set, count, &last, call),
-        _ => return fill_one_by_one(set, count, name, call),
+    let items = NumberedItems {
+        numbers: 0..count,
+        last: &last,
+        counts: share(call.counts()),
     };
+    let is_given = take_in(name, items, call, set);
     call.show_filled(is_given, count, last.get());
 }

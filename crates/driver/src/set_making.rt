@@ -1,23 +1,10 @@
 //! Calls that make a set, and those that take items in.
 
 use super::call::Call;
-use super::hasher::BuildKeyHasher;
-use super::set_fills;
 use super::sets::Set;
 use linked_hash_set::{LinkedHashSet, ReserveError};
 use std::alloc::AllocError;
 use std::default::{Emptied, MadeWith};
-use std::mem;
-
-/// Makes an empty set, with the hasher that the next word names and the capacity after it.
-fn with_capacity(call: &Call, set: &mut Set) {
-    let hasher = call.hasher();
-    let capacity = call.size();
-    call.store(
-        set,
-        Set::with_capacity_and_hasher(call.alloc, capacity, hasher),
-    );
-}
 
 /// Makes a set of the words, by an iterator that knows how many they are.
 fn from_iter(call: &Call, set: &mut Set) {
@@ -62,19 +49,17 @@ fn show_new_with_capacity(call: &Call) {
     }
 }
 
-/// Drops a set within a window, and leaves a new one in its place.
-fn drop_set(call: &Call, set: &mut Set) {
-    let empty = Set::with_hasher(call.alloc, BuildKeyHasher::default());
-    call.drop_within(mem::replace(set, empty));
-}
-
 /// Runs the call of a line that leaves the hasher to be shown, and returns whether there is one.
-fn make(call: &Call, set: &mut Set, other: &Set) -> bool {
+pub fn run(call: &Call, set: &mut Set, other: &Set) -> bool {
     match call.name() {
         "new" => insert_twice(&mut LinkedHashSet::new(call.alloc), call.number(), call),
         "new_with_capacity" => show_new_with_capacity(call),
         "with_hasher" => call.replace(set, Set::with_hasher(call.alloc, call.hasher())),
-        "with_capacity" => with_capacity(call, set),
+        "with_capacity" => {
+            let (hasher, capacity) = (call.hasher(), call.size());
+            let made = Set::with_capacity_and_hasher(call.alloc, capacity, hasher);
+            call.store(set, made);
+        }
         "emptied" => call.store(set, Emptied::emptied(other)),
         "made_with" => call.replace(set, MadeWith::made_with(call.alloc)),
         "from_iter" => from_iter(call, set),
@@ -85,15 +70,5 @@ fn make(call: &Call, set: &mut Set, other: &Set) -> bool {
         _ => return false,
     }
     call.show(set.hasher());
-    true
-}
-
-/// Runs the call of a line, and returns whether there is one.
-pub fn run(call: &Call, set: &mut Set, other: &Set) -> bool {
-    match call.name() {
-        "fill" => set_fills::fill(set, call),
-        "drop" => drop_set(call, set),
-        _ => return make(call, set, other),
-    }
     true
 }

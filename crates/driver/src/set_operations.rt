@@ -4,43 +4,10 @@ ghost use Rattle.std.specs.Iterator.{IsFinite};
 use super::call::Call;
 use super::comparisons::show_equal;
 use super::hasher::BuildKeyHasher;
+use super::iterators_from::advance_and_clone;
 use super::sets::Set;
 use std::fmt::Debug;
 use std::hash::BuildHasher;
-
-/// Makes a step for each letter, and appends what each gives. Each step is within a window.
-fn step_through<T: Debug + Drop, I: Iterator<Item = T>>(items: &mut I, steps: &str, call: &Call)
-    requires { (items : I) → I.can_next items }
-{
-    for _letter in steps.bytes() {
-        call.begin();
-        call.show(&items.next());
-    }
-}
-
-/// Makes steps, clones the iterator, and makes steps by the clone and then by the iterator itself.
-fn step_and_clone<T: Debug + Drop, I: Iterator<Item = T> + Clone + Drop>(
-    items: I,
-    first: &str,
-    steps: &str,
-    call: &Call,
-)
-    requires { (items : I) → I.can_next items }
-{
-    let mut items = items;
-    step_through(&mut items, first, call);
-    call.begin();
-    match items.clone() {
-        Ok(mut copy) => {
-            step_through(&mut copy, steps, call);
-            call.drop_within(copy);
-        }
-        Err(refused) => call.show_refused(refused),
-    }
-    call.push_str("/ ");
-    step_through(&mut items, steps, call);
-    call.drop_within(items);
-}
 
 /// Appends all items, or makes the steps of the words, if there are any.
 fn iterate<T: Debug + Drop, I: Iterator<Item = T> + Clone + Drop>(items: I, call: &Call)
@@ -51,7 +18,7 @@ fn iterate<T: Debug + Drop, I: Iterator<Item = T> + Clone + Drop>(items: I, call
     if first.is_empty() {
         call.show_all(items);
     } else {
-        step_and_clone(items, first, call.word(), call);
+        advance_and_clone(items, first, false, call);
     }
 }
 

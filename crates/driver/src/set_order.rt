@@ -2,7 +2,7 @@
 
 use super::call::Call;
 use super::copied::CopiedKey;
-use super::iterators_from::advance_and_clone;
+use super::iterators_from::advance_if_present;
 use super::retaining::Calls;
 use super::sets::Set;
 use super::sorts::compare;
@@ -59,11 +59,11 @@ pub fn run(call: &Call, set: &mut Set, other: &mut Set) -> bool {
         "reverse" => set.reverse(),
         "iter_from" => {
             let item = call.key();
-            advance_and_clone(set.iter_from(&item), call);
+            advance_if_present(set.iter_from(&item), call);
         }
         "iter_back_from" => {
             let item = call.key();
-            advance_and_clone(set.iter_back_from(&item), call);
+            advance_if_present(set.iter_back_from(&item), call);
         }
         _ => return false,
     }

@@ -1,7 +1,7 @@
 //! The errors of a set, and what they are turned into.
 
 use super::call::Call;
-use super::refused_texts::{show_kind, show_no_room, show_reserve_errors};
+use super::refused_texts::{show_no_room, show_reserve_errors};
 use linked_hash_set::Refused;
 use std::alloc::AllocError;
 use std::io;
@@ -17,7 +17,7 @@ fn show_refused(call: &Call) {
     };
     call.show_text(&first);
     call.begin();
-    show_kind(io::Error::from(second), call);
+    call.show(&io::Error::from(second).kind());
     call.begin();
     call.show(&AllocError::from(third));
 }

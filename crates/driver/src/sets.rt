@@ -6,7 +6,7 @@ use super::iterators::{iterate_and_clone, iterate_to_the_end};
 use super::key::Key;
 use super::list::list;
 use super::retaining::Calls;
-use super::{set_making, set_operations, set_order, set_refused_texts};
+use super::{set_fills, set_making, set_operations, set_order, set_refused_texts};
 use linked_hash_set::LinkedHashSet;
 
 /// The sets that the lines speak of.
@@ -102,6 +102,11 @@ fn run_on_all(call: &Call, set: &mut Set) -> bool {
         "drain" => iterate_to_the_end(set.drain(), call),
         "reserve" => call.show_refusal(set.reserve(call.size())),
         "shrink_to_fit" => call.show_refusal(set.shrink_to_fit()),
+        "fill" => set_fills::fill(set, call),
+        "drop" => {
+            let empty = Set::with_hasher(call.alloc, BuildKeyHasher::default());
+            call.drop_and_replace(set, empty);
+        }
         _ => return false,
     }
     true

@@ -2,7 +2,7 @@
 
 use super::Map;
 use super::call::Call;
-use super::entries::{Edit, edit_in_place, edit_occupied};
+use super::entries::{Edit, Occupied, edit_in_place, edit_occupied};
 use super::hasher::BuildKeyHasher;
 use super::key::Key;
 use super::value::Value;
@@ -37,46 +37,33 @@ fn edit_each(map: &mut Map, call: &Call) {
     }
 }
 
-/// Makes an edit by an entry, if there is one.
-macro_rules! edit_if_some {
-    ($entry:expr, $call:ident) => {
-        let mut edit = Edit::new("", $call.word(), $call);
-        let Some(mut entry) = $entry else {
-            $call.push_str("end ");
-            return;
-        };
-        edit_occupied!(entry, &mut edit, $call);
+/// Makes the call of a line that returns an entry.
+fn entry_of<'m>(map: &'m mut Map, call: &Call) -> Option<Occupied<'m>> {
+    match call.name() {
+        "next_entry" => map.next_entry(),
+        "front_entry" => map.front_entry(),
+        _ => map.back_entry(),
+    }
+}
+
+/// Makes an edit by the entry that a call returns, if there is one.
+fn edit_one(map: &mut Map, call: &Call) {
+    let mut edit = Edit::new("", call.word(), call);
+    let Some(mut entry) = entry_of(map, call) else {
+        call.push_str("end ");
+        return;
     };
-}
-
-/// Makes an edit by the next entry of a visit.
-fn edit_next_entry(map: &mut Map, call: &Call) {
-    edit_if_some!(map.next_entry(), call);
-}
-
-/// Makes an edit by the entry of the front pair.
-fn edit_front(map: &mut Map, call: &Call) {
-    edit_if_some!(map.front_entry(), call);
-}
-
-/// Makes an edit by the entry of the back pair.
-fn edit_back(map: &mut Map, call: &Call) {
-    edit_if_some!(map.back_entry(), call);
-}
-
-/// Begins a visit.
-fn visit(map: &mut Map) {
-    let _map = map.visit();
+    edit_occupied!(entry, &mut edit, call);
 }
 
 /// Runs the call of a line, and returns whether there is one.
 pub fn run(call: &Call, map: &mut Map) -> bool {
     match call.name() {
         "entries" => edit_each(map, call),
-        "visit" => visit(map),
-        "next_entry" => edit_next_entry(map, call),
-        "front_entry" => edit_front(map, call),
-        "back_entry" => edit_back(map, call),
+        "visit" => {
+            let _map = map.visit();
+        }
+        "next_entry" | "front_entry" | "back_entry" => edit_one(map, call),
         _ => return false,
     }
     true

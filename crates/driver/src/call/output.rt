@@ -12,6 +12,7 @@ use crate::refusal::Refusal;
 use crate::stop::Stop;
 use crate::value::Value;
 use std::fmt::{Debug, Display};
+use std::mem;
 
 /// How many bytes of the output are reserved at the begin of a line.
 const LONGEST_LINE: usize = 65_536;
@@ -150,11 +151,6 @@ impl Call {
         append!(self, "{key:?}={value:?} ");
     }
 
-    /// Appends what a call returned, as that of a call that may be refused.
-    pub fn show_ok<T: Debug>(&self, item: &T) {
-        append!(self, "Ok({item:?}) ");
-    }
-
     /// Appends a key that a call handed out, or the given one if it handed that back.
     pub fn show_key(&self, returned: Result<Key, Key>) {
         let (name, key) = match returned {
@@ -274,5 +270,10 @@ impl Call {
     pub fn replace<T: Drop>(&self, place: &mut T, made: T) {
         self.end();
         *place = made;
+    }
+
+    /// Drops what is at a place within a window, and leaves another there.
+    pub fn drop_and_replace<T: Drop>(&self, place: &mut T, other: T) {
+        self.drop_within(mem::replace(place, other));
     }
 }
