@@ -231,6 +231,8 @@ fn check_fault(rt: &impl Abort, alloc: Global, fails_at: usize) {
 fn faults_that_fail_change_no_status(rt: HostRuntime) {
     check_fault(&rt, rt.alloc(), 1);
     check_fault(&rt, rt.alloc(), 2);
+    // The flush, behind three writes.
+    check_fault(&rt, rt.alloc(), 4);
 }
 
 /// Checks the status, the output and the fault of a run that gets no random numbers.
