@@ -2,6 +2,8 @@
 //! proved from the contracts of those calls alone.
 #![tactic(auto)]
 
+pub mod basket;
+pub mod bids;
 pub mod cache;
 pub mod clocks;
 pub mod collecting;
@@ -11,12 +13,15 @@ pub mod document;
 pub mod groups;
 pub mod hasher;
 pub mod interner;
+pub mod layers;
 pub mod listing;
 pub mod loops;
+pub mod members;
 pub mod memo;
 pub mod memory;
 pub mod modes;
 pub mod numbered;
+pub mod options;
 pub mod pages;
 pub mod parsed;
 pub mod places;
@@ -35,4 +40,5 @@ pub mod seen;
 pub mod switcher;
 pub mod tasks;
 pub mod text;
+pub mod thumbnails;
 pub mod window;
