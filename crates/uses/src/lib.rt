@@ -21,6 +21,7 @@ pub mod memo;
 pub mod memory;
 pub mod modes;
 pub mod numbered;
+#[tactic(auto, using(linked_hash_map::proofs::Callers::Rules::text_lookups))]
 pub mod options;
 pub mod pages;
 pub mod parsed;
@@ -40,5 +41,6 @@ pub mod seen;
 pub mod switcher;
 pub mod tasks;
 pub mod text;
+#[tactic(auto, using(linked_hash_map::proofs::Callers::Rules::text_lookups))]
 pub mod thumbnails;
 pub mod window;
