@@ -2,10 +2,9 @@
 use Rattle.linked_hash_map.proofs.Callers.Prelude.{arith, refl, sym, ap, ◌∙◌, subst, ◌≡◌, ℕ, List, [], ◌∷◌, ◌++◌, not, Bool, true, false, Option, Some, None, option_map}
 use Rattle.linked_hash_map.proofs.Callers.Prelude.{String, string_eq, Global, string_bytes, bytes_eq, find, value_at, set_value}
 use Rattle.std.specs.Cmp.Lexicographic.{bytes_decides}
-use Rattle.std.proofs.lemmas.List.Elements.{filter-append}
 use Rattle.std.proofs.lemmas.List.Folds.{Any-from_list_any}
 use Rattle.linked_hash_map.proofs.Callers.Texts.{is_text-find}
-use Rattle.linked_hash_set.specs.Items.{contains, without}
+use Rattle.linked_hash_set.specs.Items.{contains}
 use Rattle.uses.specs.Texts.{names}
 
 -- what is so of the values that each key with the bytes of a text has is so of those of the text
@@ -34,6 +33,12 @@ pub value_at-set_value : {V : Type 0} (pairs : List (String Global × V)) (text 
 value_at-set_value [] text v = refl
 value_at-set_value (pair ∷ pairs) text v = grind (arith, value_at-set_value pairs text v)
 
+-- and a text without a value stays so
+pub set_value-none : {V : Type 0} (pairs : List (String Global × V)) (text : List ℕ) (v : V)
+    → value_at names pairs text ≡ None → set_value names pairs text v ≡ pairs
+set_value-none [] text v none = refl
+set_value-none (pair ∷ pairs) text v none = grind (arith, set_value-none pairs text v)
+
 -- a text is in a set exactly if it was, if that is so of each item with its bytes
 module _ (before after : List (String Global)) (text : List ℕ)
     (items : (q : String Global) → string_bytes q ≡ text → contains string_eq after q ≡ contains string_eq before q) where
@@ -44,8 +49,3 @@ module _ (before after : List (String Global)) (text : List ℕ)
 
   pub contains-by_items : contains names after text ≡ contains names before text
   contains-by_items = grind (arith, by_item before, by_item after)
-
--- an item that was put behind the others stays if another one is removed
-pub without-push : (items : List (String Global)) (name : List ℕ) (to : String Global) → contains names items name ≡ true
-    → contains string_eq items to ≡ false → without names (items ++ to ∷ []) name ≡ without names items name ++ to ∷ []
-without-push items name to member new = grind (arith, filter-append, bytes_decides)
