@@ -21,7 +21,7 @@ pub mod memo;
 pub mod memory;
 pub mod modes;
 pub mod numbered;
-#[tactic(auto, using(linked_hash_map::proofs::Callers::Rules::text_lookups))]
+#[tactic(auto, using(crate::proofs::OtherTexts::text_writes))]
 pub mod options;
 pub mod pages;
 pub mod parsed;
