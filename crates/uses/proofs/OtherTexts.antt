@@ -1,8 +1,8 @@
 -- What texts look up in maps and sets of `String` keys, by what each key looks up.
-use Rattle.linked_hash_map.proofs.Callers.Prelude.{arith, refl, sym, ap, ◌∙◌, subst, inr, ◌≡◌, ◌⊎◌, ℕ, List}
-use Rattle.linked_hash_map.proofs.Callers.Prelude.{[], ◌∷◌, ◌++◌, Bool, true, false, None, is_some, option_map}
-use Rattle.linked_hash_map.proofs.Callers.Prelude.{String, string_eq, Global, string_bytes, bytes_eq, keys_of}
-use Rattle.linked_hash_map.proofs.Callers.Prelude.{find, value_at, set_value}
+use Rattle.std.proofs.Common.{arith, refl, sym, ap, ◌∙◌, subst, inr, ◌≡◌, ◌⊎◌, ℕ, List, [], ◌∷◌}
+use Rattle.std.proofs.Common.{◌++◌, Bool, true, false, None, is_some, option_map}
+use Rattle.linked_hash_map.proofs.Callers.Prelude.{String, string_eq, Global, string_bytes}
+use Rattle.linked_hash_map.proofs.Callers.Prelude.{bytes_eq, keys_of, find, value_at, set_value}
 use Rattle.std.specs.Cmp.Lexicographic.{bytes_decides}
 use Rattle.std.proofs.lemmas.List.Elements.{filter-append}
 use Rattle.std.proofs.lemmas.List.Folds.{Any-from_list_any}
