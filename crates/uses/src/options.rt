@@ -1,5 +1,5 @@
 //! The options of a program, by name.
-ghost use Rattle.std.specs.Prelude.{◌≡◌, ◌&&◌, ℕ, List, [], ◌∷◌, ◌++◌, Some, None, IsTrue, IsFalse, false, is_some, not, string_bytes, string_eq, if◌then◌else◌, IfErr, IfOk, OnErr, OnOk};
+ghost use Rattle.std.specs.Prelude.{◌≡◌, ◌&&◌, ℕ, List, [], ◌∷◌, ◌++◌, Some, None, IsTrue, IsFalse, false, is_some, not, string_bytes, string_eq, if◌then◌else◌, IfErr, IfNone, IfOk, OnErr, OnOk};
 ghost use Rattle.std.specs.Str.{bytes_eq};
 ghost use Rattle.linked_hash_map.specs.Pairs.{find, set_value, value_at, without};
 ghost use Rattle.uses.specs.Texts.{names};
@@ -58,6 +58,7 @@ impl Options {
         ensures others { (other : List ℕ) → bytes_eq name.now other ≡ false
             → value_at names self.new.values.pairs other
             ≡ value_at names self.old.values.pairs other }
+        ensures unchanged { IfNone result (self.new ≡ self.old) }
     {
         match self.values.get_mut(name) {
             Some(stored) => {
