@@ -4,3 +4,4 @@ pub mod Lending
 pub mod Numbers
 pub mod Places
 pub mod Replaying
+pub mod Texts

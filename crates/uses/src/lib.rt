@@ -2,6 +2,8 @@
 //! proved from the contracts of those calls alone.
 #![tactic(auto)]
 
+pub mod basket;
+pub mod bids;
 pub mod cache;
 pub mod clocks;
 pub mod collecting;
@@ -11,12 +13,16 @@ pub mod document;
 pub mod groups;
 pub mod hasher;
 pub mod interner;
+pub mod layers;
 pub mod listing;
 pub mod loops;
+pub mod members;
 pub mod memo;
 pub mod memory;
 pub mod modes;
 pub mod numbered;
+#[tactic(auto, using(crate::proofs::OtherTexts::text_writes))]
+pub mod options;
 pub mod pages;
 pub mod parsed;
 pub mod places;
@@ -35,4 +41,6 @@ pub mod seen;
 pub mod switcher;
 pub mod tasks;
 pub mod text;
+#[tactic(auto, using(linked_hash_map::proofs::Callers::Rules::text_lookups))]
+pub mod thumbnails;
 pub mod window;
