@@ -1,0 +1,7 @@
+use Rattle.std.proofs.Common.{◌≡◌, ◌≤◌, ◌+◌, ◌-◌, ◌^◌, min, sum}
+use Rattle.std.specs.Map.{values_of}
+use Rattle.uses.proofs.basket.Basket.total.Given as goal
+
+abbrev pub invariant-loop-article : goal.invariant-loop-article
+invariant-loop-article l = (min (l.total + sum (values_of l._article-iterator)) (2 ^ 64 - 1)
+    ≡ min (sum (values_of l.self.prices.pairs)) (2 ^ 64 - 1)) × (l.total ≤ 2 ^ 64 - 1)
