@@ -1,5 +1,4 @@
-use Rattle.std.proofs.Common.{◌≡◌, ◌≤◌, ◌+◌, ◌-◌, ◌^◌, min, sum}
-use Rattle.std.specs.Map.{values_of}
+use Rattle.linked_hash_map.proofs.Callers.Prelude.{◌≡◌, ◌≤◌, ◌+◌, ◌-◌, ◌^◌, min, sum, values_of}
 use Rattle.uses.proofs.basket.Basket.total.Given as goal
 
 abbrev pub invariant-loop-article : goal.invariant-loop-article

@@ -1,19 +1,16 @@
-use Rattle.linked_hash_map.proofs.Callers.Prelude.{rules, arith, nat_eq_equiv, ◌≡◌, ◌-◌, true, false}
-use Rattle.std.proofs.Common.{nat_lt}
+use Rattle.linked_hash_map.proofs.Callers.Prelude.{rules, arith, nat_eq_equiv, ◌-◌}
 use Rattle.std.proofs.lemmas.Bool.Decides.{nat_tests}
-use Rattle.linked_hash_map.specs.Entry.{occupied_value}
 use Rattle.linked_hash_map.proofs.Callers.Keys.{length-set_value}
 use Rattle.linked_hash_map.proofs.Callers.WritingVisits.{VisitMaps-written, VisitMaps-removed}
 use Rattle.uses.proofs.bids.Bids.charge.Goals as goal
 
 pub loop-bid-preserved-then-fee-amount : goal.loop-bid-preserved-then-fee-amount
 loop-bid-preserved-then-fee-amount c = let e = c.in-Some.ensures in let is = c.get-amount.ensures in
-    let kept : nat_lt c.args.fee (occupied_value c.in-Some.bid) ≡ true = grind (arith, nat_tests, is) in
     (VisitMaps-written nat_eq_equiv c.loop-bid.invariant.0 e.visits e.valid.distinct e.value e.pairs
-    {new = c.get-amount.result.now - c.args.fee} kept (search rules) (search rules) (search rules), search (rules, arith, length-set_value))
+    {new = c.get-amount.result.now - c.args.fee} (grind (arith, nat_tests, is)) (search rules)
+    (search rules) (search rules), search (rules, arith, length-set_value))
 
 pub loop-bid-preserved : goal.loop-bid-preserved
 loop-bid-preserved c = let e = c.in-Some.ensures in let is = c.get-amount.ensures in
-    let gone : nat_lt c.args.fee (occupied_value c.in-Some.bid) ≡ false = grind (arith, nat_tests, is) in
-    (VisitMaps-removed nat_eq_equiv c.loop-bid.invariant.0 e.visits e.valid.distinct e.value e.pairs gone
-    (search rules) (search rules), search rules)
+    (VisitMaps-removed nat_eq_equiv c.loop-bid.invariant.0 e.visits e.valid.distinct e.value e.pairs
+    (grind (arith, nat_tests, is)) (search rules) (search rules), search rules)
