@@ -11,17 +11,19 @@ use Rattle.linked_hash_map.proofs.Callers.Lookups.{lookup_entry-append, find-sam
 use Rattle.linked_hash_map.proofs.Callers.Turns.{find-others}
 
 inserted : {V : Type 0} (mode : Mode) (old all : List (ℕ × V)) → IsDistinct nat_eq (keys_of all)
-    → ((q : ℕ) (pair : ℕ × V) → find nat_eq all q ≡ Some pair → find nat_eq old q ≡ None) → insert_each nat_eq mode old all ≡ old ++ all
+    → ((q : ℕ) (pair : ℕ × V) → find nat_eq all q ≡ Some pair → find nat_eq old q ≡ None)
+    → insert_each nat_eq mode old all ≡ old ++ all
 inserted mode old [] distinct absent = sym (append-nil old)
 inserted mode old (item ∷ items) distinct absent =
     let none = absent item.0 item (find-cut nat_eq_equiv [] item items distinct) in
-    let rest = inserted mode (old ++ item ∷ []) items (IsDistinct-tail nat_eq item.0 (keys_of items) distinct)
-    (λ q pair there. let was = absent q pair in let other = find-others nat_eq_equiv items q item distinct in
-    grind (arith, was, there, other, lookup_entry-append)) in
+    let differ = IsDistinct-tail nat_eq item.0 (keys_of items) distinct in
+    let rest = inserted mode (old ++ item ∷ []) items differ (λ q pair there. grind (arith, there,
+    absent q pair, find-others nat_eq_equiv items q item distinct, lookup_entry-append)) in
     grind (arith, none, rest, put-absent, append_assoc)
 
-pub inserted_numbers : {V : Type 0} (mode : Mode) (old all : List (ℕ × V)) → IsDistinct nat_eq (keys_of all)
-    → All (λ pair. find nat_eq old pair.0 ≡ None) all → insert_each nat_eq mode old all ≡ old ++ all
+pub inserted_numbers : {V : Type 0} (mode : Mode) (old all : List (ℕ × V))
+    → IsDistinct nat_eq (keys_of all) → All (λ pair. find nat_eq old pair.0 ≡ None) all
+    → insert_each nat_eq mode old all ≡ old ++ all
 inserted_numbers {V} mode old all distinct absent = inserted mode old all distinct
     (λ q pair there. find-same nat_eq_equiv old q pair.0 (eq-find nat_eq_equiv all q pair there)
     ∙ All-find (λ (p : ℕ × V). find nat_eq old p.0 ≡ None) nat_eq all q absent pair there)

@@ -14,13 +14,9 @@ module _ {V : Type 0} (one : ℕ × V) where
   -- the first pair, moved behind some of the others
   first_moved : (front behind : List (ℕ × V)) → find nat_eq (front ++ behind) one.0 ≡ None
       → to_behind nat_eq (one ∷ (front ++ behind)) one.0 (length (one ∷ front)) ≡ front ++ one ∷ behind
-  first_moved front behind none =
-      let same = nat_eq_equiv.refl one.0 in let sides = lookup_entry-append (nat_eq one.0) front behind in
-      let no_front : find nat_eq front one.0 ≡ None = grind (arith, none, sides) in
-      let no_behind : find nat_eq behind one.0 ≡ None = grind (arith, none, sides) in
-      let first = take-append_seam (one ∷ front) behind in let rest = drop-append_seam (one ∷ front) behind in
-      let left = without-absent nat_eq front one.0 no_front in let right = without-absent nat_eq behind one.0 no_behind in
-      grind (arith, same, first, rest, left, right)
+  first_moved front behind none = grind (arith, none, nat_eq_equiv.refl one.0, without-absent,
+      lookup_entry-append (nat_eq one.0) front behind, take-append_seam (one ∷ front) behind,
+      drop-append_seam (one ∷ front) behind)
 
   pub moved_number : (xs ys : List (ℕ × V)) (two : ℕ × V) (zs : List (ℕ × V)) → IsDistinct nat_eq (keys_of (xs ++ one ∷ (ys ++ two ∷ zs)))
       → (xs ++ one ∷ (ys ++ two ∷ zs) ≡ xs ++ one ∷ (ys ++ two ∷ zs))
@@ -39,6 +35,6 @@ module _ {V : Type 0} (one : ℕ × V) where
             ∙ append_assoc ys (two ∷ []) (one ∷ zs),
       )
   moved_number (x ∷ xs) ys two zs distinct =
-      let pairs = xs ++ one ∷ (ys ++ two ∷ zs) in let rest = moved_number xs ys two zs (IsDistinct-tail nat_eq x.0 (keys_of pairs) distinct) in
-      let first = find-others nat_eq_equiv pairs one.0 x distinct in let second = find-others nat_eq_equiv pairs two.0 x distinct in
-      grind (arith, rest, first, second)
+      let pairs = xs ++ one ∷ (ys ++ two ∷ zs) in
+      let rest = moved_number xs ys two zs (IsDistinct-tail nat_eq x.0 (keys_of pairs) distinct) in
+      grind (arith, rest, find-others nat_eq_equiv pairs one.0 x distinct, find-others nat_eq_equiv pairs two.0 x distinct)
