@@ -1,5 +1,5 @@
 -- What insertions of pairs leave whose keys are all new.
-use Rattle.linked_hash_map.proofs.Callers.Prelude.{arith, sym, ◌∙◌, ◌≡◌, Bool, List, [], ◌∷◌, ◌++◌, Some, None, keys_of, find, insert_each, ℕ, nat_eq, nat_eq_equiv}
+use Rattle.linked_hash_map.proofs.Callers.Prelude.{arith, sym, ◌∙◌, ◌≡◌, List, [], ◌∷◌, ◌++◌, Some, None, keys_of, find, insert_each, ℕ, nat_eq, nat_eq_equiv}
 use Rattle.std.proofs.Common.{append_assoc, append-nil}
 use Rattle.std.specs.List.{All, IsDistinct}
 use Rattle.std.proofs.lemmas.Map.Keys.{IsDistinct-tail}
@@ -17,8 +17,9 @@ inserted mode old [] distinct absent = sym (append-nil old)
 inserted mode old (item ∷ items) distinct absent =
     let none = absent item.0 item (find-cut nat_eq_equiv [] item items distinct) in
     let differ = IsDistinct-tail nat_eq item.0 (keys_of items) distinct in
-    let rest = inserted mode (old ++ item ∷ []) items differ (λ q pair there. grind (arith, there,
-    absent q pair, find-others nat_eq_equiv items q item distinct, lookup_entry-append)) in
+    let rest = inserted mode (old ++ item ∷ []) items differ (λ q pair there.
+    let other = find-others nat_eq_equiv items q item distinct in
+    grind (arith, there, absent q pair, other, lookup_entry-append)) in
     grind (arith, none, rest, put-absent, append_assoc)
 
 pub inserted_numbers : {V : Type 0} (mode : Mode) (old all : List (ℕ × V))

@@ -1,5 +1,5 @@
 -- Where a pair stands that is moved right behind one further back.
-use Rattle.linked_hash_map.proofs.Callers.Prelude.{arith, refl, sym, ap, ap₂, ◌∙◌, ◌≡◌, ◌+◌, ℕ, Bool, true, List, [], ◌∷◌, ◌++◌, None, is_some, length}
+use Rattle.linked_hash_map.proofs.Callers.Prelude.{arith, refl, sym, ap, ap₂, ◌∙◌, ◌≡◌, ◌+◌, ℕ, true, List, [], ◌∷◌, ◌++◌, None, is_some, length}
 use Rattle.linked_hash_map.proofs.Callers.Prelude.{nat_eq, nat_eq_equiv, keys_of, find, IsDistinct}
 use Rattle.std.proofs.Common.{append_assoc, length-append}
 use Rattle.std.proofs.Math.Seq.{take-append_seam, drop-append_seam}
@@ -14,9 +14,10 @@ module _ {V : Type 0} (one : ℕ × V) where
   -- the first pair, moved behind some of the others
   first_moved : (front behind : List (ℕ × V)) → find nat_eq (front ++ behind) one.0 ≡ None
       → to_behind nat_eq (one ∷ (front ++ behind)) one.0 (length (one ∷ front)) ≡ front ++ one ∷ behind
-  first_moved front behind none = grind (arith, none, nat_eq_equiv.refl one.0, without-absent,
-      lookup_entry-append (nat_eq one.0) front behind, take-append_seam (one ∷ front) behind,
-      drop-append_seam (one ∷ front) behind)
+  first_moved front behind none =
+      let sides = lookup_entry-append (nat_eq one.0) front behind in let same = nat_eq_equiv.refl one.0 in
+      let first = take-append_seam (one ∷ front) behind in let rest = drop-append_seam (one ∷ front) behind in
+      grind (arith, none, same, sides, first, rest, without-absent)
 
   pub moved_number : (xs ys : List (ℕ × V)) (two : ℕ × V) (zs : List (ℕ × V)) → IsDistinct nat_eq (keys_of (xs ++ one ∷ (ys ++ two ∷ zs)))
       → (xs ++ one ∷ (ys ++ two ∷ zs) ≡ xs ++ one ∷ (ys ++ two ∷ zs))
