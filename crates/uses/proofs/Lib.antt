@@ -1,2 +1,1 @@
-mod Apart
-mod Behind
+mod Moved
