@@ -1,9 +1,7 @@
--- For baskets and layers: new pairs that go behind the others, and a pair that is moved right behind
--- one further back.
-use Rattle.linked_hash_map.proofs.Callers.Prelude.{arith, refl, sym, ap, ap₂, ◌∙◌, ◌≡◌, ◌+◌, ℕ, true}
-use Rattle.linked_hash_map.proofs.Callers.Prelude.{List, [], ◌∷◌, ◌++◌, Some, None, is_some, length, nat_eq}
+-- New pairs that go behind the others, and a pair that is moved right behind one further back.
+use Rattle.std.proofs.Common.{arith, refl, sym, ap, ap₂, ◌∙◌, ◌≡◌, ◌+◌, ℕ, true, List, [], ◌∷◌, ◌++◌}
+use Rattle.std.proofs.Common.{Some, None, is_some, length, nat_eq, append_assoc, append-nil, length-append}
 use Rattle.linked_hash_map.proofs.Callers.Prelude.{nat_eq_equiv, keys_of, find, insert_each, IsDistinct}
-use Rattle.std.proofs.Common.{append_assoc, append-nil, length-append}
 use Rattle.std.proofs.Math.Seq.{take-append_seam, drop-append_seam}
 use Rattle.std.specs.List.{All}
 use Rattle.std.proofs.lemmas.Map.Keys.{IsDistinct-tail}
