@@ -1,1 +1,2 @@
+mod Moved
 mod OtherTexts

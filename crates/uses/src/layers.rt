@@ -51,6 +51,7 @@ impl Layers {
     }
 
     /// Draws a layer right over another, which is higher, and returns whether both are there.
+    #[tactic(auto, using(crate::proofs::Moved::moved_number))]
     pub fn raise_over(&mut self, layer: u64, other: u64) -> bool
         ensures both { result ≡ (is_some (find nat_eq self.old.opacities.pairs layer)
             && is_some (find nat_eq self.old.opacities.pairs other)) }
