@@ -1,10 +1,18 @@
 -- For callers: what `append` leaves of two maps, whose keys differ in each.
-use Rattle.linked_hash_map.proofs.Names.{Bool, List, None, Some, [], ap, ap₂, arith, cond, count_by, false, is_some, length, not, refl}
-use Rattle.linked_hash_map.proofs.Names.{slice_get, suc, sym, take, true, zero, ℕ, ◌+◌, ◌∙◌, ◌∷◌, ◌≡◌, ◌≤◌, Some-injective, none_some}
-use Rattle.linked_hash_map.proofs.Names.{count_by-cons, insert_each, find, key_or, put, Mode, IsDistinct-head, IsDistinct-tail}
-use Rattle.linked_hash_map.proofs.Names.{IsEquivalence, AllByRecursion, IsDistinct, keys_of}
-use Rattle.linked_hash_map.proofs.{Callers.Lookups.find-put, pairs.Calls.length-put}
+use Rattle.std.proofs.Common.{◌≡◌, ℕ, zero, suc, ◌+◌, ◌≤◌, Bool, true, false, cond, not, List, [], ◌∷◌, length, take}
+use Rattle.std.proofs.Common.{slice_get, count_by, Some, None, is_some, refl, sym, ap, ap₂, ◌∙◌, arith}
+use Rattle.std.specs.Cmp.{IsEquivalence}
+use Rattle.std.specs.List.{IsDistinct, AllByRecursion}
+use Rattle.std.specs.Map.{keys_of}
+use Rattle.std.proofs.lemmas.Map.Keys.{IsDistinct-head, IsDistinct-tail}
+use Rattle.lhm_ring.proofs.lists.Options.{Some-injective, none_some}
+use Rattle.lhm_ring.proofs.lists.RearrangedCounts.{count_by-cons}
+use Rattle.linked_hash_map.specs.declared.map.Mode.{Mode}
+use Rattle.linked_hash_map.specs.Pairs.{key_or, find, put}
+use Rattle.linked_hash_map.specs.Inserts.{insert_each}
+use Rattle.linked_hash_map.proofs.pairs.Calls.{length-put}
 use Rattle.linked_hash_map.proofs.pairs.Inserts.{distinct-put, length-insert_each_least}
+use Rattle.linked_hash_map.proofs.Callers.Lookups.{find-put}
 
 module _ {K V : Type 0} {eq : K → K → Bool} (laws : IsEquivalence eq) (mode : Mode) where
   -- a key is not that of a pair

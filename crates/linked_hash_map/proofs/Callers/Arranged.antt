@@ -1,10 +1,15 @@
 -- For callers: the pairs after some keys were moved to the back, one after another.
-use Rattle.linked_hash_map.proofs.Names.{Bool, List, None, Option, Some, [], ap, append-nil, append_assoc, ap₂, arith, cond, eqb as nat_eq}
-use Rattle.linked_hash_map.proofs.Names.{false, filter, filter_map, fold, get_or, length, not, option_to_list, refl, sym, take, take_all}
-use Rattle.linked_hash_map.proofs.Names.{true, ℕ, ◌++◌, ◌+◌, ◌<◌, ◌||◌, ◌∙◌, ◌∷◌, ◌≡◌, ◌≤◌, find, to_back_as_is, without, filter-append}
-use Rattle.linked_hash_map.proofs.Names.{fold_more, IsDistinct-head, IsDistinct-tail, IsEquivalence, nat_eq_equiv, AllByRecursion}
-use Rattle.linked_hash_map.proofs.Names.{IsDistinct, cons_option, list_any}
-use Rattle.linked_hash_map.proofs.Callers.{Lookups.eq-find, Moves.find-to_back_as_is}
+use Rattle.std.proofs.Common.{◌≡◌, ℕ, ◌+◌, ◌<◌, ◌≤◌, Bool, true, false, cond, not, ◌||◌, List, [], ◌∷◌, ◌++◌, filter, fold, arith}
+use Rattle.std.proofs.Common.{take, length, get_or, nat_eq, Option, Some, None, option_to_list, refl, sym, ap, ap₂, ◌∙◌}
+use Rattle.std.specs.Cmp.{IsEquivalence, nat_eq_equiv}
+use Rattle.std.specs.List.{AllByRecursion, IsDistinct, cons_option, filter_map, list_any}
+use Rattle.std.proofs.lemmas.List.{append-nil, append_assoc, take_all}
+use Rattle.std.proofs.lemmas.List.Elements.{filter-append}
+use Rattle.std.proofs.lemmas.List.Sums.{fold_more}
+use Rattle.std.proofs.lemmas.Map.Keys.{IsDistinct-head, IsDistinct-tail}
+use Rattle.linked_hash_map.specs.Pairs.{find, without, to_back_as_is}
+use Rattle.linked_hash_map.proofs.Callers.Lookups.{eq-find}
+use Rattle.linked_hash_map.proofs.Callers.Moves.{find-to_back_as_is}
 
 filter-all : {X : Type 0} (xs : List X) → filter (λ (x : X). not false) xs ≡ xs
 filter-all [] = refl

@@ -1,11 +1,18 @@
 -- For callers: the pairs with one moved beside another. Each key finds what it found.
-use Rattle.linked_hash_map.proofs.Names.{Bool, List, None, Option, Some, [], ap, arith, cond, drop, false, filter, not, option_map}
-use Rattle.linked_hash_map.proofs.Names.{option_to_list, refl, suc, sym, take, true, ℕ, ◌++◌, ◌+◌, ◌∙◌, ◌∷◌, ◌≡◌, count_before, find}
-use Rattle.linked_hash_map.proofs.Names.{to_before, to_behind, without, drop-map, map-append, take-append-drop, take-map, IsDistinct-tail}
-use Rattle.linked_hash_map.proofs.Names.{IsEquivalence, IsDistinct, keys_of, option_or}
-use Rattle.linked_hash_map.proofs.{Callers.Keys.keys_of-without, lists.Elements.option_or_none}
+use Rattle.std.proofs.Common.{◌≡◌, ℕ, suc, ◌+◌, Bool, true, false, cond, not, filter, List, [], ◌∷◌, ◌++◌, take, drop, Option, Some, None}
+use Rattle.std.proofs.Common.{option_map, option_to_list, refl, sym, ap, ◌∙◌, arith}
+use Rattle.std.specs.Cmp.{IsEquivalence}
+use Rattle.std.specs.List.{IsDistinct}
+use Rattle.std.specs.Map.{keys_of}
+use Rattle.std.specs.Option.{option_or}
+use Rattle.std.proofs.lemmas.List.{map-append, take-append-drop, take-map, drop-map}
+use Rattle.std.proofs.lemmas.Map.Keys.{IsDistinct-tail}
+use Rattle.linked_hash_map.specs.Pairs.{find, without, count_before, to_behind, to_before}
+use Rattle.linked_hash_map.proofs.Callers.Keys.{keys_of-without}
 use Rattle.linked_hash_map.proofs.Callers.Lookups.{eq-find, find-same, find-without, lookup_entry-append}
-use Rattle.linked_hash_map.proofs.pairs.{Calls.without-absent, Indexes.others_differ}
+use Rattle.linked_hash_map.proofs.lists.Elements.{option_or_none}
+use Rattle.linked_hash_map.proofs.pairs.Calls.{without-absent}
+use Rattle.linked_hash_map.proofs.pairs.Indexes.{others_differ}
 
 cond-same : {X : Type 0} (b : Bool) (x : X) → cond b x x ≡ x
 cond-same b x = grind arith

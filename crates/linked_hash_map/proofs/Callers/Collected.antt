@@ -1,13 +1,22 @@
 -- For callers: insertions one after another.
-use Rattle.linked_hash_map.proofs.Names.{Bool, List, Option, Some, [], ap, append-nil, append_assoc, ap₂, arith, cond, false, filter}
-use Rattle.linked_hash_map.proofs.Names.{is_some, length, map, not, option_map, refl, reverse, sym, true, ◌++◌, ◌+◌, ◌||◌, ◌∙◌, ◌∷◌, ◌≡◌}
-use Rattle.linked_hash_map.proofs.Names.{◌≤◌, insert_each, find, key_or, put, set_or_push, to_back, value_at, Mode, Keep, Touch}
-use Rattle.linked_hash_map.proofs.Names.{reverse-append, filter-append, IsDistinct-head, IsDistinct-tail, IsEquivalence, AllByRecursion}
-use Rattle.linked_hash_map.proofs.Names.{IsDistinct, keys_of, option_or}
-use Rattle.linked_hash_map.proofs.Callers.{Keys.keys_of-set_or_push, Keys.keys_of-to_back, Turns.find-others}
-use Rattle.linked_hash_map.proofs.Callers.Lookups.{eq-stored, find-put, find-set_or_push_apart, find-to_back, value_at-put}
+use Rattle.std.proofs.Common.{◌≡◌, ◌+◌, ◌≤◌, Bool, true, false, cond, not, ◌||◌, List, [], ◌∷◌, ◌++◌, length, map, filter, reverse}
+use Rattle.std.proofs.Common.{append_assoc, append-nil, Option, Some, is_some, option_map, refl, sym, ap, ap₂, ◌∙◌, arith}
+use Rattle.std.specs.Option.{option_or}
+use Rattle.std.specs.List.{IsDistinct, AllByRecursion}
+use Rattle.std.specs.Map.{keys_of}
+use Rattle.std.proofs.lemmas.List.{reverse-append}
+use Rattle.std.proofs.lemmas.List.Elements.{filter-append}
+use Rattle.std.specs.Cmp.{IsEquivalence}
+use Rattle.std.proofs.lemmas.Map.Keys.{IsDistinct-head, IsDistinct-tail}
+use Rattle.linked_hash_map.specs.declared.map.Mode.{Mode}
+use Rattle.linked_hash_map.specs.declared.map.Mode.TheVariants.{Touch, Keep}
+use Rattle.linked_hash_map.specs.Pairs.{key_or, find, value_at, to_back, set_or_push, put}
+use Rattle.linked_hash_map.specs.Inserts.{insert_each}
 use Rattle.linked_hash_map.proofs.lists.Elements.{by_last}
-use Rattle.linked_hash_map.proofs.pairs.Inserts.{distinct-put, insert_each-last, length-put_most}
+use Rattle.linked_hash_map.proofs.pairs.Inserts.{insert_each-last, length-put_most, distinct-put}
+use Rattle.linked_hash_map.proofs.Callers.Keys.{keys_of-to_back, keys_of-set_or_push}
+use Rattle.linked_hash_map.proofs.Callers.Lookups.{eq-stored, value_at-put, find-put, find-to_back, find-set_or_push_apart}
+use Rattle.linked_hash_map.proofs.Callers.Turns.{find-others}
 -- items with keys that differ, inserted into nothing, are the pairs
 pub use Rattle.linked_hash_map.proofs.pairs.Inserts.{insert_each-distinct}
 

@@ -1,10 +1,16 @@
 -- For callers: a count for each item of a list, one item after another, and the keys in the order
 -- in which they first come.
-use Rattle.linked_hash_map.proofs.Names.{Bool, List, None, Option, Some, [], ap, arith, cond, count_by, false, fold, get_or, length}
-use Rattle.linked_hash_map.proofs.Names.{length-take, option_map, refl, sym, take, true, unwrap_or, ℕ, ◌++◌, ◌+◌, ◌<◌, ◌∙◌, ◌∷◌, ◌≡◌}
-use Rattle.linked_hash_map.proofs.Names.{if◌then◌else◌, ActsAs, set_or_push, value_at, Updates, count_by-le-length, count_by_more_no}
-use Rattle.linked_hash_map.proofs.Names.{count_by_more_yes, fold_more, IsEquivalence, list_any, keys_of}
-use Rattle.linked_hash_map.proofs.Callers.{Keys.is_some-find, Keys.keys_of-set_or_push, Lookups.value_at-same, Lookups.value_at-set_or_push}
+use Rattle.std.proofs.Common.{◌≡◌, ℕ, ◌+◌, ◌<◌, Bool, true, false, cond, List, [], ◌∷◌, ◌++◌, length, take, get_or, fold, Option, Some}
+use Rattle.std.proofs.Common.{None, option_map, unwrap_or, refl, sym, ap, ◌∙◌, arith, length-take}
+use Rattle.std.specs.Prelude.{if◌then◌else◌}
+use Rattle.std.specs.List.{count_by, list_any}
+use Rattle.std.specs.Map.{keys_of}
+use Rattle.std.specs.Cmp.{IsEquivalence}
+use Rattle.std.proofs.lemmas.List.Sums.{count_by_more_yes, count_by_more_no, count_by-le-length, fold_more}
+use Rattle.linked_hash_map.specs.Pairs.{value_at, set_or_push, ActsAs}
+use Rattle.linked_hash_map.specs.Updates.{Updates}
+use Rattle.linked_hash_map.proofs.Callers.Lookups.{value_at-same, value_at-set_or_push}
+use Rattle.linked_hash_map.proofs.Callers.Keys.{keys_of-set_or_push, is_some-find}
 
 module _ {K : Type 0} {eq : K → K → Bool} (laws : IsEquivalence eq) (pairs : List (K × ℕ)) (items : List K) where
   -- the next item is counted

@@ -1,9 +1,10 @@
 -- For callers: how many buckets a capacity has.
-use Rattle.linked_hash_map.proofs.Names.{arith, inl, inr, subst, ℕ, ◌<◌, ◌≡◌, ◌≤◌, buckets}
-use Rattle.linked_hash_map.proofs.pairs.RehashCounts.{buckets-table}
+use Rattle.std.proofs.Common.{ℕ, ◌<◌, ◌≤◌, ◌≡◌, inl, inr, arith, subst}
 use Rattle.std.proofs.lemmas.Nat.{pow_pos}
-use Rattle.std.specs.Int.{IsNextPowerOfTwo, IsPowerOfTwo}
+use Rattle.std.specs.Int.{IsPowerOfTwo, IsNextPowerOfTwo}
 use Rattle.lhm_ring.proofs.indexes.BucketCounts as ring
+use Rattle.linked_hash_map.specs.Counts.{buckets}
+use Rattle.linked_hash_map.proofs.pairs.RehashCounts.{buckets-table}
 
 -- n is a power of two that is not below c, and no smaller one is
 pub record IsLeastPower (c n : ℕ) : Type 0 where

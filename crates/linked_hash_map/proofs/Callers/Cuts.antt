@@ -1,9 +1,16 @@
 -- For callers: pairs cut at one of them, and what each call says of it, in words of the cut.
-use Rattle.linked_hash_map.proofs.Names.{append_assoc, drop-append_seam, IsPermutation-map, IsPermutation-reverse, IsDistinct-IsPermutation}
-use Rattle.linked_hash_map.proofs.Names.{length-append, not, count_before, take-append_seam, reverse-append, IsDistinct-tail, IsEquivalence}
-use Rattle.linked_hash_map.proofs.Names.{arith, false, length, reverse, subst, to_after, to_before, to_behind, without, IsDistinct, keys_of}
-use Rattle.linked_hash_map.proofs.Names.{Bool, List, None, Some, [], ap, cond, refl, sym, ◌++◌, ◌+◌, ◌∙◌, ◌∷◌, ◌≡◌, find, from}
-use Rattle.linked_hash_map.proofs.Callers.{Keys.without-absent, Turns.find-others}
+use Rattle.std.proofs.Common.{◌≡◌, ◌+◌, Bool, false, cond, not, List, [], ◌∷◌, ◌++◌, length, reverse, Some, None, refl, sym, ap, ◌∙◌, subst}
+use Rattle.std.proofs.Common.{arith, append_assoc, length-append}
+use Rattle.std.specs.Cmp.{IsEquivalence}
+use Rattle.std.specs.List.{IsDistinct}
+use Rattle.std.specs.Map.{keys_of}
+use Rattle.std.proofs.Math.Seq.{take-append_seam, drop-append_seam}
+use Rattle.std.proofs.lemmas.List.{reverse-append}
+use Rattle.std.proofs.lemmas.List.Sorted.{IsPermutation-map, IsPermutation-reverse}
+use Rattle.std.proofs.lemmas.Map.Keys.{IsDistinct-tail, IsDistinct-IsPermutation}
+use Rattle.linked_hash_map.specs.Pairs.{find, from, without, count_before, to_behind, to_before, to_after}
+use Rattle.linked_hash_map.proofs.Callers.Keys.{without-absent}
+use Rattle.linked_hash_map.proofs.Callers.Turns.{find-others}
 
 module _ {K V : Type 0} {eq : K → K → Bool} (laws : IsEquivalence eq) where
   abbrev Differ : List (K × V) → Type 0

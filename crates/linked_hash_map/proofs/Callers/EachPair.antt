@@ -1,8 +1,12 @@
 -- For callers: what is true of each pair, as that its value is right, still is after a call.
-use Rattle.linked_hash_map.proofs.Names.{Bool, IfSome, List, Option, Some, [], arith, cond, false, is_some, not, option_to_list, refl}
-use Rattle.linked_hash_map.proofs.Names.{subst, true, ◌++◌, ◌∷◌, ◌≡◌, find, key_or, put, set_or_push, set_value, to_back, to_back_as_is}
-use Rattle.linked_hash_map.proofs.Names.{to_front, without, Mode, All-append, All-cons, All-filter, All-head, All-nil, All-push, All-tail}
-use Rattle.linked_hash_map.proofs.Names.{IsEquivalence, All, lookup_entry}
+use Rattle.std.proofs.Common.{◌≡◌, Bool, true, false, cond, not, List, [], ◌∷◌, ◌++◌, arith}
+use Rattle.std.proofs.Common.{is_some, Option, Some, option_to_list, IfSome, refl, subst}
+use Rattle.std.specs.Cmp.{IsEquivalence}
+use Rattle.std.specs.List.{All}
+use Rattle.std.specs.Map.{lookup_entry}
+use Rattle.std.proofs.lemmas.List.Elements.{All-nil, All-cons, All-head, All-tail, All-append, All-push, All-filter}
+use Rattle.linked_hash_map.specs.declared.map.Mode.{Mode}
+use Rattle.linked_hash_map.specs.Pairs.{key_or, find, without, to_back, to_back_as_is, to_front, set_value, set_or_push, put}
 use Rattle.linked_hash_map.proofs.Callers.Lookups.{eq-stored}
 
 module _ {K V : Type 0} (P : K × V → Type 0) where

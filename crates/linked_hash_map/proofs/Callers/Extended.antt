@@ -1,17 +1,32 @@
 -- For callers: what `extend`, `extend_refs` and `from_iter` leave, if the items that an iterator
 -- gives are known. Each lemma takes the clause of the call, and a chain proof, `YieldsList`, that
 -- what the source becomes gives the list.
-use Rattle.linked_hash_map.proofs.Names.{Bool, List, None, Option, Some, Vec, [], ap, arith, filter, is_some, length, map, map-id, max, not}
-use Rattle.linked_hash_map.proofs.Names.{refl, slice_get, subst, sym, take, unwrap_or, vec_items, vec_len, ℕ, ◌++◌, ◌+◌, ◌-◌, ◌∙◌, ◌≡◌, ◌≤◌}
-use Rattle.linked_hash_map.proofs.Names.{rechained_each, DrainSteps, drain_rest, Collects, GivesAtMost, InsertsAll, InsertsUntil}
-use Rattle.linked_hash_map.proofs.Names.{insert_each, find, key_or, value_at, Drain, Mode, Keep, Touch, YieldsList, YieldsList-from_vec}
-use Rattle.linked_hash_map.proofs.Names.{YieldsList-end, YieldsList-from_rest, YieldsList-from_shown, YieldsList-so_far}
-use Rattle.linked_hash_map.proofs.Names.{nth_from_yields_List, IsEquivalence, Count, at_most, IsDistinct, keys_of, TakesFirst, option_or}
-use Rattle.linked_hash_map.proofs.Names.{into_iter_items, into_iter_len, into_iter_steps}
-use Rattle.linked_hash_map.proofs.Callers.Collected.{insert_each-distinct, keys_of-insert_each_keep, keys_of-insert_each_touch}
-use Rattle.linked_hash_map.proofs.Callers.Collected.{length-insert_each_most, value_at-insert_each_distinct}
-use Rattle.linked_hash_map.proofs.Callers.{Keys.distinct-nil, Merges.insert_each-keep, Merges.insert_each-touch}
+use Rattle.std.proofs.Common.{◌≡◌, ℕ, ◌+◌, ◌-◌, ◌≤◌, max, Bool, not, List, [], ◌++◌, length, map, take, filter, slice_get, Option, Some}
+use Rattle.std.proofs.Common.{None, is_some, unwrap_or, Vec, vec_items, vec_len, refl, sym, ap, subst, ◌∙◌, arith}
+use Rattle.std.specs.List.{IsDistinct}
+use Rattle.std.specs.Map.{keys_of}
+use Rattle.std.specs.Option.{option_or}
+use Rattle.std.specs.Map.Iter.{TakesFirst}
+use Rattle.std.specs.Cmp.{IsEquivalence}
+use Rattle.std.specs.Iterator.{Count, at_most}
+use Rattle.std.specs.Vec.Iter.{into_iter_items, into_iter_len, into_iter_steps}
 use Rattle.std.specs.declared.vec.IntoIter.{IntoIter}
+use Rattle.std.proofs.lemmas.Iterator.{YieldsList}
+use Rattle.std.proofs.lemmas.Iterator.Consumers.{YieldsList-end, YieldsList-so_far, YieldsList-from_rest, YieldsList-from_shown}
+use Rattle.std.proofs.lemmas.Iterator.Consumers.{nth_from_yields_List}
+use Rattle.std.proofs.lemmas.Iterator.Adapters.{YieldsList-from_vec}
+use Rattle.std.proofs.lemmas.List.{map-id}
+use Rattle.linked_hash_map.specs.Counts.{rechained_each}
+use Rattle.linked_hash_map.specs.declared.map.Mode.{Mode}
+use Rattle.linked_hash_map.specs.declared.map.Mode.TheVariants.{Touch, Keep}
+use Rattle.linked_hash_map.specs.declared.drain.Drain.{Drain}
+use Rattle.linked_hash_map.specs.Drains.{drain_rest, DrainSteps}
+use Rattle.linked_hash_map.specs.Pairs.{key_or, find, value_at}
+use Rattle.linked_hash_map.specs.Inserts.{insert_each, GivesAtMost, InsertsAll, InsertsUntil, Collects}
+use Rattle.linked_hash_map.proofs.Callers.Keys.{distinct-nil}
+use Rattle.linked_hash_map.proofs.Callers.Merges.{insert_each-keep, insert_each-touch}
+use Rattle.linked_hash_map.proofs.Callers.Collected.{insert_each-distinct, length-insert_each_most, value_at-insert_each_distinct}
+use Rattle.linked_hash_map.proofs.Callers.Collected.{keys_of-insert_each_keep, keys_of-insert_each_touch}
 
 module _ {T I X K V : Type 0} {becomes : T → I → Type 0} {steps : I → Option X → I → Type 0}
     {source : T} {eq : K → K → Bool} {shows : X → K × V} {all : List (K × V)} where

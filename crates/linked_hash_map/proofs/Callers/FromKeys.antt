@@ -1,5 +1,6 @@
 -- For callers: the pairs from that of a key on.
-use Rattle.linked_hash_map.proofs.Names.{Bool, List, None, Some, [], cond, false, refl, true, ◌++◌, ◌∷◌, ◌≡◌, find, first, from}
+use Rattle.std.proofs.Common.{◌≡◌, Bool, true, false, cond, List, [], ◌∷◌, ◌++◌, Some, None, refl}
+use Rattle.linked_hash_map.specs.Pairs.{find, first, from}
 
 module _ {A K V : Type 0} (eq : A → K → Bool) where
   -- the first of them is what the key finds

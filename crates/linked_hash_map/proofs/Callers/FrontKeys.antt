@@ -1,8 +1,14 @@
 -- For callers: a pair that was put in and moved to the front, where the last pair may be taken out.
-use Rattle.linked_hash_map.proofs.Names.{List, None, Option, Some, ap, arith, cond, eqb as nat_eq, filter, length, not, option_map}
-use Rattle.linked_hash_map.proofs.Names.{option_to_list, refl, suc, take, zero, ℕ, ◌++◌, ◌-◌, ◌<◌, ◌∙◌, ◌∷◌, ◌≡◌, ◌≤◌, find, put, to_front}
-use Rattle.linked_hash_map.proofs.Names.{value_at, without, without_last, Updates, Mode, nat_eq_equiv, keys_of}
-use Rattle.linked_hash_map.proofs.Callers.{Ends.take-keys_of, Lookups.eq-find, Rules.keys_of-put_to_front}
+use Rattle.std.proofs.Common.{◌≡◌, ℕ, ◌-◌, ◌<◌, ◌≤◌, Option, Some, None, zero, suc, length, take, not, List, ◌∷◌, ◌++◌, filter}
+use Rattle.std.proofs.Common.{option_map, option_to_list, cond, refl, ap, ◌∙◌, nat_eq, arith}
+use Rattle.std.specs.Cmp.{nat_eq_equiv}
+use Rattle.std.specs.Map.{keys_of}
+use Rattle.linked_hash_map.specs.declared.map.Mode.{Mode}
+use Rattle.linked_hash_map.specs.Pairs.{find, value_at, without, without_last, to_front, put}
+use Rattle.linked_hash_map.specs.Updates.{Updates}
+use Rattle.linked_hash_map.proofs.Callers.Rules.{keys_of-put_to_front}
+use Rattle.linked_hash_map.proofs.Callers.Ends.{take-keys_of}
+use Rattle.linked_hash_map.proofs.Callers.Lookups.{eq-find}
 
 -- the keys, as the first n of them, if there are no more
 pub keys_of-front_few : {V : Type 0} (mode : Mode) (pairs : List (ℕ × V)) (k : ℕ) (v : V) (n : ℕ) {inserted moved : List (ℕ × V)}

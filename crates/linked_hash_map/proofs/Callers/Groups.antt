@@ -1,7 +1,10 @@
 -- For callers: maps of vectors, in which a loop collects the items of each key.
-use Rattle.linked_hash_map.proofs.Names.{Bool, List, None, Option, Some, Vec, [], ap, append-nil, arith, cond, eqb as nat_eq, false, filter}
-use Rattle.linked_hash_map.proofs.Names.{get_or, length, option_map, refl, sym, take, true, unwrap_or, vec_items, ℕ, ◌++◌, ◌+◌, ◌<◌, ◌∙◌}
-use Rattle.linked_hash_map.proofs.Names.{◌∷◌, ◌≡◌, ActsAs, set_or_push, value_at, get_or_default, filter_more, IsEquivalence, nat_eq_equiv}
+use Rattle.std.proofs.Common.{◌≡◌, ℕ, ◌+◌, ◌<◌, Bool, true, false, cond, List, [], ◌∷◌, ◌++◌, length, take, get_or, filter, append-nil}
+use Rattle.std.proofs.Common.{Option, Some, None, option_map, unwrap_or, Vec, vec_items, nat_eq, refl, sym, ap, ◌∙◌, arith}
+use Rattle.std.specs.Cmp.{IsEquivalence, nat_eq_equiv}
+use Rattle.std.proofs.lemmas.List.{get_or_default}
+use Rattle.std.proofs.lemmas.List.Elements.{filter_more}
+use Rattle.linked_hash_map.specs.Pairs.{value_at, set_or_push, ActsAs}
 use Rattle.linked_hash_map.proofs.Callers.Lookups.{value_at-same, value_at-set_or_push}
 
 -- each key has in its vector the items that have this key, in order; an item may have no key

@@ -1,9 +1,22 @@
 -- For callers: a run of insertions that leaves one pair more for each of them refused none.
-use Rattle.linked_hash_map.proofs.Names.{Bool, List, [], ap, append-nil, ap₂, arith, false, inl, inr, length, refl, subst, sym, true}
-use Rattle.linked_hash_map.proofs.Names.{true≢false, ℕ, ◌++◌, ◌+◌, ◌||◌, ◌∙◌, ◌∷◌, ◌≡◌, ◌≤◌, ◌⊎◌, effects, log_after, is_refusal, LinkedMap}
-use Rattle.linked_hash_map.proofs.Names.{Defines, Log, size, put, IsReply, IsRun, Replayed, last_log, IsValid, Mode, Answer, Command}
-use Rattle.linked_hash_map.proofs.Names.{Insert, Reply, IsEquivalence, list_all}
-use Rattle.linked_hash_map.proofs.Callers.{Keys.length-put_most, Replay.Defines-first, Replay.Replied-given}
+use Rattle.std.proofs.Common.{◌≡◌, ℕ, ◌+◌, ◌≤◌, ◌⊎◌, inl, inr, Bool, true, false, ◌||◌, List, [], ◌∷◌, ◌++◌, length, append-nil}
+use Rattle.std.proofs.Common.{refl, sym, ap, ap₂, ◌∙◌, subst, true≢false, arith}
+use Rattle.std.specs.List.{list_all}
+use Rattle.std.specs.Cmp.{IsEquivalence}
+use Rattle.linked_hash_map.specs.declared.map.Mode.{Mode}
+use Rattle.linked_hash_map.specs.LinkedMap.{LinkedMap}
+use Rattle.linked_hash_map.specs.Validity.{IsValid}
+use Rattle.linked_hash_map.specs.Log.{Log, Defines, size}
+use Rattle.linked_hash_map.specs.AllowedAnswers.{effects, log_after}
+use Rattle.linked_hash_map.specs.Run.{last_log, IsReply, IsRun, Replayed}
+use Rattle.linked_hash_map.specs.Commands.{is_refusal}
+use Rattle.linked_hash_map.specs.declared.replay.Command.{Command}
+use Rattle.linked_hash_map.specs.declared.replay.Command.TheVariants.{Insert}
+use Rattle.linked_hash_map.specs.declared.replay.Answer.{Answer}
+use Rattle.linked_hash_map.specs.declared.replay.Reply.{Reply}
+use Rattle.linked_hash_map.specs.Pairs.{put}
+use Rattle.linked_hash_map.proofs.Callers.Keys.{length-put_most}
+use Rattle.linked_hash_map.proofs.Callers.Replay.{Replied-given, Defines-first}
 use Rattle.linked_hash_map.proofs.Callers.WholeRuns.{NoneRefused, both_hold}
 
 -- a command that inserts a pair

@@ -1,7 +1,9 @@
 -- For callers: the keys after a removal or a move, from the clause of the call, at numbers.
-use Rattle.linked_hash_map.proofs.Names.{List, ap, eqb as nat_eq, filter, is_some, not, true, ℕ, ◌∙◌, ◌∷◌, ◌≡◌, find, to_front, without}
-use Rattle.linked_hash_map.proofs.Names.{keys_of}
-use Rattle.linked_hash_map.proofs.Callers.{Keys.keys_of-without, Rules.keys_of-to_front_number}
+use Rattle.std.proofs.Common.{◌≡◌, ℕ, not, List, ◌∷◌, filter, true, is_some, nat_eq, ap, ◌∙◌}
+use Rattle.std.specs.Map.{keys_of}
+use Rattle.linked_hash_map.specs.Pairs.{find, without, to_front}
+use Rattle.linked_hash_map.proofs.Callers.Keys.{keys_of-without}
+use Rattle.linked_hash_map.proofs.Callers.Rules.{keys_of-to_front_number}
 
 module _ {V : Type 0} (pairs after : List (ℕ × V)) (k : ℕ) where
   -- the keys after a removal

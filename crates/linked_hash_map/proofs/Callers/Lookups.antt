@@ -1,9 +1,15 @@
 -- For callers: what a map has at a key after each call.
-use Rattle.linked_hash_map.proofs.Names.{Bool, List, None, Option, Some, [], ap, arith, cond, drop, false, filter, is_some, length}
-use Rattle.linked_hash_map.proofs.Names.{length-append, not, option_map, refl, remove, slice_get, sym, true, true≢false, ◌++◌, ◌-◌, ◌∙◌}
-use Rattle.linked_hash_map.proofs.Names.{◌∷◌, ◌≡◌, find, key_or, last, put, set_or_push, set_value, to_back, value_at, without, Mode, Touch}
-use Rattle.linked_hash_map.proofs.Names.{IsEquivalence, IsDistinct, keys_of, lookup_entry, option_or}
-use Rattle.linked_hash_map.proofs.{log.LiveKeys.same_test, pairs.Indexes.slice_get-last, pairs.Indexes.without-own}
+use Rattle.std.proofs.Common.{◌≡◌, ◌-◌, Bool, true, false, cond, not, List, [], ◌∷◌, ◌++◌, length, length-append, drop, remove, slice_get}
+use Rattle.std.proofs.Common.{filter, Option, Some, None, is_some, option_map, refl, sym, ap, ◌∙◌, true≢false, arith}
+use Rattle.std.specs.List.{IsDistinct}
+use Rattle.std.specs.Option.{option_or}
+use Rattle.std.specs.Map.{lookup_entry, keys_of}
+use Rattle.std.specs.Cmp.{IsEquivalence}
+use Rattle.linked_hash_map.specs.declared.map.Mode.{Mode}
+use Rattle.linked_hash_map.specs.declared.map.Mode.TheVariants.{Touch}
+use Rattle.linked_hash_map.specs.Pairs.{last, key_or, find, value_at, without, to_back, set_value, set_or_push, put}
+use Rattle.linked_hash_map.proofs.log.LiveKeys.{same_test}
+use Rattle.linked_hash_map.proofs.pairs.Indexes.{without-own, slice_get-last}
 
 -- what stands behind the others is the last
 pub last-append : {X : Type 0} (xs : List X) (x : X) → last (xs ++ x ∷ []) ≡ Some x

@@ -1,8 +1,13 @@
 -- For callers: more sets of lemmas that an attribute names, at numbers: an insertion taken back.
 -- `Rules` says how they are written.
-use Rattle.linked_hash_map.proofs.Names.{List, None, Some, eqb as nat_eq, refl, ℕ, ◌≡◌, set_or_push, set_value, value_at, without, Keep}
-use Rattle.linked_hash_map.proofs.Names.{nat_eq_equiv, IsDistinct, keys_of}
-use Rattle.linked_hash_map.proofs.Callers.{Lookups.value_at-set_or_push_here, Writes.set_value-set_or_push, Writes.without-put}
+use Rattle.std.proofs.Common.{◌≡◌, ℕ, List, Some, None, nat_eq, refl}
+use Rattle.std.specs.Cmp.{nat_eq_equiv}
+use Rattle.std.specs.List.{IsDistinct}
+use Rattle.std.specs.Map.{keys_of}
+use Rattle.linked_hash_map.specs.declared.map.Mode.TheVariants.{Keep}
+use Rattle.linked_hash_map.specs.Pairs.{value_at, without, set_value, set_or_push}
+use Rattle.linked_hash_map.proofs.Callers.Lookups.{value_at-set_or_push_here}
+use Rattle.linked_hash_map.proofs.Callers.Writes.{without-put, set_value-set_or_push}
 
 -- after an insertion in Keep the key has the value; a new key removed, or the old value written,
 -- gives the pairs that were there before

@@ -1,7 +1,10 @@
 -- For callers: the pairs with a key in place of the stored key that is the same. Each key finds the
 -- same value.
-use Rattle.linked_hash_map.proofs.Names.{Bool, List, Some, [], ap, arith, cond, false, length, map, option_map, refl, true, ◌∷◌, ◌≡◌, find}
-use Rattle.linked_hash_map.proofs.Names.{replaced, set_key, value_at, length-map, IsEquivalence, keys_of}
+use Rattle.std.proofs.Common.{◌≡◌, Bool, true, false, cond, List, [], ◌∷◌, map, length, Some, option_map, arith, refl, ap}
+use Rattle.std.specs.Cmp.{IsEquivalence}
+use Rattle.std.specs.Map.{keys_of}
+use Rattle.std.proofs.lemmas.List.{length-map}
+use Rattle.linked_hash_map.specs.Pairs.{find, value_at, replaced, set_key}
 -- of a key that is absent
 pub use Rattle.linked_hash_map.proofs.pairs.Calls.{set_key-absent}
 

@@ -1,14 +1,26 @@
 -- For callers: what a reply in a run says of the answer and of what the map has then, in the words
 -- of single calls.
-use Rattle.linked_hash_map.proofs.Names.{Bool, IsFalse, List, Option, [], ap, arith, cond, drop, false, is_some, length, slice_get, take, ℕ}
-use Rattle.linked_hash_map.proofs.Names.{◌-◌, ◌≡◌, log_after, answer_to, capacity_after, is_refusal, mode_after, old_or, pair_or_empty}
-use Rattle.linked_hash_map.proofs.Names.{pairs_after, to_back_if_some, LinkedMap, Defines, Log, find, set_value, value_at, without, IsReply}
-use Rattle.linked_hash_map.proofs.Names.{first_log, IsValid, Mode, Answer, Absent, Done, Found, Missing, Command, Clear, EntryRemove}
-use Rattle.linked_hash_map.proofs.Names.{PopBack, PopFront, Reply, IsEquivalence}
-use Rattle.linked_hash_map.proofs.runs.{Effects.size-contents, Steps.Defines-first_log}
-use Rattle.linked_hash_map.proofs.runs.Outcomes.{clear_outcome, outcome, pop_back_outcome, pop_front_outcome, refresh_outcome}
-use Rattle.linked_hash_map.proofs.runs.Outcomes.{remove_outcome, set_mode_outcome, write_outcome}
-use Rattle.linked_hash_map.specs.declared.replay.Command.TheVariants.{Refresh, Remove, SetMode, Write}
+use Rattle.std.proofs.Common.{◌≡◌, ℕ, ◌-◌, Bool, false, cond, IsFalse, List, [], length, take, arith, drop, slice_get, Option, is_some, ap}
+use Rattle.std.specs.Cmp.{IsEquivalence}
+use Rattle.linked_hash_map.specs.LinkedMap.{LinkedMap}
+use Rattle.linked_hash_map.specs.Validity.{IsValid}
+use Rattle.linked_hash_map.specs.Log.{Log, Defines}
+use Rattle.linked_hash_map.specs.declared.map.Mode.{Mode}
+use Rattle.linked_hash_map.specs.Pairs.{find, value_at, without, set_value}
+use Rattle.linked_hash_map.specs.AllowedAnswers.{log_after}
+use Rattle.linked_hash_map.specs.Run.{first_log, IsReply}
+use Rattle.linked_hash_map.specs.Commands.{is_refusal, old_or, pair_or_empty, to_back_if_some}
+use Rattle.linked_hash_map.specs.Commands.{answer_to, pairs_after, capacity_after, mode_after}
+use Rattle.linked_hash_map.specs.declared.replay.Command.{Command}
+use Rattle.linked_hash_map.specs.declared.replay.Command.TheVariants.{Write, Refresh, Remove, PopFront, PopBack, Clear, EntryRemove}
+use Rattle.linked_hash_map.specs.declared.replay.Command.TheVariants.{SetMode}
+use Rattle.linked_hash_map.specs.declared.replay.Answer.{Answer}
+use Rattle.linked_hash_map.specs.declared.replay.Answer.TheVariants.{Found, Missing, Absent, Done}
+use Rattle.linked_hash_map.specs.declared.replay.Reply.{Reply}
+use Rattle.linked_hash_map.proofs.runs.Effects.{size-contents}
+use Rattle.linked_hash_map.proofs.runs.Steps.{Defines-first_log}
+use Rattle.linked_hash_map.proofs.runs.Outcomes.{outcome, write_outcome, refresh_outcome, remove_outcome, pop_front_outcome}
+use Rattle.linked_hash_map.proofs.runs.Outcomes.{pop_back_outcome, clear_outcome, set_mode_outcome}
 
 -- a run begins with a log that defines the map
 pub Defines-first : {K V S : Type 0} {eq : K → K → Bool} → IsEquivalence eq → {m : LinkedMap K V S}

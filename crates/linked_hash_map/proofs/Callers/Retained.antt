@@ -1,6 +1,7 @@
 -- For callers: what `retain` keeps, by what the closure's contract says of each call. T says what a
 -- call does: it may return this, leave this value there, and leave the closure so.
-use Rattle.linked_hash_map.proofs.Names.{Bool, List, [], ap, arith, cond, filter, map, refl, subst, true, ◌∙◌, ◌∷◌, ◌≡◌, RetainsPairs}
+use Rattle.std.proofs.Common.{◌≡◌, Bool, true, cond, List, [], ◌∷◌, map, filter, refl, ap, ◌∙◌, subst, arith}
+use Rattle.std.specs.Map.Calls.{RetainsPairs}
 use Rattle.std.proofs.lemmas.Map.Made as made
 -- the first pair
 pub use Rattle.linked_hash_map.proofs.nodes.Retained.{RetainsFirst, first-retained}

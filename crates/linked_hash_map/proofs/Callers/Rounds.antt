@@ -1,7 +1,8 @@
 -- For callers: turns, each of which takes the first pair and puts it behind the others.
-use Rattle.linked_hash_map.proofs.Names.{List, Some, [], ap, append-nil, append_assoc, ap₂, arith, drop, get_or, length, length-append}
-use Rattle.linked_hash_map.proofs.Names.{length-drop, map, refl, sym, take, take_all, ℕ, ◌++◌, ◌+◌, ◌<◌, ◌∙◌, ◌∷◌, ◌≡◌, first}
-use Rattle.linked_hash_map.proofs.Names.{without_first, drop_all, drop_more, map-append, take_more}
+use Rattle.std.proofs.Common.{◌≡◌, ℕ, ◌+◌, ◌<◌, List, [], ◌∷◌, ◌++◌, length, take, drop, map, get_or, append_assoc, append-nil, refl, sym}
+use Rattle.std.proofs.Common.{ap, ap₂, ◌∙◌, Some, arith, length-append, length-drop}
+use Rattle.std.proofs.lemmas.List.{drop_more, take_more, drop_all, take_all, map-append}
+use Rattle.linked_hash_map.specs.Pairs.{first, without_first}
 
 -- after some turns the first of the old pairs stand behind the others, changed
 pub record IsTurned {X : Type 0} (change : X → X) (old now : List X) (turns : ℕ) : Type 0 where

@@ -2,30 +2,43 @@
 -- using(linked_hash_map::proofs::Callers::Rules::number_keys))]. At numbers a lemma is stated at
 -- their equality, so that `grind` has none to find; the first part of a conclusion shows it the
 -- call to match.
-use Rattle.linked_hash_map.proofs.Names.{List, None, Option, Some, [], ap, append-nil, append_assoc, ap₂, arith, cond, eqb as nat_eq, false}
-use Rattle.linked_hash_map.proofs.Names.{filter, get_or, inl, inr, is_some, length, map, not, option_to_list, refl, reverse, slice_get}
-use Rattle.linked_hash_map.proofs.Names.{subst, sym, take, true, true≢false, ℕ, ◌++◌, ◌+◌, ◌<◌, ◌∙◌, ◌∷◌, ◌≡◌, ◌≤◌, ◌⊎◌, String, string_eq}
-use Rattle.linked_hash_map.proofs.Names.{find, from, key_or, put, set_or_push, to_after, to_back_as_is, to_before, to_front, value_at}
-use Rattle.linked_hash_map.proofs.Names.{without, Mode, Touch, eqb-true, nat_list_eq_equiv, All-contains_itself, All-weaker, nat_eq_equiv}
-use Rattle.linked_hash_map.proofs.Names.{Contains, IsDistinct, keys_of, values_of, option_or, bytes_eq, string_bytes}
+use Rattle.std.proofs.Common.{◌≡◌, ◌⊎◌, false, ℕ, ◌+◌, ◌<◌, ◌≤◌, inl, inr, sym, take, get_or, cond, not, List, [], ◌∷◌, arith}
+use Rattle.std.proofs.Common.{◌++◌, length, filter, map, is_some, Some, None, refl, ap, ◌∙◌, nat_eq, true}
+use Rattle.std.proofs.Common.{slice_get, reverse, subst, append_assoc, Option, option_to_list, ap₂, true≢false}
+use Rattle.std.specs.Cmp.Lexicographic.{nat_list_eq_equiv}
+use Rattle.std.specs.Prelude.{String, string_eq}
+use Rattle.std.specs.declared.alloc.Global.{Global}
+use Rattle.std.specs.Str.{bytes_eq}
+use Rattle.std.specs.String.{string_bytes}
+use Rattle.std.specs.Cmp.{nat_eq_equiv}
+use Rattle.std.specs.Map.{keys_of, values_of}
+use Rattle.std.specs.Option.{option_or}
+use Rattle.std.specs.List.{Contains, IsDistinct}
+use Rattle.std.proofs.lemmas.List.{append-nil}
+use Rattle.std.proofs.lemmas.Bool.{eqb-true}
+use Rattle.std.proofs.lemmas.List.Elements.{All-weaker, All-contains_itself}
+use Rattle.linked_hash_map.specs.declared.map.Mode.{Mode}
+use Rattle.linked_hash_map.specs.declared.map.Mode.TheVariants.{Touch}
+use Rattle.linked_hash_map.specs.Pairs.{key_or, find, value_at, without, from, to_back_as_is, to_front}
+use Rattle.linked_hash_map.specs.Pairs.{set_or_push, put, to_before, to_after}
+use Rattle.linked_hash_map.proofs.Callers.Keys.{length-put_most, key_or-find, keys_of-to_back, keys_of-to_back_own}
+use Rattle.linked_hash_map.proofs.Callers.Keys.{keys_of-without, keys_of-set_or_push, keys_of-append, keys_of-without_first}
+use Rattle.linked_hash_map.proofs.Callers.Keys.{keys_of-without_last, first-keys_of, put-absent}
 use Rattle.linked_hash_map.proofs.Callers.Collected.{insert_each-append, insert_each-snoc}
-use Rattle.linked_hash_map.proofs.Callers.Counted.{CountsItems-below, CountsItems-counted, CountsItems-start, CountsKnown-counted}
-use Rattle.linked_hash_map.proofs.Callers.Counted.{CountsKnown-fits, CountsKnown-start}
-use Rattle.linked_hash_map.proofs.Callers.Cuts.{find-cut, find-second, from-cut, from-second_reverse, to_after-cut, to_before-cut}
-use Rattle.linked_hash_map.proofs.Callers.Dense.{eq-dense, eq-dense_found, value_at_dense_each, values_of_dense_push}
-use Rattle.linked_hash_map.proofs.Callers.EachPair.{All-find, All-put, All-to_back_as_is, All-without}
+use Rattle.linked_hash_map.proofs.Callers.Counted.{CountsItems-start, CountsItems-counted, CountsItems-below}
+use Rattle.linked_hash_map.proofs.Callers.Counted.{CountsKnown-start, CountsKnown-counted, CountsKnown-fits}
+use Rattle.linked_hash_map.proofs.Callers.Cuts.{find-cut, find-second, from-cut, from-second_reverse, to_before-cut, to_after-cut}
+use Rattle.linked_hash_map.proofs.Callers.Dense.{values_of_dense_push, value_at_dense_each, eq-dense, eq-dense_found}
+use Rattle.linked_hash_map.proofs.Callers.EachPair.{All-find, All-without, All-to_back_as_is, All-put}
 use Rattle.linked_hash_map.proofs.Callers.Ends.{keys_of-take, take-keys_of, to_front-put, value_at-take}
-use Rattle.linked_hash_map.proofs.Callers.Keys.{first-keys_of, key_or-find, keys_of-append, keys_of-set_or_push, keys_of-to_back}
-use Rattle.linked_hash_map.proofs.Callers.Keys.{keys_of-to_back_own, keys_of-without, keys_of-without_first, keys_of-without_last}
-use Rattle.linked_hash_map.proofs.Callers.{Keys.length-put_most, Keys.put-absent, Texts.value_at-by_bytes, Texts.values_of-by_bytes}
 use Rattle.linked_hash_map.proofs.Callers.Lookups.{eq-find, eq-stored, value_at-append, value_at-without_append}
-use Rattle.linked_hash_map.proofs.Callers.Rounds.{IsTurned-round, IsTurned-start, IsTurned-turn}
-use Rattle.linked_hash_map.proofs.Callers.TextCounts.{CountsTexts-all, CountsTexts-below, CountsTexts-counted, CountsTexts-start}
+use Rattle.linked_hash_map.proofs.Callers.Rounds.{IsTurned-start, IsTurned-turn, IsTurned-round}
+use Rattle.linked_hash_map.proofs.Callers.TextCounts.{CountsTexts-start, CountsTexts-counted, CountsTexts-below, CountsTexts-all}
 use Rattle.linked_hash_map.proofs.Callers.TextLookups.{value_at-put_text, value_at-removed_text}
+use Rattle.linked_hash_map.proofs.Callers.Texts.{value_at-by_bytes, values_of-by_bytes}
 use Rattle.linked_hash_map.proofs.Callers.Turns.{cons-keys_of_first, put-without_first}
 use Rattle.linked_hash_map.proofs.Callers.Visits.{VisitKeeps-passed, VisitKeeps-removed, append-visited}
-use Rattle.linked_hash_map.proofs.Callers.WritingVisits.{VisitMaps-removed, VisitMaps-start, VisitMaps-written}
-use Rattle.std.specs.declared.alloc.Global.{Global}
+use Rattle.linked_hash_map.proofs.Callers.WritingVisits.{VisitMaps-written, VisitMaps-removed, VisitMaps-start}
 
 -- at numbers
 module _ {V : Type 0} (mode : Mode) (pairs : List (ℕ × V)) (k : ℕ) (v : V) where

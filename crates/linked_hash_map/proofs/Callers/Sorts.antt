@@ -1,7 +1,13 @@
 -- For callers: what ascends after `sort_by` and `sort_by_key`, as std says of a list by `IsNonDecreasingBy-from_sort_by`.
-use Rattle.linked_hash_map.proofs.Names.{Bor, List, ap, ℕ, ◌≡◌, IsSortedByClosure, IsSortedByKeyClosure, always_returns_same, ranks_by}
-use Rattle.linked_hash_map.proofs.Names.{IsNonDecreasingBy-from_sort, IsTotalOrder, nat_cmp_total, Called, IsNonDecreasingBy, IsSortedByKey}
-use Rattle.linked_hash_map.proofs.Names.{is_lt, nat_cmp, Ordering, Mut}
+use Rattle.std.proofs.Common.{◌≡◌, ℕ, List, Bor, ap}
+use Rattle.std.specs.Cmp.{IsTotalOrder, nat_cmp_total}
+use Rattle.std.specs.Fn.{Mut, Called}
+use Rattle.std.specs.List.Sorted.{IsNonDecreasingBy, IsSortedByKey}
+use Rattle.std.specs.Ordering.{is_lt, nat_cmp}
+use Rattle.std.specs.declared.cmp.Ordering.{Ordering}
+use Rattle.std.proofs.lemmas.Fn.{always_returns_same}
+use Rattle.std.proofs.lemmas.List.Sorted.{ranks_by, IsNonDecreasingBy-from_sort}
+use Rattle.linked_hash_map.specs.Sort.{IsSortedByClosure, IsSortedByKeyClosure}
 
 module _ {K V F : Type 0} where
   -- each call compares what n gives of the two pairs

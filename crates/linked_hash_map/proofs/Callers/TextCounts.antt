@@ -1,9 +1,16 @@
 -- For callers: a count for each text of a slice, one text after another.
-use Rattle.linked_hash_map.proofs.Names.{Bor, List, Some, [], ap, arith, count_by, get_or, length, length-take, refl, take, take_all}
-use Rattle.linked_hash_map.proofs.Names.{unwrap_or, ℕ, ◌+◌, ◌<◌, ◌∙◌, ◌≡◌, ◌≤◌, String, string_eq, value_at, UpdatesBy, count_by-le-length}
-use Rattle.linked_hash_map.proofs.Names.{bytes_eq, string_bytes}
-use Rattle.linked_hash_map.proofs.Callers.Texts.{count_by-updated, is_text}
+use Rattle.std.proofs.Common.{◌≡◌, ℕ, ◌+◌, ◌<◌, ◌≤◌, length, length-take, take, take_all, get_or, unwrap_or, List, [], Some}
+use Rattle.std.proofs.Common.{refl, ap, ◌∙◌, arith}
+use Rattle.std.specs.Borrow.{Bor}
+use Rattle.std.specs.List.{count_by}
+use Rattle.std.specs.Prelude.{String, string_eq}
 use Rattle.std.specs.declared.alloc.Global.{Global}
+use Rattle.std.specs.Str.{bytes_eq}
+use Rattle.std.specs.String.{string_bytes}
+use Rattle.std.proofs.lemmas.List.Sums.{count_by-le-length}
+use Rattle.linked_hash_map.specs.Pairs.{value_at}
+use Rattle.linked_hash_map.specs.Updates.{UpdatesBy}
+use Rattle.linked_hash_map.proofs.Callers.Texts.{is_text, count_by-updated}
 
 -- each text has as its count how often it comes, which is 0 if it has none
 pub record CountsTexts (counts : List (String Global × ℕ)) (texts : List (Bor (List ℕ))) : Type 0 where

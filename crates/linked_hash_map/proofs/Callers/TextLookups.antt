@@ -1,10 +1,16 @@
 -- For callers: what each text finds after a change, at `String` keys. The first part of a conclusion
 -- shows `grind` the lookup or the call; its test is written out, since none of `is_text` is matched.
-use Rattle.linked_hash_map.proofs.Names.{List, None, Some, ap, cond, false, refl, sym, ℕ, ◌∙◌, ◌≡◌, String, string_eq, put, value_at}
-use Rattle.linked_hash_map.proofs.Names.{without, Mode, nat_list_eq_equiv, bytes_eq, string_bytes, string_eq_equiv}
-use Rattle.linked_hash_map.proofs.Callers.{Lookups.value_at-without, Updates.Updates-put}
-use Rattle.linked_hash_map.proofs.Callers.Texts.{by_bytes, by_bytes-without, is_text, value_at-by_bytes, value_at-updated}
+use Rattle.std.proofs.Common.{◌≡◌, ℕ, List, Some, None, cond, false, refl, sym, ap, ◌∙◌}
+use Rattle.std.specs.Prelude.{String, string_eq}
 use Rattle.std.specs.declared.alloc.Global.{Global}
+use Rattle.std.specs.Str.{bytes_eq}
+use Rattle.std.specs.String.{string_bytes, string_eq_equiv}
+use Rattle.std.proofs.lemmas.Cmp.{nat_list_eq_equiv}
+use Rattle.linked_hash_map.specs.declared.map.Mode.{Mode}
+use Rattle.linked_hash_map.specs.Pairs.{value_at, without, put}
+use Rattle.linked_hash_map.proofs.Callers.Lookups.{value_at-without}
+use Rattle.linked_hash_map.proofs.Callers.Texts.{is_text, value_at-updated, by_bytes, value_at-by_bytes, by_bytes-without}
+use Rattle.linked_hash_map.proofs.Callers.Updates.{Updates-put}
 
 module _ {V : Type 0} where
   -- after an insertion

@@ -1,11 +1,16 @@
 -- For callers: the first pair taken out and put back behind the others, and turns of this kind one
 -- after another.
-use Rattle.linked_hash_map.proofs.Names.{Bool, List, None, Option, Some, [], ap, append_assoc, ap₂, arith, cond, drop, false, get_or}
-use Rattle.linked_hash_map.proofs.Names.{is_some, length, map, refl, subst, sym, take, true, true≢false, ℕ, ◌++◌, ◌+◌, ◌<◌, ◌∙◌, ◌∷◌, ◌≡◌}
-use Rattle.linked_hash_map.proofs.Names.{find, first, put, without_first, Mode, drop_more, map-append, take_more, IsEquivalence, IsDistinct}
-use Rattle.linked_hash_map.proofs.Names.{keys_of, option_or}
+use Rattle.std.proofs.Common.{◌≡◌, ℕ, ◌+◌, ◌<◌, Bool, true, false, cond, List, [], ◌∷◌, ◌++◌, arith, length, take, drop, map, get_or}
+use Rattle.std.proofs.Common.{append_assoc, subst, Option, Some, None, is_some, true≢false, refl, sym, ap, ap₂, ◌∙◌}
+use Rattle.std.specs.Option.{option_or}
+use Rattle.std.specs.List.{IsDistinct}
+use Rattle.std.specs.Map.{keys_of}
+use Rattle.std.specs.Cmp.{IsEquivalence}
+use Rattle.std.proofs.lemmas.List.{drop_more, take_more, map-append}
+use Rattle.linked_hash_map.specs.Pairs.{find, put, first, without_first}
+use Rattle.linked_hash_map.specs.declared.map.Mode.{Mode}
+use Rattle.linked_hash_map.proofs.Callers.Lookups.{lookup_entry-append, find-same, find-without_here, drop-first}
 use Rattle.linked_hash_map.proofs.Callers.Keys.{find-drop, put-absent}
-use Rattle.linked_hash_map.proofs.Callers.Lookups.{drop-first, find-same, find-without_here, lookup_entry-append}
 
 -- a list with a first pair is that pair and the others, and so are its keys
 cons-without_first : {X : Type 0} (xs : List X) (x : X) → first xs ≡ Some x → x ∷ without_first xs ≡ xs

@@ -1,10 +1,16 @@
 -- For callers: what a call changes, at its key and at the others.
-use Rattle.linked_hash_map.proofs.Names.{Bool, IsSome, List, None, Option, Some, [], arith, false, length, max, option_map, sym, true, ℕ}
-use Rattle.linked_hash_map.proofs.Names.{◌<◌, ◌∙◌, ◌∷◌, ◌≡◌, ◌≤◌, find, put, set_or_push, set_value, without, Updates, UpdatesBy, Mode}
-use Rattle.linked_hash_map.proofs.Names.{IsEquivalence, IsDistinct, AreApart, IsKeyTest, keys_of, lookup_entry}
+use Rattle.std.proofs.Common.{◌≡◌, ℕ, ◌<◌, ◌≤◌, max, Bool, true, false, List, [], ◌∷◌, length, Option, Some, None}
+use Rattle.std.proofs.Common.{option_map, sym, ◌∙◌, arith}
+use Rattle.std.specs.Cmp.{IsEquivalence}
+use Rattle.std.specs.List.{IsDistinct}
+use Rattle.std.specs.Map.{keys_of, lookup_entry, IsKeyTest, AreApart}
+use Rattle.std.specs.Option.{IsSome}
+use Rattle.linked_hash_map.specs.declared.map.Mode.{Mode}
+use Rattle.linked_hash_map.specs.Pairs.{find, put, without, set_value, set_or_push}
+use Rattle.linked_hash_map.specs.Updates.{Updates, UpdatesBy}
+use Rattle.linked_hash_map.proofs.Callers.Lookups.{value_at-put_here, value_at-put_apart, value_at-without_here, value_at-without_apart}
+use Rattle.linked_hash_map.proofs.Callers.Lookups.{value_at-set_or_push_here, value_at-set_or_push_apart}
 use Rattle.linked_hash_map.proofs.Callers.Keys.{length-put_absent, length-put_present, set_or_push-present}
-use Rattle.linked_hash_map.proofs.Callers.Lookups.{value_at-put_apart, value_at-put_here, value_at-set_or_push_apart}
-use Rattle.linked_hash_map.proofs.Callers.Lookups.{value_at-set_or_push_here, value_at-without_apart, value_at-without_here}
 
 -- an insertion of a key that is present, or that has room, leaves the capacity
 pub max-length_put : {K V : Type 0} {eq : K → K → Bool} → IsEquivalence eq

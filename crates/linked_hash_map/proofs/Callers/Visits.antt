@@ -1,13 +1,24 @@
 -- For callers: a visit that keeps some of the pairs and takes the others out, also one that counts
 -- these, and one that puts pairs behind the others, step by step.
-use Rattle.linked_hash_map.proofs.Names.{Bool, List, None, Some, [], ap, append-nil, append_assoc, arith, cond, drop, eqb as nat_eq, false}
-use Rattle.linked_hash_map.proofs.Names.{filter, get_or, length, length-append, length-drop, map, option_map, refl, remove, slice_get}
-use Rattle.linked_hash_map.proofs.Names.{subst, sym, take, true, ℕ, ◌++◌, ◌+◌, ◌<◌, ◌∙◌, ◌∷◌, ◌≡◌, Some-injective, SplitFirst}
-use Rattle.linked_hash_map.proofs.Names.{remove-append, slice_get-append, to_visit, LinkedMap, value_at, without, IsValid, VisitKeeps}
-use Rattle.linked_hash_map.proofs.Names.{drop-map, drop_more, get_or_append_left, length-map, map-append, take_more, filter-append}
-use Rattle.linked_hash_map.proofs.Names.{slice_get-get_or, slice_get_past, IsEquivalence, nat_eq_equiv, IsDistinct, keys_of}
-use Rattle.linked_hash_map.proofs.Callers.Keys.{IsSome-find, length-without_present}
+use Rattle.std.proofs.Common.{◌≡◌, ℕ, ◌+◌, ◌<◌, Bool, true, false, cond, List, [], ◌∷◌, ◌++◌, length, map, take, drop}
+use Rattle.std.proofs.Common.{slice_get, get_or, nat_eq}
+use Rattle.std.proofs.Common.{option_map, Some, None, filter, refl, sym, ap, subst, ◌∙◌, append_assoc, append-nil, length-append, arith}
+use Rattle.std.specs.Cmp.{IsEquivalence, nat_eq_equiv}
+use Rattle.std.specs.List.{IsDistinct, remove}
+use Rattle.std.specs.Map.{keys_of}
+use Rattle.std.proofs.lemmas.List.{map-append, drop-map, drop_more, take_more, length-drop, length-map, get_or_append_left}
+use Rattle.std.proofs.lemmas.List.Elements.{filter-append}
+use Rattle.std.proofs.lemmas.Option.{slice_get-get_or, slice_get_past}
+use Rattle.lhm_ring.proofs.lists.Options.{Some-injective}
+use Rattle.linked_hash_map.specs.LinkedMap.{LinkedMap}
+use Rattle.linked_hash_map.specs.Cursor.{to_visit}
+use Rattle.linked_hash_map.specs.Pairs.{value_at, without}
+use Rattle.linked_hash_map.specs.Validity.{IsValid}
+use Rattle.linked_hash_map.specs.Visits.{VisitKeeps}
 use Rattle.linked_hash_map.proofs.pairs.Indexes.{find-own, without-own}
+use Rattle.linked_hash_map.proofs.Callers.Keys.{IsSome-find, length-without_present}
+use Rattle.lhm_ring.proofs.tables.Positions.{slice_get-append, remove-append}
+use Rattle.lhm_ring.proofs.lists.Splits.{SplitFirst}
 
 -- the first pair to come has the key that is next, and the others are to come behind it
 pub record Next {K V : Type 0} (k : K) (left : List K) (rest : List (K × V)) : Type 0 where

@@ -1,17 +1,30 @@
 -- For callers: whole runs. If nothing is refused, the replies, the pairs and the capacity follow
 -- from the commands and the first map. Two runs with the same refusals have the same answers.
-use Rattle.linked_hash_map.proofs.Names.{Bool, Err, Global, IfOk, IsFalse, IsOkAnd, List, None, Ok, Option, Result, Some, Vec, [], ap, ap₂}
-use Rattle.linked_hash_map.proofs.Names.{arith, false, map, refl, slice_get, subst, sym, true, ℕ, ◌&&◌, ◌||◌, ◌∙◌, ◌∷◌, ◌≡◌, Answers}
-use Rattle.linked_hash_map.proofs.Names.{log_after, answer_to, capacity_after, is_refusal, mode_after, pairs_after, pairs_after_all}
-use Rattle.linked_hash_map.proofs.Names.{refusals, refused_after, replies_to, LinkedMap, Defines, Log, high, mode, pairs, IsReply, IsRun}
-use Rattle.linked_hash_map.proofs.Names.{first_log, last_log, IsValid, Mode, Answer, NoRoom, Refused, Stopped, Command, Clear, EntryInsert}
-use Rattle.linked_hash_map.proofs.Names.{EntryRemove, Extend, Insert, OrInsert, PopBack, PopFront, Reply, IsEquivalence, list_all, list_any}
-use Rattle.linked_hash_map.proofs.Callers.Replay.{Defines-first, Replied-given, is_refusal-clear, is_refusal-entry_remove}
-use Rattle.linked_hash_map.proofs.Callers.Replay.{is_refusal-pop_back, is_refusal-pop_front, is_refusal-refresh, is_refusal-remove}
-use Rattle.linked_hash_map.proofs.{Callers.Replay.is_refusal-set_mode, Callers.Replay.is_refusal-write, runs.Outcomes.outcome}
+use Rattle.std.proofs.Common.{◌≡◌, ℕ, Bool, true, false, Result, Ok, Err, IfOk, IsOkAnd, Vec, Global, ◌||◌, ◌&&◌, IsFalse, List, [], ◌∷◌}
+use Rattle.std.proofs.Common.{Option, Some, None, slice_get, map, refl, sym, ap, ap₂, ◌∙◌, subst}
+use Rattle.std.specs.List.{list_any, list_all}
+use Rattle.std.specs.Cmp.{IsEquivalence}
+use Rattle.linked_hash_map.specs.declared.map.Mode.{Mode}
+use Rattle.linked_hash_map.specs.LinkedMap.{LinkedMap}
+use Rattle.linked_hash_map.specs.Validity.{IsValid}
+use Rattle.linked_hash_map.specs.Log.{Log, mode, pairs, high, Defines}
+use Rattle.linked_hash_map.specs.AllowedAnswers.{log_after, Answers}
+use Rattle.linked_hash_map.specs.Run.{first_log, last_log, IsReply, IsRun}
+use Rattle.linked_hash_map.specs.Commands.{is_refusal, refused_after, refusals, answer_to, replies_to}
+use Rattle.linked_hash_map.specs.Commands.{mode_after, pairs_after, capacity_after, pairs_after_all}
+use Rattle.linked_hash_map.specs.declared.replay.Command.{Command}
+use Rattle.linked_hash_map.specs.declared.replay.Command.TheVariants.{Insert, Write, Refresh, Remove, PopFront, PopBack, Clear}
+use Rattle.linked_hash_map.specs.declared.replay.Command.TheVariants.{Extend, OrInsert, EntryInsert, EntryRemove, SetMode}
+use Rattle.linked_hash_map.specs.declared.replay.Answer.{Answer}
+use Rattle.linked_hash_map.specs.declared.replay.Answer.TheVariants.{Refused, Stopped, NoRoom}
+use Rattle.linked_hash_map.specs.declared.replay.Reply.{Reply}
+use Rattle.linked_hash_map.proofs.Callers.Replay.{Replied-given, Defines-first, is_refusal-write, is_refusal-refresh, is_refusal-remove}
+use Rattle.linked_hash_map.proofs.Callers.Replay.{is_refusal-entry_remove, is_refusal-pop_front, is_refusal-pop_back, is_refusal-clear}
+use Rattle.linked_hash_map.proofs.Callers.Replay.{is_refusal-set_mode}
 use Rattle.linked_hash_map.proofs.lists.Elements.{none_first, none_later}
-use Rattle.linked_hash_map.specs.declared.replay.Command.TheVariants.{Refresh, Remove, SetMode, Write}
 pub use Rattle.linked_hash_map.proofs.log.WithoutKeep.{pairs-in_touch}
+use Rattle.linked_hash_map.proofs.runs.Outcomes.{outcome}
+use Rattle.std.proofs.Common.{arith}
 -- what `replay` says if it returns replies
 pub use Rattle.linked_hash_map.specs.Run.{Replayed}
 

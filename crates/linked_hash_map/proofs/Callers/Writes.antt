@@ -1,10 +1,18 @@
 -- For callers: values that are written, and calls one after another by the same key.
-use Rattle.linked_hash_map.proofs.Names.{Bool, IsSome, List, None, Option, Some, [], ap, append-nil, ap₂, arith, cond, false, is_some}
-use Rattle.linked_hash_map.proofs.Names.{option_map, refl, true, unwrap_or, ◌∙◌, ◌∷◌, ◌≡◌, ActsAs, find, put, set_if_some, set_or_push}
-use Rattle.linked_hash_map.proofs.Names.{set_value, value_at, without, Mode, filter-append, MutBor, IsEquivalence, Once, IsDistinct}
-use Rattle.linked_hash_map.proofs.Names.{keys_of, MayWrite, ModifiesValue}
-use Rattle.linked_hash_map.proofs.Callers.Keys.{IsSome-find, find-absent, put-absent, set_or_push-present, without-absent}
-use Rattle.linked_hash_map.proofs.pairs.Calls.{is_some-value_at, set_value-none}
+use Rattle.std.proofs.Common.{◌≡◌, Bool, true, false, cond, List, [], ◌∷◌, append-nil, Option, Some, None, arith}
+use Rattle.std.proofs.Common.{is_some, option_map, unwrap_or, refl, ap, ap₂, ◌∙◌}
+use Rattle.std.specs.Option.{IsSome}
+use Rattle.std.specs.Borrow.{MutBor}
+use Rattle.std.specs.Fn.{Once}
+use Rattle.std.specs.List.{IsDistinct}
+use Rattle.std.specs.Map.{keys_of}
+use Rattle.std.specs.Map.Calls.{MayWrite, ModifiesValue}
+use Rattle.std.specs.Cmp.{IsEquivalence}
+use Rattle.std.proofs.lemmas.List.Elements.{filter-append}
+use Rattle.linked_hash_map.specs.declared.map.Mode.{Mode}
+use Rattle.linked_hash_map.specs.Pairs.{ActsAs, find, value_at, without, set_value, set_or_push, set_if_some, put}
+use Rattle.linked_hash_map.proofs.pairs.Calls.{set_value-none, is_some-value_at}
+use Rattle.linked_hash_map.proofs.Callers.Keys.{find-absent, IsSome-find, set_or_push-present, without-absent, put-absent}
 -- a value that is set as it was changes nothing
 pub use Rattle.linked_hash_map.proofs.pairs.Indexes.{set_value-own}
 

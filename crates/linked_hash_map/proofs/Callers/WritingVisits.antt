@@ -1,11 +1,20 @@
 -- For callers: a visit that takes some of the pairs out and writes the values of the others, step
 -- by step.
-use Rattle.linked_hash_map.proofs.Names.{Bool, IfSome, List, Some, [], ap, append_assoc, arith, cond, false, filter, length, map}
-use Rattle.linked_hash_map.proofs.Names.{option_map, refl, remove, slice_get, subst, sym, true, ℕ, ◌++◌, ◌∙◌, ◌∷◌, ◌≡◌, Some-injective}
-use Rattle.linked_hash_map.proofs.Names.{SplitFirst, remove-append, slice_get-append, set_value_at, set_value, value_at, without, VisitMaps}
-use Rattle.linked_hash_map.proofs.Names.{map-append, filter-append, IsEquivalence, IsDistinct, keys_of}
+use Rattle.std.proofs.Common.{◌≡◌, ℕ, Bool, true, false, cond, List, [], ◌∷◌, ◌++◌, length, map, slice_get, arith, option_map, Some, IfSome}
+use Rattle.std.proofs.Common.{filter, refl, sym, ap, subst, ◌∙◌, append_assoc}
+use Rattle.std.specs.Cmp.{IsEquivalence}
+use Rattle.std.specs.List.{IsDistinct, remove}
+use Rattle.std.specs.Map.{keys_of}
+use Rattle.std.proofs.lemmas.List.{map-append}
+use Rattle.std.proofs.lemmas.List.Elements.{filter-append}
+use Rattle.lhm_ring.proofs.lists.Options.{Some-injective}
+use Rattle.linked_hash_map.specs.Indexes.{set_value_at}
+use Rattle.linked_hash_map.specs.Pairs.{value_at, without, set_value}
+use Rattle.linked_hash_map.specs.Visits.{VisitMaps}
+use Rattle.linked_hash_map.proofs.pairs.Indexes.{find-own, without-own, set_value-own_at, set_value_at-append}
+use Rattle.lhm_ring.proofs.tables.Positions.{slice_get-append, remove-append}
 use Rattle.linked_hash_map.proofs.Callers.Visits.{Next, next_of}
-use Rattle.linked_hash_map.proofs.pairs.Indexes.{find-own, set_value-own_at, set_value_at-append, without-own}
+use Rattle.lhm_ring.proofs.lists.Splits.{SplitFirst}
 
 module _ {K V : Type 0} {eq : K → K → Bool} (laws : IsEquivalence eq) {keeps : K × V → Bool} {change : K × V → V}
     {start now : List (K × V)} {k : K} {left : List K} {v : V}

@@ -1,6 +1,8 @@
 -- Lists without repetitions.
-use Rattle.linked_hash_map.proofs.Names.{Bool, IsTrue, List, [], ap, arith, false, refl, remove, suc, zero, ℕ, ◌++◌, ◌||◌, ◌∙◌, ◌∷◌, ◌≡◌}
-use Rattle.linked_hash_map.proofs.Names.{AllByRecursion-map, IsEquivalence, AllByRecursion, IsDistinct, list_any}
+use Rattle.std.proofs.Common.{◌≡◌, ℕ, zero, suc, Bool, false, ◌||◌, List, [], ◌∷◌, ◌++◌, IsTrue, remove, refl, ap, ◌∙◌, arith}
+use Rattle.std.specs.List.{list_any, IsDistinct, AllByRecursion}
+use Rattle.std.specs.Cmp.{IsEquivalence}
+use Rattle.lhm_ring.proofs.lists.ForAll.{AllByRecursion-map}
 
 -- keys of which all differ from one differ from what is the same as it
 pub none_from_all : {K : Type 0} (test : K → Bool) (ks : List K) → AllByRecursion (λ y. test y ≡ false) ks → list_any test ks ≡ false

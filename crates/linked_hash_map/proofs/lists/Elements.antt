@@ -1,8 +1,12 @@
 -- Lists, cut at an element or with one more at the end.
-use Rattle.linked_hash_map.proofs.Names.{Bool, List, None, Option, Some, [], ap, append-nil, append_assoc, arith, cond, drop_of_length-le}
-use Rattle.linked_hash_map.proofs.Names.{false, length, length-append, map, max, refl, sym, ℕ, ◌++◌, ◌+◌, ◌||◌, ◌∙◌, ◌∷◌, ◌≡◌, beginnings}
-use Rattle.linked_hash_map.proofs.Names.{first_some, largest, last_some, moments, first, without_first, drop-append-le, map-append}
-use Rattle.linked_hash_map.proofs.Names.{reverse-append, suffix_len-le-length, after_last, prefix_len, suffix_len, zip, option_or}
+use Rattle.std.proofs.Common.{◌≡◌, ℕ, ◌+◌, max, Bool, false, cond, ◌||◌, List, [], ◌∷◌, ◌++◌, map, length, Option, Some, None, refl}
+use Rattle.std.proofs.Common.{sym, ap, ◌∙◌, arith, append_assoc, append-nil, drop_of_length-le, length-append}
+use Rattle.std.specs.List.{after_last, suffix_len, prefix_len, zip}
+use Rattle.std.specs.Option.{option_or}
+use Rattle.std.proofs.lemmas.List.{reverse-append, drop-append-le, map-append}
+use Rattle.std.proofs.lemmas.List.Sums.{suffix_len-le-length}
+use Rattle.linked_hash_map.specs.Pairs.{first, without_first}
+use Rattle.linked_hash_map.specs.Log.{first_some, last_some, largest, beginnings, moments}
 
 module _ {A : Type 0} (P : List A → Type 0) (step : (xs : List A) (x : A) → P xs → P (xs ++ x ∷ [])) where
   by_last_from : (done xs : List A) → P done → P (done ++ xs)

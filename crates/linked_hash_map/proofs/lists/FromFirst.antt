@@ -1,8 +1,12 @@
 -- A list from its first element that passes a test on.
-use Rattle.linked_hash_map.proofs.Names.{Bool, List, [], ap, append_assoc, arith, cond, false, map, refl, reverse, subst, sym, true, ◌++◌}
-use Rattle.linked_hash_map.proofs.Names.{◌∙◌, ◌∷◌, ◌≡◌, AllByRecursion-right, from_first, map-append, reverse-append, IsPermutation-map}
-use Rattle.linked_hash_map.proofs.Names.{IsPermutation-reverse, IsDistinct-IsPermutation, IsDistinct-head, IsDistinct-tail, AllByRecursion}
-use Rattle.linked_hash_map.proofs.Names.{IsDistinct}
+use Rattle.std.proofs.Common.{◌≡◌, Bool, true, false, cond, List, [], ◌∷◌, ◌++◌, map, reverse}
+use Rattle.std.proofs.Common.{refl, sym, ap, ◌∙◌, subst, arith, append_assoc}
+use Rattle.std.specs.List.{IsDistinct, AllByRecursion}
+use Rattle.std.proofs.lemmas.List.{map-append, reverse-append}
+use Rattle.std.proofs.lemmas.List.Sorted.{IsPermutation-map, IsPermutation-reverse}
+use Rattle.std.proofs.lemmas.Map.Keys.{IsDistinct-head, IsDistinct-tail, IsDistinct-IsPermutation}
+use Rattle.lhm_ring.proofs.lists.ForAll.{AllByRecursion-right}
+use Rattle.linked_hash_map.specs.Pairs.{from_first}
 
 -- an element that differs from all others in what f has of it
 module _ {X K : Type 0} {eq : K → K → Bool} (reflexive : (k : K) → eq k k ≡ true) (symmetric : (k q : K) → eq k q ≡ eq q k)

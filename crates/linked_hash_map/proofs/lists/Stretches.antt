@@ -1,8 +1,11 @@
 -- A stretch of a list, by the index where it begins and its length: what a cursor has still to
 -- visit.
-use Rattle.linked_hash_map.proofs.Names.{length, length-drop, length-take, drop-append-le, drop-set-add, take-append-drop, take-append-le}
-use Rattle.linked_hash_map.proofs.Names.{List, Some, arith, drop, refl, remove, slice_get, slice_set, drop-from, drop-set-lt, take-set-le}
-use Rattle.linked_hash_map.proofs.Names.{[], ap, inl, inr, suc, sym, take, zero, ℕ, ◌++◌, ◌+◌, ◌-◌, ◌<◌, ◌∙◌, ◌∷◌, ◌≡◌, ◌≤◌, ◌⊎◌}
+use Rattle.std.proofs.Common.{◌≡◌, ℕ, zero, suc, ◌+◌, ◌-◌, ◌<◌, ◌≤◌, ◌⊎◌, inl, inr, List, [], ◌∷◌}
+use Rattle.std.proofs.Common.{◌++◌, length, take, drop, remove, slice_get, Some, refl, sym, ap, ◌∙◌, arith}
+use Rattle.std.specs.Prelude.{slice_set}
+use Rattle.std.proofs.lemmas.List.{length-drop, length-take, take-append-drop, drop-append-le, take-append-le}
+use Rattle.std.proofs.lemmas.List.{drop-set-lt, drop-set-add, take-set-le}
+use Rattle.lhm_ring.proofs.tables.Positions.{drop-from}
 
 -- it begins with the element at its index
 pub stretch-step : {X : Type 0} (xs : List X) (index n : ℕ) (x : X) → slice_get xs index ≡ Some x

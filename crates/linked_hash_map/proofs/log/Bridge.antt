@@ -1,14 +1,20 @@
 -- How the pairs that a log defines change with one more event: single calls on a list of pairs.
-use Rattle.linked_hash_map.proofs.Names.{Bool, List, None, Option, Some, [], ap, append-nil, arith, cond, false, filter, filter_map}
-use Rattle.linked_hash_map.proofs.Names.{is_some, map, not, option_map, refl, sym, true, true≢false, ℕ, ◌&&◌, ◌++◌, ◌||◌, ◌∙◌, ◌∷◌, ◌≡◌}
-use Rattle.linked_hash_map.proofs.Names.{Event, Fit, Log, Need, Put, Refresh, Remove, RemoveAll, SetMode, Write, ends, live, mode, moves}
-use Rattle.linked_hash_map.proofs.Names.{pair_of, pairs, put_key, standing, stands, stored, touched, value, written, find, key_or, put}
-use Rattle.linked_hash_map.proofs.Names.{set_value, to_back, without, Mode, Keep, Touch, filter_map-append, IsEquivalence, cons_option}
-use Rattle.linked_hash_map.proofs.Names.{list_any, lookup_entry, option_or, option_zip}
+use Rattle.std.proofs.Common.{◌≡◌, ℕ, Bool, true, false, cond, not, ◌&&◌, ◌||◌, List, [], ◌∷◌, ◌++◌, arith, map, Option, Some, None}
+use Rattle.std.proofs.Common.{is_some, option_map, filter, filter_map, refl, sym, ap, ◌∙◌, true≢false, append-nil}
+use Rattle.std.specs.List.{list_any, cons_option}
+use Rattle.std.specs.Option.{option_or, option_zip}
+use Rattle.std.specs.Map.{lookup_entry}
+use Rattle.std.specs.Cmp.{IsEquivalence}
+use Rattle.std.proofs.lemmas.List.Elements.{filter_map-append}
+use Rattle.linked_hash_map.specs.declared.map.Mode.{Mode}
+use Rattle.linked_hash_map.specs.declared.map.Mode.TheVariants.{Touch, Keep}
+use Rattle.linked_hash_map.specs.Log.{Event, Put, Write, Refresh, Remove, RemoveAll, Need, Fit, SetMode, Log, moves, mode, touched, put_key}
+use Rattle.linked_hash_map.specs.Log.{ends, written, live, stored, value, pair_of, stands, standing, pairs}
+use Rattle.linked_hash_map.specs.Pairs.{key_or, find, without, to_back, set_value, put}
 use Rattle.linked_hash_map.proofs.lists.Elements.{option_or_none}
-use Rattle.linked_hash_map.proofs.log.LiveKeys.{any-standing, none_is, pair_of-live, pair_of-same, same_test, stored-live, stored-same}
-use Rattle.linked_hash_map.proofs.log.Standing.{keeps, live-snoc, standing-snoc, stored-snoc, value-snoc}
-use Rattle.linked_hash_map.proofs.pairs.Calls.{filter-none, put-absent, set_or_push-present, to_back-absent}
+use Rattle.linked_hash_map.proofs.pairs.Calls.{filter-none, to_back-absent, put-absent, set_or_push-present}
+use Rattle.linked_hash_map.proofs.log.Standing.{live-snoc, stored-snoc, value-snoc, standing-snoc, keeps}
+use Rattle.linked_hash_map.proofs.log.LiveKeys.{stored-live, pair_of-live, stored-same, pair_of-same, same_test, any-standing, none_is}
 
 -- a lookup in what g gives of keys, if g tells the same of one key whatever its name
 module _ {K V : Type 0} (same : K → Bool) (g : K → Option (K × V)) (mine : Option (K × V))

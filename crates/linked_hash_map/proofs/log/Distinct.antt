@@ -1,10 +1,15 @@
 -- The keys of a log's pairs differ, whatever the log.
-use Rattle.linked_hash_map.proofs.Names.{Bool, List, None, Option, Some, [], ap, append-nil, arith, cond, false, filter, filter_map, refl}
-use Rattle.linked_hash_map.proofs.Names.{subst, sym, true, ◌&&◌, ◌++◌, ◌∙◌, ◌∷◌, ◌≡◌, Event, Log, live, moves, pair_of, pairs, standing}
-use Rattle.linked_hash_map.proofs.Names.{standing_in, stands, touched, Mode, IsDistinct-cons, IsDistinct-head, IsDistinct-push}
-use Rattle.linked_hash_map.proofs.Names.{IsDistinct-tail, IsEquivalence, AllByRecursion, IsDistinct, cons_option, list_any, keys_of}
-use Rattle.linked_hash_map.proofs.{lists.Elements.by_last, log.Standing.keeps, log.Standing.standing-snoc}
-use Rattle.linked_hash_map.proofs.log.LiveKeys.{any-filter, keeps_same, pair_of-same}
+use Rattle.std.proofs.Common.{◌≡◌, Bool, true, false, cond, ◌&&◌, List, [], ◌∷◌, ◌++◌, Option, arith}
+use Rattle.std.proofs.Common.{Some, None, filter, filter_map, refl, sym, ap, ◌∙◌, subst, append-nil}
+use Rattle.std.specs.List.{list_any, IsDistinct, AllByRecursion, cons_option}
+use Rattle.std.specs.Map.{keys_of}
+use Rattle.std.specs.Cmp.{IsEquivalence}
+use Rattle.std.proofs.lemmas.Map.Keys.{IsDistinct-push, IsDistinct-head, IsDistinct-tail, IsDistinct-cons}
+use Rattle.linked_hash_map.specs.declared.map.Mode.{Mode}
+use Rattle.linked_hash_map.specs.Log.{Log, Event, moves, touched, live, pair_of, pairs, stands, standing, standing_in}
+use Rattle.linked_hash_map.proofs.lists.Elements.{by_last}
+use Rattle.linked_hash_map.proofs.log.Standing.{standing-snoc, keeps}
+use Rattle.linked_hash_map.proofs.log.LiveKeys.{pair_of-same, keeps_same, any-filter}
 
 all_filter : {K : Type 0} (P : K → Type 0) (p : K → Bool) (ks : List K) → AllByRecursion P ks → AllByRecursion P (filter p ks)
 all_filter P p [] h = tt

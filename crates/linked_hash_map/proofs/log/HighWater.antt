@@ -1,15 +1,23 @@
 -- How the size and the high-water mark of a log change with one more event.
-use Rattle.linked_hash_map.proofs.Names.{Bool, List, None, Option, Some, [], ap, arith, cond, count_by, eq-eqb, false, filter, filter_map}
-use Rattle.linked_hash_map.proofs.Names.{is_some, length, map, max, ne_eqb, refl, suc, sym, true, true≢false, ℕ, ◌&&◌, ◌++◌, ◌+◌, ◌<◌, ◌==◌}
-use Rattle.linked_hash_map.proofs.Names.{◌∙◌, ◌∷◌, ◌≡◌, ◌≤◌, Event, Fit, Log, Need, Put, Refresh, Remove, RemoveAll, SetMode, Write}
-use Rattle.linked_hash_map.proofs.Names.{beginnings, fitted, high, is_fit, largest, live, moments, needed, pair_of, pairs, size, standing}
-use Rattle.linked_hash_map.proofs.Names.{standing_in, stands, find, to_back, Mode, length-map, map-append, filter-append, filter_map-append}
-use Rattle.linked_hash_map.proofs.Names.{list_all-append, list_any-append, sum_by-append, IsEquivalence, cons_option, list_all, list_any}
-use Rattle.linked_hash_map.proofs.lists.Elements.{after_last-more, after_last-snoc, beginnings-snoc, by_last, largest-append}
-use Rattle.linked_hash_map.proofs.log.Bridge.{find-pairs, pairs-fit, pairs-need, pairs-refresh, pairs-refresh_absent, pairs-remove}
-use Rattle.linked_hash_map.proofs.log.Bridge.{pairs-remove_all, pairs-set_mode, pairs-write}
-use Rattle.linked_hash_map.proofs.log.{Distinct.distinct-pairs, LiveKeys.pair_of-live}
-use Rattle.linked_hash_map.proofs.pairs.Calls.{length-to_back, length-without}
+use Rattle.std.proofs.Common.{◌≡◌, ℕ, ◌+◌, ◌<◌, ◌≤◌, max, suc, Bool, true, false, cond, ◌&&◌, ◌==◌, List, [], ◌∷◌, ◌++◌, length, map}
+use Rattle.std.proofs.Common.{Option, Some, None, is_some, filter, filter_map, count_by, refl, sym, ap, ◌∙◌, true≢false, arith, eq-eqb}
+use Rattle.std.proofs.Common.{ne_eqb}
+use Rattle.std.specs.List.{list_any, list_all, cons_option}
+use Rattle.std.specs.Cmp.{IsEquivalence}
+use Rattle.std.proofs.lemmas.List.{map-append, length-map}
+use Rattle.std.proofs.lemmas.List.Elements.{filter_map-append, filter-append}
+use Rattle.std.proofs.lemmas.List.Folds.{list_any-append, list_all-append}
+use Rattle.std.proofs.lemmas.List.Sums.{sum_by-append}
+use Rattle.linked_hash_map.specs.declared.map.Mode.{Mode}
+use Rattle.linked_hash_map.specs.Log.{Event, Put, Write, Refresh, Remove, RemoveAll, Need, Fit, SetMode, Log, moments, is_fit, needed, live}
+use Rattle.linked_hash_map.specs.Log.{pair_of, stands, standing_in, standing, pairs, size, largest, beginnings, fitted, high}
+use Rattle.linked_hash_map.proofs.lists.Elements.{by_last, after_last-more, after_last-snoc, largest-append, beginnings-snoc}
+use Rattle.linked_hash_map.proofs.log.LiveKeys.{pair_of-live}
+use Rattle.linked_hash_map.specs.Pairs.{find, to_back}
+use Rattle.linked_hash_map.proofs.log.Bridge.{find-pairs, pairs-write, pairs-refresh, pairs-refresh_absent, pairs-remove, pairs-remove_all}
+use Rattle.linked_hash_map.proofs.log.Bridge.{pairs-fit, pairs-need, pairs-set_mode}
+use Rattle.linked_hash_map.proofs.pairs.Calls.{length-without, length-to_back}
+use Rattle.linked_hash_map.proofs.log.Distinct.{distinct-pairs}
 
 length-filter_map : {X Y : Type 0} (g : X → Option Y) (xs : List X)
     → list_all (λ x. is_some (g x)) xs ≡ true → length (filter_map g xs) ≡ length xs

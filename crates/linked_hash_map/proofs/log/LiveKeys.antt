@@ -1,10 +1,16 @@
 -- What a log says of a key is what its pairs have at that key.
-use Rattle.linked_hash_map.proofs.Names.{Bool, List, None, Option, Some, [], ap, arith, cond, false, filter, is_some, not, refl, sym, true}
-use Rattle.linked_hash_map.proofs.Names.{true≢false, ◌&&◌, ◌++◌, ◌||◌, ◌∙◌, ◌∷◌, ◌≡◌, Event, Log, ends, first_some, live, moves, pair_of}
-use Rattle.linked_hash_map.proofs.Names.{put_key, puts, standing, standing_in, stands, stored, touched, value, written, Mode, Keep, Touch}
-use Rattle.linked_hash_map.proofs.Names.{list_any-append, IsEquivalence, after_last, list_any, option_or, option_zip}
+use Rattle.std.proofs.Common.{◌≡◌, Bool, true, false, cond, not, ◌&&◌, ◌||◌, List, [], ◌∷◌, ◌++◌, Option, Some, None, is_some, filter, refl}
+use Rattle.std.proofs.Common.{sym, ap, ◌∙◌, true≢false, arith}
+use Rattle.std.specs.List.{list_any, after_last}
+use Rattle.std.specs.Option.{option_or, option_zip}
+use Rattle.std.specs.Cmp.{IsEquivalence}
+use Rattle.std.proofs.lemmas.List.Folds.{list_any-append}
+use Rattle.linked_hash_map.specs.declared.map.Mode.{Mode}
+use Rattle.linked_hash_map.specs.declared.map.Mode.TheVariants.{Touch, Keep}
+use Rattle.linked_hash_map.specs.Log.{Event, Log, first_some, moves}
+use Rattle.linked_hash_map.specs.Log.{touched, put_key, puts, ends, written, live, stored, value, pair_of, stands, standing_in, standing}
 use Rattle.linked_hash_map.proofs.lists.Elements.{by_last}
-use Rattle.linked_hash_map.proofs.log.Standing.{keeps, live-snoc, standing-snoc, stored-snoc, value-snoc}
+use Rattle.linked_hash_map.proofs.log.Standing.{live-snoc, stored-snoc, value-snoc, standing-snoc, keeps}
 
 is_some-cond : {Y : Type 0} (b : Bool) (y : Y) → is_some (cond b (Some y) None) ≡ b
 is_some-cond b y = grind arith

@@ -1,10 +1,16 @@
 -- What one more event does to the keys of a log, one key at a time and as the list of those that
 -- stand.
-use Rattle.linked_hash_map.proofs.Names.{Bool, List, None, Option, [], ap, append-nil, arith, cond, false, filter, not, refl, true}
-use Rattle.linked_hash_map.proofs.Names.{unwrap_or, ◌&&◌, ◌++◌, ◌||◌, ◌∙◌, ◌∷◌, ◌≡◌, Event, Fit, Log, Need, Put, Refresh, Remove, RemoveAll}
-use Rattle.linked_hash_map.proofs.Names.{SetMode, Write, ends, last_some, live, mode, mode_set, moves, put_key, puts, standing, standing_in}
-use Rattle.linked_hash_map.proofs.Names.{stands, stored, touched, touches, value, written, Mode, Touch, and-false, and-true, or-true}
-use Rattle.linked_hash_map.proofs.Names.{filter-append, list_any-append, option_or}
+use Rattle.std.proofs.Common.{◌≡◌, Bool, true, false, cond, not, ◌&&◌, ◌||◌, List, [], ◌∷◌, ◌++◌, Option, None, unwrap_or, filter, refl, ap}
+use Rattle.std.proofs.Common.{◌∙◌, append-nil, arith}
+use Rattle.std.specs.Option.{option_or}
+use Rattle.std.proofs.lemmas.List.Elements.{filter-append}
+use Rattle.std.proofs.lemmas.List.Folds.{list_any-append}
+use Rattle.std.proofs.Math.Bool.{and-true, and-false, or-true}
+use Rattle.linked_hash_map.specs.declared.map.Mode.{Mode}
+use Rattle.linked_hash_map.specs.declared.map.Mode.TheVariants.{Touch}
+use Rattle.linked_hash_map.specs.Log.{Event, Put, Write, Refresh, Remove, RemoveAll, Need, Fit, SetMode, Log, last_some, moves, mode_set}
+use Rattle.linked_hash_map.specs.Log.{mode, touched, put_key, puts, ends, written, touches, live, stored, value, stands, standing_in}
+use Rattle.linked_hash_map.specs.Log.{standing}
 use Rattle.linked_hash_map.proofs.lists.Elements.{after_last-snoc, first_some-snoc, last_some-snoc, moments-snoc}
 
 live_step : (p a n q l : Bool) → ((p && not (a || (n || false))) || (q || (l && not n))) ≡ (q || (((p && not a) || l) && not n))

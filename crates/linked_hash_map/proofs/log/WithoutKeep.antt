@@ -1,9 +1,16 @@
 -- A log that never sets the mode to Keep: each Put and each Refresh is a touch, wherever it stands.
-use Rattle.linked_hash_map.proofs.Names.{Bool, List, Option, [], ap, arith, false, filter_map, map, refl, subst, sym, unwrap_or, ◌++◌, ◌∙◌}
-use Rattle.linked_hash_map.proofs.Names.{◌∷◌, ◌≡◌, Event, Log, live, mode, mode_set, moments, pair_of, pairs, standing, standing_in, stands}
-use Rattle.linked_hash_map.proofs.Names.{touched, touches, Mode, Touch, and-true, map-append, list_any-append, AllByRecursion, list_any}
-use Rattle.linked_hash_map.proofs.{lists.Elements.by_last, lists.Elements.moments-snoc, lists.Elements.none_first, log.Standing.mode-snoc}
-use Rattle.linked_hash_map.specs.LastUses.{is_use, last_used, last_uses, pairs_by_use, sets_keep, used_key}
+use Rattle.std.proofs.Common.{◌≡◌, Bool, false, List, [], ◌∷◌, ◌++◌, map, Option, unwrap_or, arith, filter_map, refl, sym, ap, ◌∙◌, subst}
+use Rattle.std.specs.List.{list_any, AllByRecursion}
+use Rattle.std.proofs.lemmas.List.{map-append}
+use Rattle.std.proofs.lemmas.List.Folds.{list_any-append}
+use Rattle.std.proofs.Math.Bool.{and-true}
+use Rattle.linked_hash_map.specs.declared.map.Mode.{Mode}
+use Rattle.linked_hash_map.specs.declared.map.Mode.TheVariants.{Touch}
+use Rattle.linked_hash_map.specs.Log.{Event, Log, moments}
+use Rattle.linked_hash_map.specs.Log.{mode_set, mode, live, pair_of, touches, touched, stands, standing_in, standing, pairs}
+use Rattle.linked_hash_map.specs.LastUses.{sets_keep, used_key, is_use, last_used, last_uses, pairs_by_use}
+use Rattle.linked_hash_map.proofs.log.Standing.{mode-snoc}
+use Rattle.linked_hash_map.proofs.lists.Elements.{by_last, none_first, moments-snoc}
 
 all_last : {X : Type 0} (P : X → Type 0) (xs : List X) (x : X) → AllByRecursion P xs → P x → AllByRecursion P (xs ++ x ∷ [])
 all_last P [] x all h = (h, tt)

@@ -1,7 +1,13 @@
 -- The pairs of held nodes, and the nodes with their keys alone.
-use Rattle.linked_hash_map.proofs.Names.{List, [], ap, arith, cond, length, map, refl, suc, sym, ◌++◌, ◌+◌, ◌∙◌, ◌∷◌, ◌≡◌, entries}
-use Rattle.linked_hash_map.proofs.Names.{same_ptr, index_of, Held, change_at, revalued, set_held_values, triples, bare, bare_node, pairs_of}
-use Rattle.linked_hash_map.proofs.Names.{map-append, keys_of, Ptr}
+use Rattle.std.proofs.Common.{◌≡◌, suc, ◌+◌, cond, List, [], ◌∷◌, ◌++◌, map, length, refl, sym, ap, ◌∙◌, arith}
+use Rattle.std.specs.Map.{keys_of}
+use Rattle.std.proofs.lemmas.List.{map-append}
+use denote.RawPtr.{Ptr}
+use Rattle.linked_hash_map.specs.Nodes.{pairs_of, bare, bare_node}
+use Rattle.lhm_ring.specs.Positions.{index_of}
+use Rattle.lhm_ring.specs.Nodes.{same_ptr}
+use Rattle.lhm_ring.specs.Ring.{Held, change_at, triples, revalued, set_held_values}
+use Rattle.lhm_ring.specs.Index.{entries}
 
 -- what is the same of nodes with the same entries, and of nodes with other values
 module _ {K V : Type 0} where

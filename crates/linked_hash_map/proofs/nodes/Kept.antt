@@ -1,9 +1,15 @@
 -- A map whose table and visit are kept, as its callers see it.
-use Rattle.linked_hash_map.proofs.Names.{Bool, List, None, [], ap, arith, refl, subst, ℕ, ◌∷◌, ◌≡◌, Held, set_held_values, TableState}
-use Rattle.linked_hash_map.proofs.Names.{LinkedMap, Beside, IsKept, VisitState, bare, beside, cursor_at, map_of, pairs_of, set_values}
-use Rattle.linked_hash_map.proofs.Names.{IsValid, IsDistinct, keys_of}
-use Rattle.linked_hash_map.proofs.nodes.HeldPairs.{bare-values, keys-bare, length-bare, length-pairs_of}
+use Rattle.std.proofs.Common.{◌≡◌, ℕ, Bool, List, [], ◌∷◌, None, refl, ap, subst, arith}
+use Rattle.std.specs.List.{IsDistinct}
+use Rattle.std.specs.Map.{keys_of}
+use Rattle.linked_hash_map.specs.LinkedMap.{LinkedMap}
 use Rattle.linked_hash_map.specs.declared.map.LinkedHashMap.TheInside.{Inside}
+use Rattle.linked_hash_map.specs.Nodes.{VisitState, pairs_of, bare, Beside, beside, cursor_at, map_of, IsKept}
+use Rattle.linked_hash_map.specs.Pairs.{set_values}
+use Rattle.linked_hash_map.specs.Validity.{IsValid}
+use Rattle.linked_hash_map.proofs.nodes.HeldPairs.{bare-values, keys-bare, length-bare, length-pairs_of}
+use Rattle.lhm_ring.specs.Ring.{Held, set_held_values}
+use Rattle.lhm_ring.specs.Table.{TableState}
 
 -- nothing is left to visit, and no entry stands for a pair
 abbrev pub no_visit : VisitState

@@ -1,8 +1,14 @@
 -- The map once a closure has gone over its pairs and kept some.
-use Rattle.linked_hash_map.proofs.Names.{Bool, List, [], ap, arith, cond, false, inl, inr, length, map, refl, subst, sym, ℕ, ◌∷◌, ◌≡◌, ◌≤◌}
-use Rattle.linked_hash_map.proofs.Names.{Held, RetainsHeld, IsKept, VisitState, bare, pairs_of, IsSublist, AllByRecursion, IsDistinct}
-use Rattle.linked_hash_map.proofs.Names.{keys_of, RetainsPairs}
-use Rattle.linked_hash_map.proofs.nodes.{HeldPairs.keys-bare, HeldPairs.length-bare, HeldPairs.length-pairs_of, Kept.no_visit}
+use Rattle.std.proofs.Common.{◌≡◌, ℕ, ◌≤◌, inl, inr, Bool, false, cond, List, [], ◌∷◌, map, length, refl, sym, ap, subst, arith}
+use Rattle.std.specs.List.{IsDistinct, AllByRecursion}
+use Rattle.std.specs.Map.{keys_of}
+use Rattle.std.specs.Map.Calls.{RetainsPairs}
+use Rattle.linked_hash_map.specs.Nodes.{VisitState, pairs_of, bare, IsKept}
+use Rattle.linked_hash_map.proofs.nodes.Kept.{no_visit}
+use Rattle.linked_hash_map.specs.Retains.{IsSublist}
+use Rattle.linked_hash_map.proofs.nodes.HeldPairs.{keys-bare, length-bare, length-pairs_of}
+use Rattle.lhm_ring.specs.Ring.{Held}
+use Rattle.lhm_ring.specs.Table.{RetainsHeld}
 
 -- what holds of a list holds of some of its elements
 module _ {X : Type 0} where

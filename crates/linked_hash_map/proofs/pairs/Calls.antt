@@ -1,9 +1,16 @@
 -- Calls on a list of pairs.
-use Rattle.linked_hash_map.proofs.Names.{Bool, IsSome, List, None, Some, [], ap, ap₂, arith, cond, false, filter, is_some, length}
-use Rattle.linked_hash_map.proofs.Names.{length-append, not, refl, suc, sym, true, true≢false, ◌++◌, ◌+◌, ◌||◌, ◌∙◌, ◌∷◌, ◌≡◌, find, key_or}
-use Rattle.linked_hash_map.proofs.Names.{put, set_key, set_or_push, set_value, to_back, value_at, without, Mode, length-map}
-use Rattle.linked_hash_map.proofs.Names.{IsDistinct-head, IsDistinct-tail, IsEquivalence, IsDistinct, list_any, keys_of, lookup_entry}
-use Rattle.linked_hash_map.proofs.{lists.Distinct.none_from_all, log.LiveKeys.none_is, log.LiveKeys.same_test}
+use Rattle.std.proofs.Common.{◌≡◌, suc, ◌+◌, Bool, true, false, cond, not, ◌||◌, List, [], ◌∷◌, ◌++◌, length, filter, Some, None, is_some}
+use Rattle.std.proofs.Common.{refl, sym, ap, ap₂, ◌∙◌, true≢false, arith, length-append}
+use Rattle.std.proofs.lemmas.List.{length-map}
+use Rattle.std.specs.List.{list_any, IsDistinct}
+use Rattle.std.specs.Option.{IsSome}
+use Rattle.std.specs.Map.{lookup_entry, keys_of}
+use Rattle.std.specs.Cmp.{IsEquivalence}
+use Rattle.std.proofs.lemmas.Map.Keys.{IsDistinct-head, IsDistinct-tail}
+use Rattle.linked_hash_map.specs.declared.map.Mode.{Mode}
+use Rattle.linked_hash_map.specs.Pairs.{key_or, find, value_at, without, to_back, set_key, set_value, set_or_push, put}
+use Rattle.linked_hash_map.proofs.log.LiveKeys.{same_test, none_is}
+use Rattle.linked_hash_map.proofs.lists.Distinct.{none_from_all}
 
 -- a test that no key passes finds nothing
 pub lookup_entry-none : {K V : Type 0} (test : K → Bool) (pairs : List (K × V))

@@ -1,10 +1,16 @@
 -- What an entry makes of its map, once a value is that of its key, and with another pair as the
 -- current one.
-use Rattle.linked_hash_map.proofs.Names.{Bool, List, None, ap, arith, is_some, length, length-append, max, true, ℕ, ◌+◌, ◌≡◌, ◌≤◌, Keeps}
-use Rattle.linked_hash_map.proofs.Names.{pushed, set_or_pushed, to_visit, without_cursor, LinkedMap, find, set_or_push, set_value, IsValid}
-use Rattle.linked_hash_map.proofs.Names.{length-map, map-append}
-use Rattle.linked_hash_map.proofs.{Callers.Keys.keys_of-set_value, lists.Stretches.stretch-front, pairs.RehashCounts.rechained_raised-same}
-use Rattle.linked_hash_map.proofs.pairs.Calls.{length-set_value, set_or_push-absent, set_or_push-present}
+use Rattle.std.proofs.Common.{◌≡◌, ℕ, ◌+◌, ◌≤◌, max, Bool, true, List, length, None, is_some, ap, arith, length-append}
+use Rattle.linked_hash_map.proofs.pairs.RehashCounts.{rechained_raised-same}
+use Rattle.std.proofs.lemmas.List.{map-append, length-map}
+use Rattle.linked_hash_map.specs.LinkedMap.{LinkedMap}
+use Rattle.linked_hash_map.specs.Cursor.{to_visit, without_cursor}
+use Rattle.linked_hash_map.specs.Changes.{pushed, set_or_pushed, Keeps}
+use Rattle.linked_hash_map.specs.Pairs.{find, set_value, set_or_push}
+use Rattle.linked_hash_map.specs.Validity.{IsValid}
+use Rattle.linked_hash_map.proofs.Callers.Keys.{keys_of-set_value}
+use Rattle.linked_hash_map.proofs.lists.Stretches.{stretch-front}
+use Rattle.linked_hash_map.proofs.pairs.Calls.{set_or_push-present, set_or_push-absent, length-set_value}
 
 -- the room that this takes
 module _ {K V : Type 0} (eq : K → K → Bool) (pairs : List (K × V)) (k : K) (v : V) where

@@ -1,12 +1,19 @@
 -- Calls by key on a list of pairs with different keys, at the index of the key.
-use Rattle.linked_hash_map.proofs.Names.{Bool, List, None, Some, [], ap, ap₂, arith, cond, false, is_some, length, not, option_map}
-use Rattle.linked_hash_map.proofs.Names.{option_to_list, refl, remove, slice_get, subst, suc, sym, true, true≢false, zero, ℕ, ◌++◌, ◌<◌}
-use Rattle.linked_hash_map.proofs.Names.{◌∙◌, ◌∷◌, ◌≡◌, slice_set, Some-injective, to_back_at, to_front_at, IsIndex, pair_at, set_value_at}
-use Rattle.linked_hash_map.proofs.Names.{find, key_or, set_key, set_value, to_back, to_back_as_is, to_front, value_at, without}
-use Rattle.linked_hash_map.proofs.Names.{le_of_suc-le-suc, IsDistinct-head, IsDistinct-tail, IsEquivalence, AllByRecursion, IsDistinct}
-use Rattle.linked_hash_map.proofs.Names.{list_any, keys_of, lookup_entry}
-use Rattle.linked_hash_map.proofs.{lists.Distinct.none_from_all, log.LiveKeys.same_test}
-use Rattle.linked_hash_map.proofs.pairs.Calls.{filter-none, lookup_entry-none, set_key-absent, set_value-none}
+use Rattle.std.proofs.Common.{◌≡◌, ℕ, zero, suc, ◌<◌, Bool, true, false, cond, not, List, [], ◌∷◌, ◌++◌, length, remove, slice_get, Some}
+use Rattle.std.proofs.Common.{None, is_some, option_to_list, option_map, refl, sym, ap, ap₂, ◌∙◌, subst, true≢false, arith}
+use Rattle.std.specs.Prelude.{slice_set}
+use Rattle.std.specs.List.{list_any, IsDistinct, AllByRecursion}
+use Rattle.std.specs.Map.{keys_of, lookup_entry}
+use Rattle.std.specs.Cmp.{IsEquivalence}
+use Rattle.std.proofs.lemmas.Map.Keys.{IsDistinct-head, IsDistinct-tail}
+use Rattle.std.proofs.Math.Nat.{le_of_suc-le-suc}
+use Rattle.lhm_ring.proofs.lists.Options.{Some-injective}
+use Rattle.lhm_ring.specs.Positions.{to_back_at, to_front_at}
+use Rattle.linked_hash_map.specs.Pairs.{key_or, find, value_at, without, to_back, to_back_as_is, to_front, set_key, set_value}
+use Rattle.linked_hash_map.specs.Indexes.{IsIndex, pair_at, set_value_at}
+use Rattle.linked_hash_map.proofs.log.LiveKeys.{same_test}
+use Rattle.linked_hash_map.proofs.lists.Distinct.{none_from_all}
+use Rattle.linked_hash_map.proofs.pairs.Calls.{lookup_entry-none, filter-none, set_key-absent, set_value-none}
 
 -- an index that has something lies within
 pub slice_get-within : {X : Type 0} (xs : List X) (i : ℕ) (x : X) → slice_get xs i ≡ Some x → i < length xs

@@ -1,12 +1,27 @@
 -- Insertions one after another.
-use Rattle.linked_hash_map.proofs.Names.{Bool, List, Some, [], ap, arith, cond, false, filter, length, length-append, max, refl, subst}
-use Rattle.linked_hash_map.proofs.Names.{true, ℕ, ◌++◌, ◌+◌, ◌-◌, ◌∙◌, ◌∷◌, ◌≡◌, ◌≤◌, KeepsSettings, rechained_each, rechained_raised}
-use Rattle.linked_hash_map.proofs.Names.{insert_each, LinkedMap, Put, put, to_back, first_log, IsValid, Mode, Touch, length-map}
-use Rattle.linked_hash_map.proofs.Names.{IsEquivalence, Count, IsFinite, MakesProgress, IsDistinct, keys_of}
-use Rattle.linked_hash_map.proofs.{lists.Elements.by_last, log.Bridge.pairs-put, log.Distinct.distinct-pairs}
-use Rattle.linked_hash_map.proofs.pairs.{Calls.length-put, RehashCounts.rechained_each-put}
-use Rattle.linked_hash_map.proofs.runs.Steps.{last_differs, mode-first_log, pairs-first_log, put_last}
-use Rattle.std.specs.Iterator.{size}
+use Rattle.std.proofs.Common.{◌≡◌, ℕ, ◌+◌, ◌-◌, ◌≤◌, max, Bool, true, false, cond, filter, List, [], ◌∷◌, ◌++◌, length, Some}
+use Rattle.std.proofs.Common.{refl, ap, ◌∙◌, subst, arith, length-append}
+use Rattle.std.specs.List.{IsDistinct}
+use Rattle.std.specs.Map.{keys_of}
+use Rattle.std.specs.Iterator.{Count, IsFinite, size, MakesProgress}
+use Rattle.std.specs.Cmp.{IsEquivalence}
+use Rattle.std.proofs.lemmas.List.{length-map}
+use Rattle.linked_hash_map.specs.Changes.{KeepsSettings}
+use Rattle.linked_hash_map.specs.LinkedMap.{LinkedMap}
+use Rattle.linked_hash_map.specs.Counts.{rechained_raised, rechained_each}
+use Rattle.linked_hash_map.specs.Log.{Put}
+use Rattle.linked_hash_map.specs.declared.map.Mode.{Mode}
+use Rattle.linked_hash_map.specs.declared.map.Mode.TheVariants.{Touch}
+use Rattle.linked_hash_map.specs.Pairs.{to_back, put}
+use Rattle.linked_hash_map.specs.Run.{first_log}
+use Rattle.linked_hash_map.specs.Inserts.{insert_each}
+use Rattle.linked_hash_map.specs.Validity.{IsValid}
+use Rattle.linked_hash_map.proofs.log.Bridge.{pairs-put}
+use Rattle.linked_hash_map.proofs.pairs.RehashCounts.{rechained_each-put}
+use Rattle.linked_hash_map.proofs.log.Distinct.{distinct-pairs}
+use Rattle.linked_hash_map.proofs.lists.Elements.{by_last}
+use Rattle.linked_hash_map.proofs.pairs.Calls.{length-put}
+use Rattle.linked_hash_map.proofs.runs.Steps.{put_last, last_differs, mode-first_log, pairs-first_log}
 
 length-filter : {A : Type 0} (test : A → Bool) (xs : List A) → length (filter test xs) ≤ length xs
 length-filter test [] = omega arith

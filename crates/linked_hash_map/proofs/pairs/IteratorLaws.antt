@@ -1,8 +1,13 @@
 -- The laws of the iterators, for the proofs of callers.
-use Rattle.linked_hash_map.proofs.Names.{List, [], ap, length, refl, ◌∙◌, ◌∷◌, LendsFirstValue, LendsLastValue, values_left, KeysStand}
-use Rattle.linked_hash_map.proofs.Names.{as_is, as_is_back, from_back, from_front, map-append, YieldsMutRefsInOrder, YieldsMutRefsInReverse}
-use Rattle.linked_hash_map.proofs.Names.{values_of, GivesInOrder, GivesInReverse, LendsFirst, LendsLast, LendsValuesInOrder}
-use Rattle.linked_hash_map.proofs.Names.{LendsValuesInReverse, ShowsInOrder, ShowsInReverse, TakesFirst, TakesLast}
+use Rattle.std.proofs.Common.{List, [], ◌∷◌, length, refl, ap, ◌∙◌}
+use Rattle.std.specs.Map.{values_of}
+use Rattle.std.specs.Map.Iter.{TakesFirst, TakesLast, ShowsInOrder, ShowsInReverse, GivesInOrder, GivesInReverse, LendsFirst, LendsLast}
+use Rattle.std.specs.Map.Iter.{LendsValuesInOrder, LendsValuesInReverse}
+use Rattle.std.proofs.lemmas.List.{map-append}
+use Rattle.std.proofs.iter.runs.Sources.{from_front, from_back, as_is, as_is_back}
+use Rattle.std.specs.Iterator.Runs.{YieldsMutRefsInOrder, YieldsMutRefsInReverse}
+use Rattle.linked_hash_map.specs.MutableValues.{values_left, LendsFirstValue, LendsLastValue}
+use Rattle.linked_hash_map.specs.Pairs.{KeysStand}
 
 -- an iterator that is seen as the list of what it has left
 module _ {A X : Type 0} (shows : A → X) where

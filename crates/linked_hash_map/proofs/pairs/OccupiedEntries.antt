@@ -1,15 +1,26 @@
 -- The pair that an occupied entry stands for.
-use Rattle.linked_hash_map.proofs.Names.{Bool, List, Some, ap, arith, is_some, length, option_map, refl, slice_get, subst, sym, true, ◌<◌}
-use Rattle.linked_hash_map.proofs.Names.{◌∙◌, ◌≡◌, Some-injective, MovesCurrent, IsOutside, IsOutside-prop, occupied_key, occupied_pair}
-use Rattle.linked_hash_map.proofs.Names.{occupied_value, with_occupied_value, IsIndex, set_value_at, LinkedMap, find, set_value, value_at}
-use Rattle.linked_hash_map.proofs.Names.{Updates, OccupiedEntry, slice_get-map, IsEquivalence, IsDistinct, keys_of}
-use Rattle.linked_hash_map.proofs.{Callers.Updates.Updates-set_value, pairs.EntryMaps.IsValid-current, pairs.Indexes.value_at-slice_get}
-use Rattle.linked_hash_map.proofs.pairs.Indexes.{is_some-at, slice_get-pair_at, slice_get-set_value_at, slice_get-within}
+use Rattle.std.proofs.Common.{◌≡◌, ◌<◌, Bool, true, List, length, slice_get, Some, is_some, option_map, refl, sym, ap, ◌∙◌, subst, arith}
 use Rattle.std.proofs.Math.Bridge.{le_prop}
+use Rattle.std.proofs.lemmas.Option.{slice_get-map}
+use Rattle.std.specs.Cmp.{IsEquivalence}
 use Rattle.std.specs.declared.cmp.PartialEq as eq
 use Rattle.std.specs.declared.hash.Hash as hash
 use Rattle.std.specs.declared.hash.Hasher as hasher
 use Rattle.std.specs.declared.hash.BuildHasher as builder
+use Rattle.std.specs.List.{IsDistinct}
+use Rattle.std.specs.Map.{keys_of}
+use Rattle.lhm_ring.proofs.lists.Options.{Some-injective}
+use Rattle.linked_hash_map.specs.Pairs.{find, value_at, set_value}
+use Rattle.linked_hash_map.specs.Indexes.{IsIndex, set_value_at}
+use Rattle.linked_hash_map.specs.Changes.{MovesCurrent}
+use Rattle.linked_hash_map.specs.LinkedMap.{LinkedMap}
+use Rattle.linked_hash_map.specs.Cursor.{IsOutside, IsOutside-prop}
+use Rattle.linked_hash_map.specs.Entry.{occupied_pair, occupied_key, with_occupied_value, occupied_value}
+use Rattle.linked_hash_map.specs.Updates.{Updates}
+use Rattle.linked_hash_map.specs.declared.entry.OccupiedEntry.{OccupiedEntry}
+use Rattle.linked_hash_map.proofs.Callers.Updates.{Updates-set_value}
+use Rattle.linked_hash_map.proofs.pairs.EntryMaps.{IsValid-current}
+use Rattle.linked_hash_map.proofs.pairs.Indexes.{slice_get-within, slice_get-pair_at, slice_get-set_value_at, is_some-at, value_at-slice_get}
 
 module _ {K V S H : Type 0} {g : eq.Ghosts K} {h : hash.Ghosts K} {b : builder.Ghosts S H}
     {w : hasher.Ghosts H} (o : OccupiedEntry K V S H g h b w) where

@@ -1,6 +1,7 @@
 -- The counts of rehashed nodes, by the capacities before and after.
-use Rattle.linked_hash_map.proofs.Names.{ap, arith, cond, eq-eqb, eqb, max, nat_le as leb, refl, suc, zero, ℕ, ◌*◌, ◌+◌, ◌-◌, ◌≡◌, ◌≤◌}
-use Rattle.linked_hash_map.proofs.Names.{buckets, rechained_each, rechained_fitted, rechained_raised}
+use Rattle.std.proofs.Common.{◌≡◌, ℕ, zero, suc, ◌+◌, ◌-◌, ◌*◌, ◌≤◌, max, ap, arith, refl, cond, eqb, leb}
+use Rattle.std.proofs.lemmas.Bool.{eq-eqb}
+use Rattle.linked_hash_map.specs.Counts.{buckets, rechained_raised, rechained_fitted, rechained_each}
 use Rattle.lhm_ring.specs.Buckets as table
 
 -- a table has as many buckets, and counts the same

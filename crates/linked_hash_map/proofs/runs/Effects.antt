@@ -1,14 +1,25 @@
 -- What the map's calls return and leave, on a log that defines the map.
-use Rattle.linked_hash_map.proofs.Names.{Bool, List, None, Option, Some, [], ap, append-nil, arith, drop, drop_of_length-le, is_some}
-use Rattle.linked_hash_map.proofs.Names.{length, max, option_map, refl, remove, slice_get, subst, suc, sym, take, true≢false, zero, ℕ, ◌++◌}
-use Rattle.linked_hash_map.proofs.Names.{◌+◌, ◌-◌, ◌<◌, ◌∙◌, ◌∷◌, ◌≡◌, HasValue, IsAbsent, Defines, Fit, IsFull, Log, Need, Put, Refresh}
-use Rattle.linked_hash_map.proofs.Names.{Remove, RemoveAll, SetMode, Write, high, live, mode, pair_of, pairs, size, find, put, set_value}
-use Rattle.linked_hash_map.proofs.Names.{to_back, value_at, without, Mode, IsEquivalence, IsDistinct, keys_of, option_zip}
-use Rattle.linked_hash_map.proofs.log.Bridge.{find-pairs, pairs-fit, pairs-need, pairs-put, pairs-refresh, pairs-remove, pairs-remove_all}
-use Rattle.linked_hash_map.proofs.log.{Bridge.pairs-set_mode, Bridge.pairs-write, HighWater.high-write, HighWater.size-pairs}
-use Rattle.linked_hash_map.proofs.log.{Distinct.distinct-pairs, LiveKeys.pair_of-live, Standing.mode-snoc}
-use Rattle.linked_hash_map.proofs.log.HighWater.{high-fit, high-need, high-put, high-refresh, high-remove, high-remove_all, high-set_mode}
-use Rattle.linked_hash_map.proofs.pairs.{Calls.is_some-value_at, Indexes.without-own}
+use Rattle.std.proofs.Common.{◌≡◌, ℕ, zero, suc, ◌+◌, ◌-◌, ◌<◌, max, Bool, take, drop, remove, slice_get, subst, arith, drop_of_length-le}
+use Rattle.std.proofs.Common.{List, [], ◌∷◌, ◌++◌, length, Option, Some, None, is_some, option_map, refl, sym, ap, ◌∙◌, true≢false}
+use Rattle.std.proofs.Common.{append-nil}
+use Rattle.std.specs.Option.{option_zip}
+use Rattle.std.specs.List.{IsDistinct}
+use Rattle.std.specs.Map.{keys_of}
+use Rattle.std.specs.Cmp.{IsEquivalence}
+use Rattle.linked_hash_map.specs.declared.map.Mode.{Mode}
+use Rattle.linked_hash_map.specs.Log.{Log, Put, Write, Refresh, Remove, RemoveAll, Need, Fit, SetMode, mode, live}
+use Rattle.linked_hash_map.specs.Log.{pair_of, pairs, size, high, IsFull, Defines}
+use Rattle.linked_hash_map.specs.Pairs.{find, value_at, without, to_back, set_value, put}
+use Rattle.linked_hash_map.specs.AllowedAnswers.{IsAbsent, HasValue}
+use Rattle.linked_hash_map.proofs.log.LiveKeys.{pair_of-live}
+use Rattle.linked_hash_map.proofs.pairs.Calls.{is_some-value_at}
+use Rattle.linked_hash_map.proofs.log.Bridge.{find-pairs, pairs-put, pairs-write, pairs-refresh, pairs-remove, pairs-remove_all, pairs-need}
+use Rattle.linked_hash_map.proofs.log.Bridge.{pairs-fit, pairs-set_mode}
+use Rattle.linked_hash_map.proofs.log.HighWater.{size-pairs, high-put, high-write, high-refresh, high-remove, high-remove_all, high-need}
+use Rattle.linked_hash_map.proofs.log.HighWater.{high-fit, high-set_mode}
+use Rattle.linked_hash_map.proofs.log.Standing.{mode-snoc}
+use Rattle.linked_hash_map.proofs.log.Distinct.{distinct-pairs}
+use Rattle.linked_hash_map.proofs.pairs.Indexes.{without-own}
 
 value_of_zip : {K V : Type 0} (s : Option K) (w : Option V) (v : V) → option_map (λ pair. pair.1) (option_zip s w) ≡ Some v → w ≡ Some v
 value_of_zip s w v h = grind arith

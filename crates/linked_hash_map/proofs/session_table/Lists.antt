@@ -1,10 +1,14 @@
 -- Lists of sessions: sums of weights, and the longest end that fits.
-use Rattle.linked_hash_map.proofs.Names.{Bool, List, None, Some, [], ap, arith, cond, drop, eq-eqb, eqb as nat_eq, false, length}
-use Rattle.linked_hash_map.proofs.Names.{length-append, nat_le, not, option_map, refl, subst, sym, true, unwrap_or, ℕ, ◌++◌, ◌+◌, ◌-◌, ◌<◌}
-use Rattle.linked_hash_map.proofs.Names.{◌∙◌, ◌∷◌, ◌≡◌, ◌≤◌, if◌then◌else◌, last, IsEnd, IsLongestEnd, Session, fit, ids_of, session_of}
-use Rattle.linked_hash_map.proofs.Names.{total_weight, weight_of, with_last, eqb-true, le-leb, leb-false, leb-true, lt-leb, find-append}
-use Rattle.linked_hash_map.proofs.Names.{sum_by-append, sum_by-cons, AllByRecursion, IsDistinct}
-use Rattle.linked_hash_map.specs.SessionTables.{without}
+use Rattle.std.proofs.Common.{◌≡◌, ℕ, ◌+◌, ◌-◌, ◌<◌, ◌≤◌, Bool, true, false, cond, not, List, [], ◌∷◌, ◌++◌, length, drop, nat_eq, Some}
+use Rattle.std.proofs.Common.{None, option_map, eq-eqb, refl, sym, ap, ◌∙◌, subst, arith, length-append}
+use Rattle.std.specs.Prelude.{nat_le, if◌then◌else◌, unwrap_or}
+use Rattle.std.specs.List.{IsDistinct, AllByRecursion}
+use Rattle.std.proofs.lemmas.Bool.{eqb-true, le-leb, lt-leb, leb-true, leb-false}
+use Rattle.std.proofs.lemmas.List.Folds.{find-append}
+use Rattle.std.proofs.lemmas.List.Sums.{sum_by-cons, sum_by-append}
+use Rattle.linked_hash_map.specs.Pairs.{last}
+use Rattle.linked_hash_map.specs.SessionTables.{Session, ids_of, total_weight, session_of, weight_of, without, with_last, fit, IsEnd}
+use Rattle.linked_hash_map.specs.SessionTables.{IsLongestEnd}
 
 module _ {T : Type 0} where
   pub total_weight-cons : (session : Session T) (sessions : List (Session T))
