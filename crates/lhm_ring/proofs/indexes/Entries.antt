@@ -1,9 +1,13 @@
 -- Nodes with no chain link: what a change of chain links alone leaves.
-use Rattle.lhm_ring.proofs.Names.{Bool, List, None, Option, [], ap, arith, eqb, false, length, map, refl, subst, sym, true, ℕ, ◌%◌, ◌++◌}
-use Rattle.lhm_ring.proofs.Names.{◌∙◌, ◌∷◌, ◌≡◌, count_by, OfNodeAt, count_in_bucket, count_with_hash, entries, spot, spots, AtHeld, Held}
-use Rattle.lhm_ring.proofs.Names.{IsHeld, SplitAt, change_at, first_at, last_at, last_of, linked_to, revalued, triples, Compares, CountsAll}
-use Rattle.lhm_ring.proofs.Names.{CountsSome, HasKey, LacksKey, length-map, map-append, Ptr}
+use Rattle.std.proofs.Common.{◌≡◌, ℕ, List, [], ◌∷◌, ◌++◌, refl, sym, ◌∙◌, ap, Bool, Option, None}
+use Rattle.std.proofs.Common.{◌%◌, true, false, length, map, subst, eqb, arith}
+use denote.RawPtr.{Ptr}
+use Rattle.std.specs.Prelude.{count_by}
+use Rattle.std.proofs.lemmas.List.{map-append, length-map}
 use Rattle.lhm_ring.proofs.lists.RearrangedCounts.{count_by-cons}
+use Rattle.lhm_ring.specs.Ring.{Held, IsHeld, AtHeld, linked_to, first_at, last_at, last_of, change_at, triples, SplitAt, revalued}
+use Rattle.lhm_ring.specs.Index.{OfNodeAt, entries, spot, spots, count_with_hash, count_in_bucket}
+use Rattle.lhm_ring.specs.Search.{HasKey, LacksKey, Compares, CountsSome, CountsAll}
 
 pub entries-link : {K V : Type 0} (before : List (Held (K × V))) (x : Held (K × V)) (after : List (Held (K × V))) (l : Option Ptr)
     → entries (before ++ linked_to l x ∷ after) ≡ entries (before ++ x ∷ after)

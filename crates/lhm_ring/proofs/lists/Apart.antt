@@ -1,8 +1,11 @@
 -- Pointers are told apart, and lists of them are apart.
-use Rattle.lhm_ring.proofs.Names.{Bool, List, T, [], arith, eqb→eq, false, refl, true, ◌&&◌, ◌++◌, ◌==◌, ◌∙◌, ◌∷◌, ◌≡◌, IsApart, same_ptr}
-use Rattle.lhm_ring.proofs.Names.{AllByRecursion, IsDistinct, Ptr, block_ptr, null_ptr}
-use Rattle.lhm_ring.proofs.lists.ForAll.{AllByRecursion-append, AllByRecursion-left, AllByRecursion-removed, AllByRecursion-right}
+use Rattle.std.proofs.Common.{◌≡◌, true, false, ◌&&◌, ◌==◌, ◌++◌, ◌∙◌, Bool, refl, eqb→eq, T, arith}
 use lib.Dec.{eqb_refl}
+use denote.RawPtr.{Ptr, block_ptr, null_ptr}
+use Rattle.std.specs.Prelude.{List, [], ◌∷◌}
+use Rattle.std.specs.List.{AllByRecursion, IsDistinct}
+use Rattle.lhm_ring.proofs.lists.ForAll.{AllByRecursion-append, AllByRecursion-left, AllByRecursion-right, AllByRecursion-removed}
+use Rattle.lhm_ring.specs.Nodes.{same_ptr, IsApart}
 
 true-of : (b : Bool) → T b → b ≡ true
 true-of b t = grind arith

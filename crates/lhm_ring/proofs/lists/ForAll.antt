@@ -1,5 +1,6 @@
 -- A fact of each element of a list.
-use Rattle.lhm_ring.proofs.Names.{List, [], arith, ◌++◌, ◌∷◌, AllByRecursion}
+use Rattle.std.proofs.Common.{List, [], ◌∷◌, ◌++◌, arith}
+use Rattle.std.specs.List.{AllByRecursion}
 
 module _ {X : Type 0} (P : X → Type 0) where
   pub AllByRecursion-append : (xs ys : List X) → AllByRecursion P xs → AllByRecursion P ys → AllByRecursion P (xs ++ ys)

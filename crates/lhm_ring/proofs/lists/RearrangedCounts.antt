@@ -1,6 +1,8 @@
 -- How many elements pass a test, and how many there are: as many in any order.
-use Rattle.lhm_ring.proofs.Names.{Bool, List, [], ap, arith, cond, inl, inr, length, sym, ◌++◌, ◌+◌, ◌∷◌, ◌≡◌, count_by, IsRearranged}
-use Rattle.lhm_ring.proofs.Names.{PutsIn, sum_by-append, sum_by-cons}
+use Rattle.std.proofs.Common.{◌≡◌, ◌+◌, List, [], ◌∷◌, ◌++◌, inl, inr, sym, ap, Bool, cond, length, arith}
+use Rattle.std.specs.Prelude.{count_by}
+use Rattle.std.proofs.lemmas.List.Sums.{sum_by-cons, sum_by-append}
+use Rattle.lhm_ring.specs.Index.{PutsIn, IsRearranged}
 
 pub count_by-cons : {X : Type 0} (p : X → Bool) (x : X) (xs : List X) → count_by p (x ∷ xs) ≡ cond (p x) 1 0 + count_by p xs
 count_by-cons p x xs = sum_by-cons (λ v. cond (p v) 1 0) x xs
