@@ -20,7 +20,8 @@ use Rattle.linked_hash_map.specs.Updates.{Updates}
 use Rattle.linked_hash_map.specs.declared.entry.OccupiedEntry.{OccupiedEntry}
 use Rattle.linked_hash_map.proofs.Callers.Updates.{Updates-set_value}
 use Rattle.linked_hash_map.proofs.pairs.EntryMaps.{IsValid-current}
-use Rattle.linked_hash_map.proofs.pairs.Indexes.{slice_get-within, slice_get-pair_at, slice_get-set_value_at, is_some-at, value_at-slice_get}
+use Rattle.linked_hash_map.proofs.pairs.Indexes.{slice_get-within, slice_get-pair_at, slice_get-set_value_at, is_some-at}
+use Rattle.linked_hash_map.proofs.pairs.Indexes.{value_at-slice_get}
 
 module _ {K V S H : Type 0} {g : eq.Ghosts K} {h : hash.Ghosts K} {b : builder.Ghosts S H}
     {w : hasher.Ghosts H} (o : OccupiedEntry K V S H g h b w) where
