@@ -111,6 +111,15 @@ class Linked:
                 self.pairs.move_to_end(key.folded, last=False)
         return old
 
+    def replace(self, key, value, effects):
+        """Does as `insert`, with the pair of a present key in its place in both modes."""
+        pair = self.find(key, effects)
+        if pair is None:
+            return self.push(key, value, effects)
+        self.end_visit()
+        effects.drop_key(key)
+        return pair.replace(value)
+
     def extend(self, pairs, effects):
         """Inserts each pair up to one that is refused, which is returned."""
         for key, value in pairs:
@@ -219,6 +228,12 @@ class Linked:
         """Drops all pairs."""
         for pair in self.take_all():
             effects.drop_pair(pair)
+
+    def truncate(self, most, effects):
+        """Drops the pairs behind the first ones, of which there are at most so many."""
+        self.end_visit()
+        while len(self) > most:
+            effects.drop_pair(self.pop(last=True))
 
     def retain(self, keeps, effects):
         """Drops the pairs that a test does not keep."""
