@@ -111,15 +111,6 @@ class Linked:
                 self.pairs.move_to_end(key.folded, last=False)
         return old
 
-    def replace(self, key, value, effects):
-        """Does as `insert`, with the pair of a present key in its place in both modes."""
-        pair = self.find(key, effects)
-        if pair is None:
-            return self.push(key, value, effects)
-        self.end_visit()
-        effects.drop_key(key)
-        return pair.replace(value)
-
     def extend(self, pairs, effects):
         """Inserts each pair up to one that is refused, which is returned."""
         for key, value in pairs:

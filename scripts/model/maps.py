@@ -130,7 +130,10 @@ def insert_front(call, map_):
 
 
 def replace(call, map_):
-    show_old(call, map_.replace(call.key(), call.value(), call.effects))
+    """Inserts as in `Keep`."""
+    keeps, map_.keeps = map_.keeps, True
+    show_old(call, map_.insert(call.key(), call.value(), call.effects))
+    map_.keeps = keeps
 
 
 def insert_within_capacity(call, map_):
