@@ -90,6 +90,7 @@ OWN_MAP_CALLS = (
     ("replace_key", 4, "key"),
     ("insert_within_capacity", 6, "key value"),
     ("insert_front", 6, "key value"),
+    ("replace", 6, "key value"),
     ("front_entry", 3, "own_edit value"),
     ("back_entry", 3, "own_edit value"),
     ("front_mut", 1, "value"),
@@ -126,6 +127,7 @@ OWN_MAP_CALLS = (
 )
 RARE_OWN_MAP_CALLS = (
     ("sort_keys", 1, ""),
+    ("truncate", 2, "count"),
     ("into_keys", 2, "steps forget"),
     ("into_values", 2, "steps forget"),
     ("from_iter_unhinted", 2, "pairs"),
@@ -241,6 +243,7 @@ OWN_SET_CALLS = (
     ("refused_texts", 1, "key"),
 )
 RARE_OWN_SET_CALLS = (
+    ("truncate", 2, "count"),
     ("sort", 1, ""),
     ("append", 2, ""),
     ("emptied", 1, ""),

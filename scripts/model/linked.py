@@ -220,6 +220,12 @@ class Linked:
         for pair in self.take_all():
             effects.drop_pair(pair)
 
+    def truncate(self, most, effects):
+        """Drops the pairs behind the first ones, of which there are at most so many."""
+        self.end_visit()
+        while len(self) > most:
+            effects.drop_pair(self.pop(last=True))
+
     def retain(self, keeps, effects):
         """Drops the pairs that a test does not keep."""
         self.end_visit()

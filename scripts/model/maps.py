@@ -129,6 +129,13 @@ def insert_front(call, map_):
     show_old(call, map_.insert_front(call.key(), call.value(), call.effects))
 
 
+def replace(call, map_):
+    """Inserts as in `Keep`."""
+    keeps, map_.keeps = map_.keeps, True
+    show_old(call, map_.insert(call.key(), call.value(), call.effects))
+    map_.keeps = keeps
+
+
 def insert_within_capacity(call, map_):
     """The call is made if the key is present or there is room."""
     key, value = call.key(), call.value()
@@ -162,6 +169,10 @@ def pop_front(call, map_):
 def pop_back(call, map_):
     pair = map_.pop(last=True)
     call.show(some(pair and pair_text(pair)))
+
+
+def truncate(call, map_):
+    map_.truncate(call.number(), call.effects)
 
 
 def clear(call, map_):
@@ -264,10 +275,11 @@ LINES = {
     "pop_back": pop_back, "clear": clear, "retain": retain, "drop": drop,
     "move_to_back": move_to_back, "move_to_front": move_to_front, "rotate_left": rotate_left,
     "move_before": move_before, "move_after": move_after, "insert_front": insert_front,
-    "mode": mode, "set_mode": set_mode, "capacity": capacity, "rechained": rechained,
-    "reserve": reserve, "shrink_to_fit": shrink_to_fit, "fill": fills.fill,
-    "refuse_clone": refuse_clone, **making.LINES, **comparing.LINES, **entries.LINES,
-    **iterators.LINES, **replays.LINES, **sorts.LINES,
+    "replace": replace, "truncate": truncate, "mode": mode, "set_mode": set_mode,
+    "capacity": capacity, "rechained": rechained, "reserve": reserve,
+    "shrink_to_fit": shrink_to_fit, "fill": fills.fill, "refuse_clone": refuse_clone,
+    **making.LINES, **comparing.LINES, **entries.LINES, **iterators.LINES, **replays.LINES,
+    **sorts.LINES,
 }
 # Lines that change no pair.
 READING = {

@@ -417,7 +417,7 @@ LINES = {
     **{name: making.making(line) for name, line in MAKING.items()},
     **{name: maps.LINES[name] for name in (
         "len", "clear", "reserve", "shrink_to_fit", "capacity", "eq", "drop", "hasher",
-        "move_before", "move_after")},
+        "move_before", "move_after", "truncate")},
 }
 # Lines that change no item.
 READING = {

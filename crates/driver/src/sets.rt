@@ -97,6 +97,7 @@ fn run_on_all(call: &Call, set: &mut Set) -> bool {
     match call.name() {
         "pop_front" => call.show(&set.pop_front()),
         "pop_back" => call.show(&set.pop_back()),
+        "truncate" => set.truncate(call.size()),
         "clear" => set.clear(),
         "retain" => retain(set, call),
         "drain" => iterate_to_the_end(set.drain(), call),

@@ -37,8 +37,9 @@
 //! - Insert: [`insert`](LinkedHashMap::insert), [`insert_front`](LinkedHashMap::insert_front),
 //!   [`extend`](LinkedHashMap::extend), [`extend_refs`](LinkedHashMap::extend_refs), or by an
 //!   [`Entry`]; [`insert_within_capacity`](LinkedHashMap::insert_within_capacity) if there is room;
-//!   [`append`](LinkedHashMap::append) moves all pairs of another map, or none. After
-//!   [`set_mode(Mode::Keep)`](LinkedHashMap::set_mode) a present key keeps its place.
+//!   [`append`](LinkedHashMap::append) moves all pairs of another map, or none. By
+//!   [`replace`](LinkedHashMap::replace), and after
+//!   [`set_mode(Mode::Keep)`](LinkedHashMap::set_mode), a present key keeps its place.
 //!   [`replace_key`](LinkedHashMap::replace_key) stores a key in place of one that is the same.
 //! - Look up: [`get`](LinkedHashMap::get), [`get_key_value`](LinkedHashMap::get_key_value),
 //!   [`get_mut`](LinkedHashMap::get_mut), [`contains_key`](LinkedHashMap::contains_key),
@@ -48,9 +49,9 @@
 //!   has what a lookup takes: a reference to a key, or `&str` for a `String`.
 //! - Remove: [`remove`](LinkedHashMap::remove), [`remove_entry`](LinkedHashMap::remove_entry),
 //!   [`pop_front`](LinkedHashMap::pop_front), [`pop_back`](LinkedHashMap::pop_back),
-//!   [`retain`](LinkedHashMap::retain), [`clear`](LinkedHashMap::clear),
-//!   [`drain`](LinkedHashMap::drain), or by [`front_entry`](LinkedHashMap::front_entry) or
-//!   [`back_entry`](LinkedHashMap::back_entry).
+//!   [`truncate`](LinkedHashMap::truncate), [`retain`](LinkedHashMap::retain),
+//!   [`clear`](LinkedHashMap::clear), [`drain`](LinkedHashMap::drain), or by
+//!   [`front_entry`](LinkedHashMap::front_entry) or [`back_entry`](LinkedHashMap::back_entry).
 //! - Reorder: [`move_to_back`](LinkedHashMap::move_to_back),
 //!   [`move_to_front`](LinkedHashMap::move_to_front), [`move_before`](LinkedHashMap::move_before),
 //!   [`move_after`](LinkedHashMap::move_after), [`rotate_left`](LinkedHashMap::rotate_left),

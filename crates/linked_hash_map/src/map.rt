@@ -44,8 +44,8 @@ pub const LIMIT: usize = 576460752303423488;
 /// keys that strangers choose use `RandomState`.
 pub type DefaultHashBuilder = BuildHasherDefault<FoldHasher>;
 
-/// Whether inserting a present key moves its pair, to the back or by `insert_front` to the front. A
-/// new map is in `Touch`, as the original always is.
+/// Whether inserting a present key moves its pair, to the back or by `insert_front` to the front;
+/// `replace` never does. A new map is in `Touch`, as the original always is.
 ///
 /// # Examples
 ///
@@ -70,7 +70,8 @@ pub enum Mode {
 /// A hash map that keeps its pairs in insertion order.
 ///
 /// A new key goes to the back, and so does a present key that is inserted again, except in
-/// [`Mode::Keep`] and by [`insert_front`](LinkedHashMap::insert_front).
+/// [`Mode::Keep`] and by [`replace`](LinkedHashMap::replace) and
+/// [`insert_front`](LinkedHashMap::insert_front).
 ///
 /// For all calls, with n the number of pairs:
 ///

@@ -45,8 +45,8 @@
 //!   lookup takes: a reference to an item, or `&str` for a `String`.
 //! - Remove: [`remove`](LinkedHashSet::remove), [`take`](LinkedHashSet::take),
 //!   [`pop_front`](LinkedHashSet::pop_front), [`pop_back`](LinkedHashSet::pop_back),
-//!   [`retain`](LinkedHashSet::retain), [`clear`](LinkedHashSet::clear),
-//!   [`drain`](LinkedHashSet::drain).
+//!   [`truncate`](LinkedHashSet::truncate), [`retain`](LinkedHashSet::retain),
+//!   [`clear`](LinkedHashSet::clear), [`drain`](LinkedHashSet::drain).
 //! - Reorder: [`to_back`](LinkedHashSet::to_back), [`refresh`](LinkedHashSet::refresh),
 //!   [`to_front`](LinkedHashSet::to_front), [`move_before`](LinkedHashSet::move_before),
 //!   [`move_after`](LinkedHashSet::move_after), [`reverse`](LinkedHashSet::reverse),

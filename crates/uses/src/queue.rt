@@ -1,8 +1,8 @@
 //! A queue of jobs, each of which waits once.
-ghost use Rattle.std.specs.Prelude.{◌≡◌, ◌<◌, ◌≤◌, [], ◌∷◌, ◌++◌, not, is_some, IsSome, IsNone, IsTrue, Some, None, option_map, IfOk, IfErr, IfSome, OnOk, OnErr};
+ghost use Rattle.std.specs.Prelude.{◌≡◌, ◌<◌, ◌≤◌, [], ◌∷◌, ◌++◌, not, is_some, IsSome, IsNone, IsTrue, Some, None, option_map, IfOk, IfErr, IfSome, OnOk, OnErr, length, take};
 ghost use Rattle.std.specs.Map.{keys_of};
 ghost use Rattle.std.specs.Map.Iter.{deref};
-ghost use Rattle.linked_hash_map.specs.Pairs.{find, first, key_or, last, set_value, without, without_first, without_last};
+ghost use Rattle.linked_hash_map.specs.Pairs.{find, first, key_or, last, set_or_push, set_value, value_at, without, without_first, without_last};
 
 use linked_hash_map::{Entry, LinkedHashMap, Mode, Refused};
 use std::alloc::Global;
@@ -65,6 +65,35 @@ impl<J: Eq + Hash> Queue<J> {
         ensures others { self.new.jobs.pairs ≡ without_last self.old.jobs.pairs }
     {
         self.jobs.pop_back()
+    }
+
+    /// Takes back all jobs but the first ones, at most so many.
+    pub fn keep_first(&mut self, most: usize)
+    where
+        J: Drop,
+        ensures first { self.new.jobs.pairs ≡ take most self.old.jobs.pairs }
+        ensures len { length self.new.jobs.pairs ≤ most }
+        ensures room { self.new.jobs.capacity ≡ self.old.jobs.capacity }
+    {
+        self.jobs.truncate(most);
+    }
+
+    /// Gives a job this weight, and returns the one that it had. One that waits already keeps its
+    /// place, and a new one is the last. If there is no memory for a new one, it is handed back and
+    /// nothing changes.
+    pub fn weigh(&mut self, job: J, weight: u64) -> Result<Option<u64>, Refused<J, u64>>
+    where
+        J: Drop,
+        ensures old { IfOk result (λ old. old ≡ value_at J.eq self.old.jobs.pairs job) }
+        ensures jobs { OnOk result
+            (self.new.jobs.pairs ≡ set_or_push J.eq self.old.jobs.pairs job weight) }
+        ensures mode { self.new.jobs.mode ≡ self.old.jobs.mode }
+
+        ensures handed_back { IfErr result (λ refused.
+            (refused.key ≡ job) × (refused.value ≡ weight)) }
+        ensures unchanged { OnErr result (self.new.jobs ≡ self.old.jobs) }
+    {
+        self.jobs.replace(job, weight)
     }
 
     /// Lets a new job wait before all others, with its weight, and tells whether it is new. In

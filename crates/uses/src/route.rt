@@ -1,5 +1,5 @@
 //! A route: stops in the order in which they are reached.
-ghost use Rattle.std.specs.Prelude.{◌≡◌, ◌&&◌, ◌||◌, [], ◌∷◌, List, Some, None, length, not, option_copied, reverse, slice_get, unwrap_or, IfErr, IfOk, IsFalse, IsTrue, OnErr, OnOk};
+ghost use Rattle.std.specs.Prelude.{◌≡◌, ◌&&◌, ◌||◌, [], ◌∷◌, List, Some, None, length, not, option_copied, reverse, slice_get, unwrap_or, IfErr, IfOk, IsFalse, IsTrue, OnErr, OnOk, min, take};
 ghost use Rattle.std.specs.List.{AllZip, IsDistinct};
 ghost use Rattle.linked_hash_map.specs.Pairs.{first};
 ghost use Rattle.linked_hash_set.specs.Inserts.{insert_each};
@@ -111,6 +111,17 @@ impl<T: Eq + Hash, S: BuildHasher> Route<T, S> {
             ≡ contains T.eq self.old.stops.items q }
     {
         self.stops.move_after(stop, other)
+    }
+
+    /// Ends the route after so many stops, if it has more.
+    pub fn end_after(&mut self, count: usize)
+    where
+        T: Drop,
+        ensures stops { self.new.stops.items ≡ take count self.old.stops.items }
+        ensures len { length self.new.stops.items ≡ min count (length self.old.stops.items) }
+        ensures distinct { IsDistinct T.eq self.new.stops.items }
+    {
+        self.stops.truncate(count);
     }
 
     /// Makes it the way back.

@@ -69,9 +69,9 @@ impl<K: Eq + Hash, V, S: BuildHasher> LinkedHashMap<K, V, S> {
     ///
     /// Another visit, by this call or by `entries`, ends it. So do `shrink_to_fit` and each call
     /// that may remove or move a pair, except an entry's, and `replay` of such a command. A call by
-    /// keys does so only if they are present, and then also `entry`, and in both modes `insert` and
-    /// the extensions. `insert_front` and `append` do so with any keys, `front_entry` and
-    /// `back_entry` if there is a pair. A clone has no pair to visit.
+    /// keys does so only if they are present, and then also `entry`, and in both modes an insertion.
+    /// `insert_front` and `append` do so with any keys, `truncate` also if it drops nothing,
+    /// `front_entry` and `back_entry` if there is a pair. A clone has no pair to visit.
     ///
     /// # Examples
     ///

@@ -102,6 +102,64 @@ impl<K: Eq + Hash, V, S: BuildHasher> LinkedHashMap<K, V, S> {
         Ok(None)
     }
 
+    /// Inserts a pair and returns the old value of its key, or `None` if the key is new, as
+    /// [`insert`](LinkedHashMap::insert) does in [`Mode::Keep`]: in both modes the pair of a present
+    /// key keeps its place and its stored key, and `key` is dropped; a new one goes to the back.
+    /// Hashes the key once.
+    ///
+    /// It allocates, and is refused and hands back its pair, as `insert`. It is O(1), or up to O(n)
+    /// at full capacity. If the key is present, a visit ends.
+    ///
+    /// # Examples
+    ///
+    /// ```rust
+    /// let mut map = LinkedHashMap::new(rt.alloc());
+    /// assert_eq!(rt; map.replace('x', 1)?, None);
+    /// assert_eq!(rt; map.replace('y', 2)?, None);
+    /// assert_eq!(rt; map.replace('x', 3)?, Some(1));
+    /// assert_eq!(rt; map.front(), Some((&'x', &3)));
+    /// ```
+    pub fn replace(&mut self, key: K, value: V) -> Result<Option<V>, Refused<K, V>>
+    where
+        K: Drop,
+        ensures old { IfOk result (λ old. old ≡ value_at K.eq self.old.pairs key) }
+        ensures pairs { OnOk result
+            (self.new.pairs ≡ put K.eq Mode.Keep self.old.pairs key value) }
+        ensures capacity { OnOk result
+            (self.new.capacity ≡ max self.old.capacity (length self.new.pairs)) }
+        ensures rechained { OnOk result
+            (self.new.rechained ≡ rechained_raised self.old.rechained (length self.old.pairs)
+            self.old.capacity self.new.capacity) }
+        ensures settings { KeepsSettings self.old self.new }
+        ensures ends_visit { IfOk result (λ old. OnSome old (to_visit self.new ≡ [])) }
+        ensures to_visit { IfOk result (λ old. IfNone old (to_visit self.new ≡ to_visit self.old)) }
+        ensures valid { IsValid K.eq self.old }
+        ensures stays_valid { IsValid K.eq self.new }
+        // Consequences of `pairs` and `capacity`, for the proofs of callers.
+        ensures updates { OnOk result
+            (Updates K.eq self.old.pairs self.new.pairs key (Some value)) }
+        ensures pushed { OnOk result (value_at K.eq self.old.pairs key ≡ None
+            → self.new.pairs ≡ self.old.pairs ++ (key, value) ∷ []) }
+        ensures more { OnOk result (value_at K.eq self.old.pairs key ≡ None
+            → length self.new.pairs ≡ length self.old.pairs + 1) }
+        ensures as_many { OnOk result (IsSome (value_at K.eq self.old.pairs key)
+            → length self.new.pairs ≡ length self.old.pairs) }
+        ensures same_room { OnOk result ((find K.eq self.old.pairs key ≡ None
+            → length self.old.pairs < self.old.capacity) → self.new.capacity ≡ self.old.capacity) }
+
+        ensures key_back { IfErr result (λ refused. refused.key ≡ key) }
+        ensures value_back { IfErr result (λ refused. refused.value ≡ value) }
+        ensures unchanged { OnErr result (self.new ≡ self.old) }
+        ensures absent { OnErr result (find K.eq self.old.pairs key ≡ None) }
+        ensures full { OnErr result (length self.old.pairs ≡ self.old.capacity) }
+    {
+        let mode = self.mode();
+        self.set_mode(Mode::Keep);
+        let old = self.insert(key, value);
+        self.set_mode(mode);
+        old
+    }
+
     /// Inserts a pair as [`insert`](LinkedHashMap::insert) does, if the key is present or there is
     /// room for one more pair: so it allocates nothing and is not refused. It is O(1).
     ///

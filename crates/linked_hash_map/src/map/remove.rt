@@ -1,5 +1,5 @@
 //! Removal.
-ghost use Rattle.std.specs.Prelude.{◌≡◌, ◌+◌, ◌≤◌, [], length, option_map, None, IfNone, IfSome, OnSome};
+ghost use Rattle.std.specs.Prelude.{◌≡◌, ◌+◌, ◌≤◌, [], length, min, take, option_map, None, IfNone, IfSome, OnSome};
 ghost use Rattle.std.specs.Borrow.{sem};
 ghost use Rattle.std.specs.Map.{keys_of};
 ghost use Rattle.std.specs.Map.Calls.{CallableOnEachPair, CalledAtPair, TakesPair, RetainsPairs};
@@ -137,6 +137,37 @@ impl<K: Eq + Hash, V, S: BuildHasher> LinkedHashMap<K, V, S> {
         let back = self.table.last()?;
         self.state.active = false;
         Some(self.table.remove_at(back))
+    }
+
+    /// Drops the pairs behind the first `len`, if there are any, in O(1) each. The first ones keep
+    /// their order, and the capacity stays. It allocates nothing, hashes no key, and ends a visit,
+    /// even if it drops nothing.
+    ///
+    /// # Examples
+    ///
+    /// ```rust
+    /// let mut map = LinkedHashMap::new(rt.alloc());
+    /// map.extend([('x', 1), ('y', 2), ('z', 3)])?;
+    /// map.truncate(2);
+    /// assert_eq!(rt; (map.len(), map.capacity()), (2, 3));
+    /// assert_eq!(rt; map.back(), Some((&'y', &2)));
+    /// ```
+    pub fn truncate(&mut self, len: usize)
+    where
+        K: Drop,
+        V: Drop,
+        ensures pairs { self.new.pairs ≡ take len self.old.pairs }
+        ensures keeps { Keeps self.old self.new }
+        ensures ends_visit { to_visit self.new ≡ [] }
+        ensures valid { IsValid K.eq self.old }
+        ensures stays_valid { IsValid K.eq self.new }
+        // A consequence of `pairs`, for the proofs of callers.
+        ensures len { length self.new.pairs ≡ min len (length self.old.pairs) }
+    {
+        self.end_visit();
+        while self.len() > len {
+            let _last = self.pop_back();
+        }
     }
 
     /// Keeps the pairs for which a closure returns `true`, in order, and drops the others, in O(n).

@@ -1,6 +1,6 @@
 //! Removal.
 
-ghost use Rattle.std.specs.Prelude.{◌≡◌, ◌+◌, ◌≤◌, [], length, true, false, IfNone, IfSome, OnSome, IsTrue, IsFalse};
+ghost use Rattle.std.specs.Prelude.{◌≡◌, ◌+◌, ◌≤◌, [], length, min, take, true, false, IfNone, IfSome, OnSome, IsTrue, IsFalse};
 ghost use Rattle.std.specs.Borrow.{sem};
 ghost use Rattle.std.specs.Fn.{CalledAt, TakesAt};
 ghost use Rattle.std.specs.List.Retain.{IsFiltered};
@@ -121,6 +121,30 @@ impl<T: Eq + Hash, S: BuildHasher> LinkedHashSet<T, S> {
     {
         let (item, _unit) = self.map.pop_back()?;
         Some(item)
+    }
+
+    /// Drops the items behind the first `len`, if there are any, in O(1) each. The first ones keep
+    /// their order, and the capacity stays. It allocates nothing, and hashes no item.
+    ///
+    /// # Examples
+    ///
+    /// ```rust
+    /// let mut set = LinkedHashSet::new(rt.alloc());
+    /// set.extend(['x', 'y', 'z'])?;
+    /// set.truncate(2);
+    /// assert_eq!(rt; (set.len(), set.capacity()), (2, 3));
+    /// assert_eq!(rt; set.back(), Some(&'y'));
+    /// ```
+    pub fn truncate(&mut self, len: usize)
+    where
+        T: Drop,
+        ensures items { self.new.items ≡ take len self.old.items }
+        ensures keeps { Keeps self.old self.new }
+        ensures stays_valid { IsValid T.eq self.new }
+        // A consequence of `items`, for the proofs of callers.
+        ensures len { length self.new.items ≡ min len (length self.old.items) }
+    {
+        self.map.truncate(len);
     }
 
     /// Keeps the items for which a closure returns `true`, in order, and drops the others, in O(n).
