@@ -261,6 +261,7 @@ SESSION_CALLS = (
     ("reserve", 1, "room"),
     ("capacity", 1, ""),
     ("total", 1, ""),
+    ("limit", 1, ""),
     ("len", 1, ""),
     ("iter", 2, "steps"),
     ("fill", 1, "numbers weight"),

@@ -220,6 +220,10 @@ def total(call, table):
     call.show(table.total)
 
 
+def limit(call, table):
+    call.show(table.limit)
+
+
 def length(call, table):
     call.show(len(table.sessions))
 
@@ -247,7 +251,7 @@ LINES = {
     "new": new, "with_capacity": with_capacity, "put": put, "put_with": put_with, "touch": touch,
     "touch_mut": touch_mut, "fill": fill,
     "remove": remove, "retain": retain, "reserve": reserve, "capacity": capacity, "total": total,
-    "len": length, "iter": iter_sessions, "drop": drop,
+    "limit": limit, "len": length, "iter": iter_sessions, "drop": drop,
 }
 # Lines that change no session.
-READING = {"reserve", "capacity", "total", "len", "iter"}
+READING = {"reserve", "capacity", "total", "limit", "len", "iter"}

@@ -182,6 +182,7 @@ fn run_call(call: &Call, table: &mut Table) -> bool {
         "reserve" => call.show_refusal(table.reserve(call.size())),
         "capacity" => call.show(&table.capacity()),
         "total" => call.show(&table.total()),
+        "limit" => call.show(&table.limit()),
         "len" => call.show(&table.len()),
         "iter" => iterate(table, call.word(), call),
         "fill" => fill(table, call),

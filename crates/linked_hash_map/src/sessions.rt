@@ -383,6 +383,20 @@ impl<T> Sessions<T> {
         self.total
     }
 
+    /// Returns the limit of the sum of the weights, in O(1).
+    ///
+    /// # Examples
+    ///
+    /// ```rust
+    /// let table: Sessions<char> = Sessions::new(rt.alloc(), 10);
+    /// assert_eq!(rt; table.limit(), 10);
+    /// ```
+    pub fn limit(&self) -> u64
+        ensures limit { result ≡ self.now.limit }
+    {
+        self.limit
+    }
+
     /// Returns the number of sessions, in O(1).
     pub fn len(&self) -> usize
         ensures len { result ≡ length self.now.sessions }

@@ -1,5 +1,5 @@
 //! A cache of pages, over a table of sessions, which together have at most a limit of bytes.
-ghost use Rattle.std.specs.Prelude.{◌≡◌, ◌==◌, ◌≤◌, ◌<◌, ℕ, List, [], Some, IsSome, false, length, String, string_bytes, option_copied, IfOk, IfErr, OnOk, OnErr, IsOk};
+ghost use Rattle.std.specs.Prelude.{◌≡◌, ◌==◌, ◌≤◌, ◌<◌, ◌+◌, ℕ, List, [], Some, IsSome, false, length, String, string_bytes, option_copied, IfOk, IfErr, OnOk, OnErr, IsOk};
 ghost use Rattle.std.specs.Borrow.{sem};
 ghost use Rattle.std.specs.Global.{Global};
 ghost use Rattle.linked_hash_map.specs.SessionTables.{Session, payload_of, without, with_last, total_weight, IsLongestEnd};
@@ -89,6 +89,13 @@ impl Pages {
             Some(text) => Some(text),
             None => None,
         }
+    }
+
+    /// Returns how many more bytes of text fit while all pages stay.
+    pub fn bytes_left(&self) -> u64
+        ensures left { total_weight self.now.table.sessions + result ≡ self.now.table.limit }
+    {
+        self.table.limit() - self.table.total()
     }
 
     /// Takes a page out.
