@@ -23,7 +23,7 @@ use Rattle.linked_hash_map.specs.Pairs.{key_or, find, value_at, without, from, t
 use Rattle.linked_hash_map.specs.Pairs.{set_or_push, put, to_before, to_after}
 use Rattle.linked_hash_map.proofs.Callers.Keys.{length-put_most, key_or-find, keys_of-to_back, keys_of-to_back_own}
 use Rattle.linked_hash_map.proofs.Callers.Keys.{keys_of-without, keys_of-set_or_push, keys_of-append, keys_of-without_first}
-use Rattle.linked_hash_map.proofs.Callers.Keys.{keys_of-without_last, first-keys_of, put-absent}
+use Rattle.linked_hash_map.proofs.Callers.Keys.{keys_of-without_last, first-keys_of, put-absent, find-none, set_value-none}
 use Rattle.linked_hash_map.proofs.Callers.Collected.{insert_each-append, insert_each-snoc}
 use Rattle.linked_hash_map.proofs.Callers.Counted.{CountsItems-start, CountsItems-counted, CountsItems-below}
 use Rattle.linked_hash_map.proofs.Callers.Counted.{CountsKnown-start, CountsKnown-counted, CountsKnown-fits}
@@ -32,9 +32,10 @@ use Rattle.linked_hash_map.proofs.Callers.Dense.{values_of_dense_push, value_at_
 use Rattle.linked_hash_map.proofs.Callers.EachPair.{All-find, All-without, All-to_back_as_is, All-put}
 use Rattle.linked_hash_map.proofs.Callers.Ends.{keys_of-take, take-keys_of, to_front-put, value_at-take}
 use Rattle.linked_hash_map.proofs.Callers.Lookups.{eq-find, eq-stored, value_at-append, value_at-without_append}
+use Rattle.linked_hash_map.proofs.Callers.Moves.{to_back_as_is-absent}
 use Rattle.linked_hash_map.proofs.Callers.Rounds.{IsTurned-start, IsTurned-turn, IsTurned-round}
 use Rattle.linked_hash_map.proofs.Callers.TextCounts.{CountsTexts-start, CountsTexts-counted, CountsTexts-below, CountsTexts-all}
-use Rattle.linked_hash_map.proofs.Callers.TextLookups.{value_at-put_text, value_at-removed_text}
+use Rattle.linked_hash_map.proofs.Callers.TextLookups.{find-by_key, value_at-set_value, value_at-put_text, value_at-removed_text}
 use Rattle.linked_hash_map.proofs.Callers.Texts.{value_at-by_bytes, values_of-by_bytes}
 use Rattle.linked_hash_map.proofs.Callers.Turns.{cons-keys_of_first, put-without_first}
 use Rattle.linked_hash_map.proofs.Callers.Visits.{VisitKeeps-passed, VisitKeeps-removed, append-visited}
@@ -230,8 +231,16 @@ pub ruleset text_keys = (keys_of-without_text, keys_of-set_or_push_text)
 -- what bytes find after an insertion, in a view by the bytes of the keys
 pub ruleset byte_keys = (value_at-put_bytes, value_at-text_bytes, values_of-text_bytes)
 
--- what each text finds after an insertion, or after a removal by another text
-pub ruleset text_lookups = (value_at-put_text, value_at-removed_text)
+-- what each text finds after each call
+pub ruleset text_lookups = (
+  find-by_key,
+  value_at-set_value,
+  value_at-put_text,
+  value_at-removed_text,
+  find-none,
+  set_value-none,
+  to_back_as_is-absent,
+)
 
 -- the keys after an insertion in Touch, in words of the keys alone
 pub ruleset stored_keys = (keys_of-to_back, key_or-find)
