@@ -166,6 +166,8 @@ RARE_CACHE_CALLS = (
 )
 OWN_CACHE_CALLS = (
     ("put", 12, "key value"),
+    ("peek_lru", 1, ""),
+    ("peek_mru", 1, ""),
     ("retain", 2, "value"),
     ("reserve", 1, "room"),
     ("room", 1, ""),

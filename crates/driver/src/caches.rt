@@ -72,6 +72,8 @@ fn into_iter(cache: &Cache, call: &Call) {
 fn read(call: &Call, cache: &Cache) -> bool {
     match call.name() {
         "peek" => call.show(&cache.peek(&call.key())),
+        "peek_lru" => call.show_lent_pair(cache.peek_lru()),
+        "peek_mru" => call.show_lent_pair(cache.peek_mru()),
         "len" => call.show_two(&cache.len(), &cache.is_empty()),
         "debug" => call.show_within(cache),
         "room" => call.show(&cache.room()),
