@@ -282,6 +282,7 @@ LINES = {
     "into_iter": into_iter, "drain": drain, "drop": drop, "debug": debug, "new": new, "fill": fill,
     "replay": replay,
     "peek_lru": on_map(maps.front), "peek_mru": on_map(maps.back),
+    "remove_entry": on_map(maps.remove_entry),
     **{name: on_map(iterators.LINES[name])
        for name in ("iter", "iter_mut", "loop", "loop_mut")},
 }

@@ -95,6 +95,7 @@ fn run_by_key(call: &Call, cache: &mut Cache) -> bool {
         "get" => call.show(&cache.get(&call.key())),
         "contains_key" => call.show(&cache.contains_key(&call.key())),
         "remove" => call.show(&cache.remove(&call.key())),
+        "remove_entry" => call.show(&cache.remove_entry(&call.key())),
         "remove_lru" => call.show(&cache.remove_lru()),
         _ => return false,
     }
