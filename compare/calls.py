@@ -168,6 +168,9 @@ RARE_CACHE_CALLS = (
 )
 OWN_CACHE_CALLS = (
     ("put", 12, "key value"),
+    ("peek_lru", 1, ""),
+    ("peek_mru", 1, ""),
+    ("remove_entry", 3, "key"),
     ("retain", 2, "value"),
     ("reserve", 1, "room"),
     ("room", 1, ""),

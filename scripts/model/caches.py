@@ -281,8 +281,11 @@ LINES = {
     "retain": retain, "reserve": reserve, "room": room, "len": length, "clone": clone,
     "into_iter": into_iter, "drain": drain, "drop": drop, "debug": debug, "new": new, "fill": fill,
     "replay": replay,
+    "peek_lru": on_map(maps.front), "peek_mru": on_map(maps.back),
+    "remove_entry": on_map(maps.remove_entry),
     **{name: on_map(iterators.LINES[name])
        for name in ("iter", "iter_mut", "loop", "loop_mut")},
 }
 # Lines that change no pair, and no limit.
-READING = {"peek", "reserve", "room", "len", "into_iter", "debug", "new", "iter", "loop"}
+READING = {"peek", "peek_lru", "peek_mru", "reserve", "room", "len", "into_iter", "debug", "new",
+           "iter", "loop"}

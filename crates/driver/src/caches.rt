@@ -72,6 +72,8 @@ fn into_iter(cache: &Cache, call: &Call) {
 fn read(call: &Call, cache: &Cache) -> bool {
     match call.name() {
         "peek" => call.show(&cache.peek(&call.key())),
+        "peek_lru" => call.show_lent_pair(cache.peek_lru()),
+        "peek_mru" => call.show_lent_pair(cache.peek_mru()),
         "len" => call.show_two(&cache.len(), &cache.is_empty()),
         "debug" => call.show_within(cache),
         "room" => call.show(&cache.room()),
@@ -93,6 +95,7 @@ fn run_by_key(call: &Call, cache: &mut Cache) -> bool {
         "get" => call.show(&cache.get(&call.key())),
         "contains_key" => call.show(&cache.contains_key(&call.key())),
         "remove" => call.show(&cache.remove(&call.key())),
+        "remove_entry" => call.show(&cache.remove_entry(&call.key())),
         "remove_lru" => call.show(&cache.remove_lru()),
         _ => return false,
     }

@@ -17,8 +17,8 @@ use std::marker::Model;
 
 /// A cache of at most `capacity` pairs, in the order of their last use.
 ///
-/// An insertion and a lookup use their pair, except `peek` and `peek_mut`. If a new pair is one too
-/// many, the one used least recently goes.
+/// An insertion and a lookup use their pair, except by the calls whose names begin with `peek`. If a
+/// new pair is one too many, the one used least recently goes.
 ///
 /// For all calls, with n the number of pairs:
 ///

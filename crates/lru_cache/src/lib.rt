@@ -28,10 +28,12 @@
 //! - Insert: [`insert`](LruCache::insert); [`put`](LruCache::put), which returns the pair that
 //!   goes; [`extend`](LruCache::extend).
 //! - Look up: [`get`](LruCache::get), [`get_mut`](LruCache::get_mut) and
-//!   [`contains_key`](LruCache::contains_key), which use the pair; [`peek`](LruCache::peek) and
-//!   [`peek_mut`](LruCache::peek_mut), which do not.
-//! - Remove: [`remove`](LruCache::remove), [`remove_lru`](LruCache::remove_lru),
-//!   [`retain`](LruCache::retain), [`clear`](LruCache::clear), [`drain`](LruCache::drain).
+//!   [`contains_key`](LruCache::contains_key), which use the pair; [`peek`](LruCache::peek),
+//!   [`peek_mut`](LruCache::peek_mut), [`peek_lru`](LruCache::peek_lru) and
+//!   [`peek_mru`](LruCache::peek_mru), which do not.
+//! - Remove: [`remove`](LruCache::remove), [`remove_entry`](LruCache::remove_entry),
+//!   [`remove_lru`](LruCache::remove_lru), [`retain`](LruCache::retain),
+//!   [`clear`](LruCache::clear), [`drain`](LruCache::drain).
 //! - Iterate, the pair used least recently first: [`iter`](LruCache::iter),
 //!   [`iter_mut`](LruCache::iter_mut), [`into_iter`](LruCache::into_iter).
 //! - The limit: [`capacity`](LruCache::capacity), [`set_capacity`](LruCache::set_capacity).

@@ -1,8 +1,9 @@
 //! Lookups.
-ghost use Rattle.std.specs.Prelude.{◌≡◌, length, is_some, option_copied, option_map, Some, IfNone, OnSome, IsFalse};
+ghost use Rattle.std.specs.Prelude.{◌≡◌, length, is_some, option_copied, option_map, Some, IfNone, IfSome, OnSome, IsFalse};
 ghost use Rattle.std.specs.Borrow.{sem};
+ghost use Rattle.std.specs.Map.Iter.{deref_pair};
 ghost use Rattle.std.specs.Option.{option_copied_mut};
-ghost use Rattle.linked_hash_map.specs.Pairs.{last, find, value_at, set_value, to_back_as_is, to_back_by};
+ghost use Rattle.linked_hash_map.specs.Pairs.{first, last, find, value_at, set_value, to_back_as_is, to_back_by};
 ghost use Rattle.linked_hash_map.specs.Updates.{UpdatesBy};
 ghost use Rattle.lru_cache.specs.Cache.{Keeps, IsValidCache};
 
@@ -167,5 +168,45 @@ impl<K: Eq + Hash, V, S: BuildHasher> LruCache<K, V, S> {
             Some(value) => Some(value),
             None => None,
         }
+    }
+
+    /// Returns the pair used least recently, if any, in O(1). It uses no pair. Hashes no key.
+    ///
+    /// # Examples
+    ///
+    /// ```rust
+    /// let mut cache = LruCache::new(rt.alloc(), 2);
+    /// cache.insert('x', 1)?;
+    /// cache.insert('y', 2)?;
+    /// assert_eq!(rt; cache.peek_lru(), Some((&'x', &1)));
+    /// assert_eq!(rt; cache.remove_lru(), Some(('x', 1)));
+    /// ```
+    pub fn peek_lru(&self) -> Option<(&K, &V)>
+        ensures pair { option_map deref_pair result ≡ first self.now.pairs }
+        // A law of lists, for the proofs of callers.
+        ensures found { IfSome result (λ pair.
+            find K.eq self.now.pairs pair.0.now ≡ Some (deref_pair pair)) }
+    {
+        self.map.front()
+    }
+
+    /// Returns the pair used last, if any, in O(1). It uses no pair. Hashes no key.
+    ///
+    /// # Examples
+    ///
+    /// ```rust
+    /// let mut cache = LruCache::new(rt.alloc(), 2);
+    /// cache.insert('x', 1)?;
+    /// cache.insert('y', 2)?;
+    /// cache.get(&'x');
+    /// assert_eq!(rt; cache.peek_mru(), Some((&'x', &1)));
+    /// ```
+    pub fn peek_mru(&self) -> Option<(&K, &V)>
+        ensures pair { option_map deref_pair result ≡ last self.now.pairs }
+        // A law of lists, for the proofs of callers.
+        ensures found { IfSome result (λ pair.
+            find K.eq self.now.pairs pair.0.now ≡ Some (deref_pair pair)) }
+    {
+        self.map.back()
     }
 }

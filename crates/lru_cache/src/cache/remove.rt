@@ -41,6 +41,30 @@ impl<K: Eq + Hash, V, S: BuildHasher> LruCache<K, V, S> {
         self.map.remove(key)
     }
 
+    /// Removes and returns the pair of a key, if present, in O(1). The others keep their order.
+    /// Hashes the key once.
+    ///
+    /// # Examples
+    ///
+    /// ```rust
+    /// let mut cache = LruCache::new(rt.alloc(), 2);
+    /// cache.insert('x', 1)?;
+    /// assert_eq!(rt; cache.remove_entry(&'x'), Some(('x', 1)));
+    /// assert_eq!(rt; cache.remove_entry(&'x'), None);
+    /// assert_eq!(rt; (cache.len(), cache.room()), (0, 1));
+    /// ```
+    pub fn remove_entry<Q: Equivalent<K>>(&mut self, key: Q) -> Option<(K, V)>
+        ensures pair { result ≡ find Q.equivalent self.old.pairs key }
+        ensures pairs { self.new.pairs ≡ without Q.equivalent self.old.pairs key }
+        ensures keeps { Keeps self.old self.new }
+        ensures valid { IsValidCache K.eq self.old }
+        ensures stays_valid { IsValidCache K.eq self.new }
+        // A consequence of `pairs`, for the proofs of callers.
+        ensures updates { UpdatesBy K.eq self.old.pairs self.new.pairs (Q.equivalent key) None }
+    {
+        self.map.remove_entry(key)
+    }
+
     /// Removes the pair used least recently and returns it, if any, in O(1). Hashes no key.
     ///
     /// # Examples
