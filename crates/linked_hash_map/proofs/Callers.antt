@@ -38,6 +38,7 @@ pub mod Rounds
 pub mod Rules
 pub mod Sessions
 pub mod Sorts
+pub mod Sums
 pub mod TextCounts
 pub mod TextLookups
 pub mod Texts

@@ -1,8 +1,8 @@
 -- For callers: insertions one after another.
 use Rattle.std.proofs.Common.{◌≡◌, ◌+◌, ◌≤◌, Bool, true, false, cond, not, ◌||◌, List, [], ◌∷◌, ◌++◌, length, map, filter, reverse}
-use Rattle.std.proofs.Common.{append_assoc, append-nil, Option, Some, is_some, option_map, refl, sym, ap, ap₂, ◌∙◌, arith}
+use Rattle.std.proofs.Common.{append_assoc, append-nil, Option, Some, None, is_some, option_map, refl, sym, ap, ap₂, ◌∙◌, arith}
 use Rattle.std.specs.Option.{option_or}
-use Rattle.std.specs.List.{IsDistinct, AllByRecursion}
+use Rattle.std.specs.List.{All, IsDistinct, AllByRecursion}
 use Rattle.std.specs.Map.{keys_of}
 use Rattle.std.proofs.lemmas.List.{reverse-append}
 use Rattle.std.proofs.lemmas.List.Elements.{filter-append}
@@ -14,8 +14,11 @@ use Rattle.linked_hash_map.specs.Pairs.{key_or, find, value_at, to_back, set_or_
 use Rattle.linked_hash_map.specs.Inserts.{insert_each}
 use Rattle.linked_hash_map.proofs.lists.Elements.{by_last}
 use Rattle.linked_hash_map.proofs.pairs.Inserts.{insert_each-last, length-put_most, distinct-put}
-use Rattle.linked_hash_map.proofs.Callers.Keys.{keys_of-to_back, keys_of-set_or_push}
-use Rattle.linked_hash_map.proofs.Callers.Lookups.{eq-stored, value_at-put, find-put, find-to_back, find-set_or_push_apart}
+use Rattle.linked_hash_map.proofs.Callers.Keys.{keys_of-to_back, keys_of-set_or_push, put-absent}
+use Rattle.linked_hash_map.proofs.Callers.Cuts.{find-cut}
+use Rattle.linked_hash_map.proofs.Callers.EachPair.{All-find}
+use Rattle.linked_hash_map.proofs.Callers.Lookups.{lookup_entry-append, find-same, eq-find, eq-stored, value_at-put}
+use Rattle.linked_hash_map.proofs.Callers.Lookups.{find-put, find-to_back, find-set_or_push_apart}
 use Rattle.linked_hash_map.proofs.Callers.Turns.{find-others}
 -- items with keys that differ, inserted into nothing, are the pairs
 pub use Rattle.linked_hash_map.proofs.pairs.Inserts.{insert_each-distinct}
@@ -106,6 +109,23 @@ module _ {K V : Type 0} {eq : K → K → Bool} (laws : IsEquivalence eq) (mode 
       by_test false apart =
           ap (λ b. option_or (value_at eq items q) (cond b (Some item.1) (value_at eq pairs q)))
           (laws.symm item.0 q ∙ apart)
+
+-- items with other keys than the old ones go behind these
+module _ {K V : Type 0} {eq : K → K → Bool} (laws : IsEquivalence eq) (mode : Mode) where
+  apart_each : (pairs items : List (K × V)) → IsDistinct eq (keys_of items)
+      → ((q : K) (item : K × V) → find eq items q ≡ Some item → find eq pairs q ≡ None) → insert_each eq mode pairs items ≡ pairs ++ items
+  apart_each pairs [] distinct absent = sym (append-nil pairs)
+  apart_each pairs (item ∷ items) distinct absent =
+      let none = absent item.0 item (find-cut laws [] item items distinct) in
+      let rest = apart_each (pairs ++ item ∷ []) items (IsDistinct-tail eq item.0 (keys_of items) distinct) (λ q other there.
+      grind (arith, there, absent q other, find-others laws items q item distinct, lookup_entry-append)) in
+      grind (arith, none, rest, put-absent, append_assoc)
+
+  pub insert_each-apart : (pairs items : List (K × V)) → IsDistinct eq (keys_of items)
+      → All (λ item. find eq pairs item.0 ≡ None) items → insert_each eq mode pairs items ≡ pairs ++ items
+  insert_each-apart pairs items distinct absent = apart_each pairs items distinct
+      (λ q item there. find-same laws pairs q item.0 (eq-find laws items q item there)
+      ∙ All-find (λ (p : K × V). find eq pairs p.0 ≡ None) eq items q absent item there)
 
 -- in Keep the old keys stand, and the new ones come behind them, in order
 filter-alike : {K : Type 0} (one other : K → Bool) (ks : List K)

@@ -13,7 +13,7 @@ pub use Rattle.std.specs.Map.{keys_of, values_of}
 pub use Rattle.std.specs.Map.Iter.{deref, deref_pair}
 pub use Rattle.std.proofs.lemmas.List.Elements.{All-same}
 pub use Rattle.std.proofs.lemmas.Fn.{filter_same}
-pub use Rattle.linked_hash_map.specs.Pairs.{find, value_at, without, without_first, to_back_as_is, set_value, set_or_push, put}
+pub use Rattle.linked_hash_map.specs.Pairs.{find, value_at, from, without, without_first, to_back_as_is, set_value, set_or_push, put}
 pub use Rattle.linked_hash_map.specs.Inserts.{insert_each}
 pub use Rattle.linked_hash_map.specs.Cursor.{to_visit}
 pub use Rattle.linked_hash_map.specs.Visits.{VisitKeeps, VisitMaps}
@@ -30,6 +30,7 @@ pub use Rattle.linked_hash_map.proofs.Callers.Keys.{keys_of-without}
 pub use Rattle.linked_hash_map.proofs.Callers.Retained.{filter_same_pairs, map_from_retain_pairs, map-filter_from_retain_pairs}
 pub use Rattle.linked_hash_map.proofs.Callers.Rounds.{IsTurned, IsTurned-turn}
 pub use Rattle.linked_hash_map.proofs.Callers.Rules.{changes, keys_of-put_to_front}
+pub use Rattle.linked_hash_map.proofs.Callers.Sums.{IsSumSoFar}
 pub use Rattle.linked_hash_map.proofs.Callers.TextCounts.{CountsTexts}
 pub use Rattle.linked_hash_map.proofs.Callers.Texts.{same_text-laws, by_bytes, by_bytes-append, find-is_text, find-drop_text}
 pub use Rattle.linked_hash_map.proofs.Callers.Turns.{IsRenaming, IsRenaming-turn}

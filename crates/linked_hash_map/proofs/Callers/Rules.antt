@@ -20,7 +20,7 @@ use Rattle.std.proofs.lemmas.List.Elements.{All-weaker, All-contains_itself}
 use Rattle.linked_hash_map.specs.declared.map.Mode.{Mode}
 use Rattle.linked_hash_map.specs.declared.map.Mode.TheVariants.{Touch}
 use Rattle.linked_hash_map.specs.Pairs.{key_or, find, value_at, without, from, to_back_as_is, to_front}
-use Rattle.linked_hash_map.specs.Pairs.{set_or_push, put, to_before, to_after}
+use Rattle.linked_hash_map.specs.Pairs.{set_or_push, put, put_front, to_before, to_after}
 use Rattle.linked_hash_map.proofs.Callers.Keys.{length-put_most, key_or-find, keys_of-to_back, keys_of-to_back_own}
 use Rattle.linked_hash_map.proofs.Callers.Keys.{keys_of-without, keys_of-set_or_push, keys_of-append, keys_of-without_first}
 use Rattle.linked_hash_map.proofs.Callers.Keys.{keys_of-without_last, first-keys_of, put-absent, find-none, set_value-none}
@@ -38,8 +38,8 @@ use Rattle.linked_hash_map.proofs.Callers.TextCounts.{CountsTexts-start, CountsT
 use Rattle.linked_hash_map.proofs.Callers.TextLookups.{find-by_key, value_at-set_value, value_at-put_text, value_at-removed_text}
 use Rattle.linked_hash_map.proofs.Callers.Texts.{value_at-by_bytes, values_of-by_bytes}
 use Rattle.linked_hash_map.proofs.Callers.Turns.{cons-keys_of_first, put-without_first}
-use Rattle.linked_hash_map.proofs.Callers.Visits.{VisitKeeps-passed, VisitKeeps-removed, append-visited}
-use Rattle.linked_hash_map.proofs.Callers.WritingVisits.{VisitMaps-written, VisitMaps-removed, VisitMaps-start}
+use Rattle.linked_hash_map.proofs.Callers.Visits.{VisitKeeps-passed, VisitKeeps-removed, append-visited, length-kept}
+use Rattle.linked_hash_map.proofs.Callers.WritingVisits.{VisitMaps-written, VisitMaps-removed, VisitMaps-start, length-changed}
 
 -- at numbers
 module _ {V : Type 0} (mode : Mode) (pairs : List (ℕ × V)) (k : ℕ) (v : V) where
@@ -88,6 +88,15 @@ pub keys_of-put_to_front : {V : Type 0} (mode : Mode) (pairs : List (ℕ × V)) 
     → inserted ≡ put nat_eq mode pairs k v → moved ≡ to_front nat_eq inserted k
     → keys_of moved ≡ k ∷ filter (λ j. not (nat_eq k j)) (keys_of pairs)
 keys_of-put_to_front mode pairs k v put_is moved_is = grind (arith, to_front-put_number, keys_of-without)
+
+-- a pair that is put in at the front
+pub put_front_number : {V : Type 0} (mode : Mode) (pairs : List (ℕ × V)) (k : ℕ) (v : V) → mode ≡ Touch
+    → (put_front nat_eq mode pairs k v ≡ put_front nat_eq mode pairs k v) × (put_front nat_eq mode pairs k v ≡ (k, v) ∷ without nat_eq pairs k)
+put_front_number mode pairs k v touch = (
+  refl,
+  ap (λ m. put_front nat_eq m pairs k v) touch ∙ ap (λ (j : ℕ). (j, v) ∷ without nat_eq pairs k)
+      (sym (eqb-true k (key_or k (find nat_eq pairs k)) (eq-stored nat_eq_equiv pairs k))),
+)
 
 pub keys_of-without_number : {V : Type 0} (pairs : List (ℕ × V)) (k : ℕ)
     → (without nat_eq pairs k ≡ without nat_eq pairs k)
@@ -214,7 +223,8 @@ pub ruleset new_numbers = (value_at-append_number)
 pub ruleset number_keys = (keys_of-put_number, length-put_number, cons-keys_of_first)
 
 -- the pair at the front, and the keys behind it, at numbers
-pub ruleset front_keys = (to_front-put_number, length-put_number, keys_of-without_number, keys_of-take, take-keys_of, value_at-take_number)
+pub ruleset front_keys =
+    (to_front-put_number, put_front_number, length-put_number, keys_of-without_number, keys_of-take, take-keys_of, value_at-take_number)
 
 -- the same, and the keys after a move of one that is present
 pub ruleset moved_to_front = (front_keys, keys_of-to_front_number)
@@ -250,10 +260,10 @@ pub ruleset end_keys = (keys_of-append, keys_of-without_first, keys_of-without_l
 
 -- a visit that keeps some pairs and takes the others out, and one that lists the keys that it
 -- visits
-pub ruleset visits = (VisitKeeps-passed, VisitKeeps-removed, append-visited)
+pub ruleset visits = (VisitKeeps-passed, VisitKeeps-removed, append-visited, length-kept)
 
 -- a visit that keeps some pairs and changes their values
-pub ruleset changes = (VisitMaps-written, VisitMaps-removed, VisitMaps-start)
+pub ruleset changes = (VisitMaps-written, VisitMaps-removed, VisitMaps-start, length-changed)
 
 -- maps that number their keys from 0 on
 pub ruleset dense = (values_of_dense_push, value_at_dense_each, eq-dense)

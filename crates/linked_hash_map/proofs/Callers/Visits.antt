@@ -1,6 +1,6 @@
 -- For callers: a visit that keeps some of the pairs and takes the others out, also one that counts
 -- these, and one that puts pairs behind the others, step by step.
-use Rattle.std.proofs.Common.{◌≡◌, ℕ, ◌+◌, ◌<◌, Bool, true, false, cond, List, [], ◌∷◌, ◌++◌, length, map, take, drop}
+use Rattle.std.proofs.Common.{◌≡◌, ℕ, ◌+◌, ◌<◌, ◌≤◌, Bool, true, false, cond, List, [], ◌∷◌, ◌++◌, length, map, take, drop}
 use Rattle.std.proofs.Common.{slice_get, get_or, nat_eq}
 use Rattle.std.proofs.Common.{option_map, Some, None, filter, refl, sym, ap, subst, ◌∙◌, append_assoc, append-nil, length-append, arith}
 use Rattle.std.specs.Cmp.{IsEquivalence, nat_eq_equiv}
@@ -8,6 +8,7 @@ use Rattle.std.specs.List.{IsDistinct, remove}
 use Rattle.std.specs.Map.{keys_of}
 use Rattle.std.proofs.lemmas.List.{map-append, drop-map, drop_more, take_more, length-drop, length-map, get_or_append_left}
 use Rattle.std.proofs.lemmas.List.Elements.{filter-append}
+use Rattle.std.proofs.lemmas.List.Sums.{length-filter, count_by-le-length}
 use Rattle.std.proofs.lemmas.Option.{slice_get-get_or, slice_get_past}
 use Rattle.lhm_ring.proofs.lists.Options.{Some-injective}
 use Rattle.linked_hash_map.specs.LinkedMap.{LinkedMap}
@@ -83,6 +84,11 @@ module _ {K V : Type 0} {eq : K → K → Bool} (laws : IsEquivalence eq) (keeps
         ∙ append-nil (filter keeps w.passed)));
     left_is = next.behind;
   }
+
+-- there are no more than there were
+pub length-kept : {X : Type 0} (keeps : X → Bool) (passed rest : List X) → (filter keeps passed ++ rest ≡ filter keeps passed ++ rest)
+    × (length (filter keeps passed ++ rest) ≤ length (passed ++ rest))
+length-kept keeps passed rest = (refl, grind (arith, length-filter, count_by-le-length, length-append))
 
 -- the keys visited and those still to visit stay what they are at the start
 pub append-visited : {X : Type 0} (seen later : List X) {now left rest keys : List X} {pushed key : X} → now ≡ seen ++ pushed ∷ []

@@ -1,11 +1,11 @@
 -- For callers: a visit that takes some of the pairs out and writes the values of the others, step
 -- by step.
-use Rattle.std.proofs.Common.{◌≡◌, ℕ, Bool, true, false, cond, List, [], ◌∷◌, ◌++◌, length, map, slice_get, arith, option_map, Some, IfSome}
-use Rattle.std.proofs.Common.{filter, refl, sym, ap, subst, ◌∙◌, append_assoc}
+use Rattle.std.proofs.Common.{◌≡◌, ◌≤◌, ℕ, Bool, true, false, cond, List, [], ◌∷◌, ◌++◌, length, map, slice_get, arith, option_map, Some, IfSome}
+use Rattle.std.proofs.Common.{filter, refl, sym, ap, subst, ◌∙◌, append_assoc, length-append}
 use Rattle.std.specs.Cmp.{IsEquivalence}
 use Rattle.std.specs.List.{IsDistinct, remove}
 use Rattle.std.specs.Map.{keys_of}
-use Rattle.std.proofs.lemmas.List.{map-append}
+use Rattle.std.proofs.lemmas.List.{map-append, length-map}
 use Rattle.std.proofs.lemmas.List.Elements.{filter-append}
 use Rattle.lhm_ring.proofs.lists.Options.{Some-injective}
 use Rattle.linked_hash_map.specs.Indexes.{set_value_at}
@@ -13,7 +13,7 @@ use Rattle.linked_hash_map.specs.Pairs.{value_at, without, set_value}
 use Rattle.linked_hash_map.specs.Visits.{VisitMaps}
 use Rattle.linked_hash_map.proofs.pairs.Indexes.{find-own, without-own, set_value-own_at, set_value_at-append}
 use Rattle.lhm_ring.proofs.tables.Positions.{slice_get-append, remove-append}
-use Rattle.linked_hash_map.proofs.Callers.Visits.{Next, next_of}
+use Rattle.linked_hash_map.proofs.Callers.Visits.{Next, next_of, length-kept}
 use Rattle.lhm_ring.proofs.lists.Splits.{SplitFirst}
 
 module _ {K V : Type 0} {eq : K → K → Bool} (laws : IsEquivalence eq) {keeps : K × V → Bool} {change : K × V → V}
@@ -104,3 +104,9 @@ module _ {K V : Type 0} {eq : K → K → Bool} (laws : IsEquivalence eq) {keeps
   pub VisitMaps-removed : {pairs after : List (K × V)} → pairs ≡ now → {to_come_after : List K} → keeps (k, v) ≡ false
       → after ≡ without eq pairs k → to_come_after ≡ left → VisitMaps keeps change start after to_come_after
   VisitMaps-removed same gone removed stays = grind (arith, take_out, before)
+
+-- what a visit leaves is no more than there was
+pub length-changed : {X : Type 0} (keeps : X → Bool) (passed rest : List X) (change : X → X)
+    → (map change (filter keeps passed) ++ rest ≡ map change (filter keeps passed) ++ rest)
+    × (length (map change (filter keeps passed) ++ rest) ≤ length (passed ++ rest))
+length-changed keeps passed rest change = (refl, grind (arith, length-kept keeps passed rest, length-map, length-append))
