@@ -36,7 +36,7 @@ def uses_of(text):
 
 
 def copy_crates(root, folder, *left_out):
-    """Copies the crates of a repository, without what checks made, and folders that are left out."""
+    """Copies the crates of a repository, without what checks made and folders left out."""
     shutil.copytree(f"{root}/crates", f"{folder}/crates", ignore=shutil.ignore_patterns("out", *left_out))
     for name in ("crates.txt", "HANDLES"):
         shutil.copy(f"{root}/{name}", folder)
