@@ -78,9 +78,8 @@ impl<J: Eq + Hash> Queue<J> {
         self.jobs.truncate(most);
     }
 
-    /// Gives a job this weight, and returns the one that it had. One that waits already keeps its
-    /// place, and a new one is the last. If there is no memory for a new one, it is handed back and
-    /// nothing changes.
+    /// Gives a job this weight, in its place or as the last, and returns the one that it had. If
+    /// there is no memory for a new one, it is handed back and nothing changes.
     pub fn weigh(&mut self, job: J, weight: u64) -> Result<Option<u64>, Refused<J, u64>>
     where
         J: Drop,

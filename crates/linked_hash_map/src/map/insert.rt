@@ -105,10 +105,9 @@ impl<K: Eq + Hash, V, S: BuildHasher> LinkedHashMap<K, V, S> {
     /// Inserts a pair and returns the old value of its key, or `None` if the key is new, as
     /// [`insert`](LinkedHashMap::insert) does in [`Mode::Keep`]: in both modes the pair of a present
     /// key keeps its place and its stored key, and `key` is dropped; a new one goes to the back.
-    /// Hashes the key once.
     ///
-    /// It allocates, and is refused and hands back its pair, as `insert`. It is O(1), or up to O(n)
-    /// at full capacity. If the key is present, a visit ends.
+    /// It hashes the key once, ends a visit if it is present, and allocates, is refused and hands
+    /// back its pair as `insert` does. It is O(1), or up to O(n) at full capacity.
     ///
     /// # Examples
     ///
