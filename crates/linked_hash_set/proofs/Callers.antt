@@ -3,4 +3,5 @@
 pub mod Operations
 pub mod Removals
 pub mod Rules
+pub mod Texts
 pub mod Unions

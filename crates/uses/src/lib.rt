@@ -16,12 +16,13 @@ pub mod interner;
 pub mod layers;
 pub mod listing;
 pub mod loops;
+#[tactic(auto, using(linked_hash_set::proofs::Callers::Rules::text_items))]
 pub mod members;
 pub mod memo;
 pub mod memory;
 pub mod modes;
 pub mod numbered;
-#[tactic(auto, using(crate::proofs::OtherTexts::text_writes))]
+#[tactic(auto, using(linked_hash_map::proofs::Callers::Rules::text_lookups))]
 pub mod options;
 pub mod pages;
 pub mod parsed;

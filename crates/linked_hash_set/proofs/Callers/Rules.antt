@@ -7,6 +7,7 @@ use Rattle.linked_hash_set.specs.Items.{contains}
 use Rattle.linked_hash_set.specs.Operations.{difference, intersection, union, symmetric_difference}
 use Rattle.linked_hash_set.proofs.Callers.Operations.{contains-difference, contains-intersection, contains-union}
 use Rattle.linked_hash_set.proofs.Callers.Operations.{contains-symmetric_difference}
+use Rattle.linked_hash_set.proofs.Callers.Texts.{contains-by_item}
 use Rattle.linked_hash_set.proofs.Callers.Unions.{IsUniting, IsUniting-start, IsUniting-end, IsUniting-contains}
 
 module _ (xs ys : List ℕ) (q : ℕ) where
@@ -44,3 +45,6 @@ pub ruleset set_operations = (
   IsUniting-end,
   uniting-contains,
 )
+
+-- which texts are in a set of strings after each call
+pub ruleset text_items = (contains-by_item)

@@ -1,7 +1,7 @@
 use Rattle.std.proofs.Common.{arith}
-use Rattle.uses.proofs.OtherTexts.{without-push}
+use Rattle.linked_hash_set.proofs.Callers.Texts.{without-push_text}
 use Rattle.uses.proofs.members.Members.rename.Goals as goal
 
 pub returns-clause-renamed : goal.returns-clause-renamed
-returns-clause-renamed c = let old = c.args.self.now.names.items in
-    let stays = without-push old c.args.name.now c.args.to (grind arith) (grind arith) in grind (arith, stays)
+returns-clause-renamed c =
+    let stays = without-push_text c.args.self.now.names.items c.args.name.now in grind (arith, stays)
