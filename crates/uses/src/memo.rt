@@ -1,12 +1,12 @@
 //! Results of a function, each computed once while the cache has it.
-ghost use Rattle.std.specs.Prelude.{◌≡◌, ◌≤◌, ℕ, List, [], false, length, Some, IsSome, IsTrue, None, IfOk, IfSome, nat_eq};
+ghost use Rattle.std.specs.Prelude.{◌≡◌, ◌≤◌, ℕ, List, [], false, length, Some, IsSome, IsTrue, None, IfOk, IfErr, IfSome, OnOk, OnErr, nat_eq};
 ghost use Rattle.linked_hash_map.specs.Clones.{AreClones};
 ghost use Rattle.linked_hash_map.specs.Inserts.{insert_each};
-ghost use Rattle.linked_hash_map.specs.Pairs.{value_at, to_back_as_is};
-ghost use Rattle.lru_cache.specs.Cache.{IsValidCache};
+ghost use Rattle.linked_hash_map.specs.Pairs.{find, first, last, value_at, to_back_as_is, without};
+ghost use Rattle.lru_cache.specs.Cache.{gone, inserted, IsValidCache};
 
 use linked_hash_map::Mode;
-use lru_cache::LruCache;
+use lru_cache::{LruCache, Refused};
 use std::alloc::{AllocError, Global};
 use std::hash::{BuildHasher, Hash};
 
@@ -67,6 +67,22 @@ impl<F: Function> Memo<F> {
         self.results.peek(&number).copied()
     }
 
+    /// Returns the number that was asked for least recently of those stored, with its result.
+    pub fn oldest(&self) -> Option<(u64, u64)>
+        ensures oldest { result ≡ first self.now.results.pairs }
+    {
+        let (number, result) = self.results.peek_lru()?;
+        Some((*number, *result))
+    }
+
+    /// Returns the number that was asked for last of those stored, with its result.
+    pub fn latest(&self) -> Option<(u64, u64)>
+        ensures latest { result ≡ last self.now.results.pairs }
+    {
+        let (number, result) = self.results.peek_mru()?;
+        Some((*number, *result))
+    }
+
     /// Forgets the result for a number.
     pub fn forget(&mut self, number: u64)
         ensures gone { value_at nat_eq self.new.results.pairs number ≡ None }
@@ -108,4 +124,28 @@ pub fn copy_of<K: Eq + Hash + Clone, V: Clone, S: BuildHasher + Clone>(
     ensures valid { IfOk result (IsValidCache K.eq) }
 {
     cache.clone()
+}
+
+/// Moves the pair of a key, if present, from one cache to another, as the one used last there.
+/// Returns the pair that goes for it. A pair that is refused is handed back.
+pub fn move_pair<K: Eq + Hash + Drop, V: Drop, S: BuildHasher>(
+    from: &mut LruCache<K, V, S>,
+    to: &mut LruCache<K, V, S>,
+    key: &K,
+) -> Result<Option<(K, V)>, Refused<K, V>>
+    ensures taken { from.new.pairs ≡ without K.eq from.old.pairs key.now }
+    ensures here { OnOk result (IfSome (find K.eq from.old.pairs key.now) (λ pair.
+        to.new.pairs ≡ inserted K.eq to.old.limit to.old.pairs pair.0 pair.1)) }
+    ensures gone { IfOk result (λ left. IfSome (find K.eq from.old.pairs key.now) (λ pair.
+        left ≡ gone K.eq to.old.limit to.old.pairs pair.0 pair.1)) }
+    ensures absent { find K.eq from.old.pairs key.now ≡ None → to.new ≡ to.old }
+
+    ensures handed_back { IfErr result (λ refused.
+        find K.eq from.old.pairs key.now ≡ Some (refused.key, refused.value)) }
+    ensures unchanged { OnErr result (to.new ≡ to.old) }
+{
+    let Some((key, value)) = from.remove_entry(key) else {
+        return Ok(None);
+    };
+    to.put(key, value)
 }
