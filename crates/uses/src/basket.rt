@@ -41,7 +41,7 @@ impl Basket {
 
     /// Takes all articles of another basket, which is empty then. If none of them is here, they
     /// stand behind those that are. If there is no memory for all, nothing changes.
-    #[tactic(auto, using(crate::proofs::Moved::inserted_numbers))]
+    #[tactic(auto, using(linked_hash_map::proofs::Callers::NumberRules::appended))]
     pub fn merge(&mut self, other: &mut Basket) -> Result<(), ReserveError>
         ensures joined { OnOk result
             (All (λ pair. find nat_eq self.old.prices.pairs pair.0 ≡ None) other.old.prices.pairs

@@ -58,6 +58,7 @@ impl Bids {
     }
 
     /// Takes a fee off each bid, drops those that it uses up, and returns how many these are.
+    #[tactic(auto, using(linked_hash_map::proofs::Callers::NumberRules::number_changes))]
     pub fn charge(&mut self, fee: u64) -> usize
         ensures left { self.new.amounts.pairs ≡ map (λ bid. (bid.0, bid.1 - fee))
             (filter (λ bid. nat_lt fee bid.1) self.old.amounts.pairs) }

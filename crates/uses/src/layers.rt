@@ -25,6 +25,7 @@ impl Layers {
     }
 
     /// Draws a layer below all others, with this opacity, also if it is there already.
+    #[tactic(auto, using(linked_hash_map::proofs::Callers::Rules::front_keys))]
     pub fn add_below(&mut self, layer: u64, opacity: u64) -> Result<(), Refused<u64, u64>>
         ensures order { OnOk result (keys_of self.new.opacities.pairs
             ≡ layer ∷ filter (λ other. not (layer == other)) (keys_of self.old.opacities.pairs)) }
@@ -51,7 +52,7 @@ impl Layers {
     }
 
     /// Draws a layer right over another, which is higher, and returns whether both are there.
-    #[tactic(auto, using(crate::proofs::Moved::moved_number))]
+    #[tactic(auto, using(linked_hash_map::proofs::Callers::NumberRules::across))]
     pub fn raise_over(&mut self, layer: u64, other: u64) -> bool
         ensures both { result ≡ (is_some (find nat_eq self.old.opacities.pairs layer)
             && is_some (find nat_eq self.old.opacities.pairs other)) }
@@ -68,6 +69,7 @@ impl Layers {
     }
 
     /// Sets the opacity of a layer, and returns whether it is there. No layer moves.
+    #[tactic(auto, using(linked_hash_map::proofs::Callers::NumberRules::written))]
     pub fn fade(&mut self, layer: u64, opacity: u64) -> bool
         ensures there { result ≡ is_some (find nat_eq self.old.opacities.pairs layer) }
         ensures faded { self.new.opacities.pairs
