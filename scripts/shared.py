@@ -35,6 +35,14 @@ def uses_of(text):
     return {name: used.split() for name, used in re.findall(r"(?m)^(\w+):([^#\n]*)", text)}
 
 
+def all_below(uses, crate):
+    """Returns what a crate uses, and all that these use, with the libraries of the kit."""
+    below = list(uses[crate])
+    for name in below:
+        below += [it for it in uses.get(name, []) if it not in below]
+    return below
+
+
 def copy_crates(root, folder, *left_out):
     """Copies the crates of a repository, without what checks made and folders left out."""
     shutil.copytree(f"{root}/crates", f"{folder}/crates", ignore=shutil.ignore_patterns("out", *left_out))

@@ -1,12 +1,9 @@
 -- The distinct lines, as one line after another comes.
-use Rattle.std.proofs.Common.{ℕ, zero, suc, ◌≡◌, ◌+◌, ◌-◌, ◌<◌, ◌≤◌, Bool, true, false, cond, not, ◌||◌, List, [], ◌∷◌, ◌++◌, length, take}
-use Rattle.std.proofs.Common.{drop, filter, Option, None, Some, refl, sym, ap, ap₂, ◌∙◌, subst, arith, append_assoc, true≢false}
-use Rattle.std.specs.Str.{bytes_eq}
-use Rattle.std.specs.Cmp.Lexicographic.{bytes_decides}
-use Rattle.std.proofs.lemmas.Cmp.{nat_list_eq_equiv}
+use Rattle.std.proofs.Common.{ℕ, zero, suc, ◌≡◌, ◌+◌, ◌-◌, ◌≤◌, Bool, true, false, cond, not, ◌||◌, List, [], ◌∷◌, ◌++◌, length, take, drop}
+use Rattle.std.proofs.Common.{filter, Option, None, Some, refl, sym, ap, ap₂, ◌∙◌, arith, append_assoc}
 use Rattle.std.proofs.lemmas.List.{take-append-drop, length-append, length-drop, append-nil}
-use Rattle.std.proofs.lemmas.List.Elements.{filter-append}
-use Rattle.std.proofs.lemmas.List.Filters.{length-filter_both}
+use Rattle.std.proofs.lemmas.{Cmp.nat_list_eq_equiv, List.Elements.filter-append, List.Filters.length-filter_both}
+use Rattle.std.specs.{Str.bytes_eq, Cmp.Lexicographic.bytes_decides}
 use Rattle.dedup_lines.specs.Kept.{has_line, last_appearances, last_lines, distinct_lines, unless_among, new_lines}
 use Rattle.dedup_lines.specs.Push.{to_back, trimmed}
 

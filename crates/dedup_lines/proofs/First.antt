@@ -1,9 +1,8 @@
 -- The first line of bytes.
-use Rattle.std.proofs.Common.{ℕ, zero, suc, ◌≡◌, ◌<◌, ◌-◌, ◌==◌, Bool, true, false, cond, ◌&&◌, List, [], ◌∷◌, ◌++◌, length, take, Option}
-use Rattle.std.proofs.Common.{None, Some, refl, sym, ap, ◌∙◌, subst, arith}
+use Rattle.std.proofs.Common.{ℕ, suc, ◌≡◌, ◌<◌, ◌-◌, ◌==◌, Bool, true, false, cond, List, [], ◌∷◌, length, take, Option, None, Some, refl}
+use Rattle.std.proofs.{Common.sym, Common.ap, Common.◌∙◌, Common.subst, Common.arith, lemmas.Bool.lt-ltb}
 use Rattle.std.specs.Prelude.{slice_index, nat_lt, IfSome}
 use Rattle.std.specs.Io.BufRead.{take_through, drop_through, strip_last, DropsThrough}
-use Rattle.std.proofs.lemmas.Bool.{lt-ltb}
 use Rattle.dedup_lines.specs.Lines.{lines_of, onto_first, TakesLines}
 
 strip_last-cons : (b : ℕ) (bs : List ℕ) → 0 < length bs → strip_last 10 (b ∷ bs) ≡ b ∷ strip_last 10 bs

@@ -1,14 +1,11 @@
 -- One pass over the lines of an input.
 use Rattle.std.proofs.Common.{ℕ, zero, suc, ◌-◌, ◌≡◌, Bool, true, false, cond, not, List, [], ◌∷◌, ◌++◌, drop, Option, None, Some, Result}
 use Rattle.std.proofs.Common.{Ok, Err, refl, sym, ap, ◌∙◌, subst, append_assoc, true≢false}
-use Rattle.std.specs.Prelude.{IfSome, OnOk}
-use Rattle.std.specs.Io.KnownBytes.{Appends, IsAtEnd}
-use Rattle.std.proofs.lemmas.List.{append-nil}
-use Rattle.std.proofs.lemmas.List.Concat.{flat_map-append}
-use Rattle.dedup_lines.specs.declared.keep.Keep.TheVariants.{First}
+use Rattle.std.proofs.lemmas.{List.append-nil, List.Concat.flat_map-append}
+use Rattle.std.specs.{Prelude.IfSome, Prelude.OnOk, Io.KnownBytes.Appends, Io.KnownBytes.IsAtEnd}
 use Rattle.dedup_lines.specs.Kept.{has_line, last_appearances, distinct_lines, unless_among, new_lines, kept_lines}
 use Rattle.dedup_lines.specs.Lines.{lines_of, text_of, TakesLines}
-use Rattle.dedup_lines.specs.Push.{to_back, trimmed}
+use Rattle.dedup_lines.specs.{declared.keep.Keep.TheVariants.First, Push.to_back, Push.trimmed}
 use Rattle.dedup_lines.proofs.Distinct.{distinct_lines-push, new_lines-push, new_lines-distinct}
 
 TakesLines-nil : (known : Option (List ℕ)) → TakesLines known known []

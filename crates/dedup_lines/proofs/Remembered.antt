@@ -1,15 +1,10 @@
 -- The remembered lines, as items of a set.
-use Rattle.std.proofs.Common.{ℕ, ◌≡◌, ◌+◌, ◌-◌, ◌<◌, ◌≤◌, Bool, true, false, cond, not, ◌||◌, List, [], ◌∷◌, ◌++◌, length, map, drop}
-use Rattle.std.proofs.Common.{filter, Option, None, Some, unwrap_or, refl, sym, ap, ap₂, ◌∙◌, subst, arith, true≢false}
-use Rattle.std.specs.Prelude.{Vec, option_to_list}
-use Rattle.std.specs.Option.{ForSome}
-use Rattle.std.specs.List.{list_any, find}
-use Rattle.std.specs.Str.{bytes_eq}
-use Rattle.std.specs.Cmp.Lexicographic.{bytes_decides}
-use Rattle.std.specs.declared.alloc.Global.{Global}
+use Rattle.std.proofs.Common.{ℕ, ◌≡◌, ◌+◌, ◌-◌, ◌≤◌, Bool, true, false, cond, not, ◌||◌, List, [], ◌∷◌, ◌++◌, length, drop, filter, Option}
+use Rattle.std.proofs.Common.{None, Some, unwrap_or, refl, sym, ap, ap₂, ◌∙◌, arith, true≢false}
 use Rattle.std.proofs.lemmas.List.{map-append, length-map, drop-map}
-use Rattle.dedup_lines.specs.Kept.{has_line, last_lines}
-use Rattle.dedup_lines.specs.Push.{bytes_of, to_back, trimmed}
+use Rattle.std.specs.{Prelude.Vec, Prelude.option_to_list, Option.ForSome, List.list_any, List.find, Str.bytes_eq}
+use Rattle.std.specs.{Cmp.Lexicographic.bytes_decides, declared.alloc.Global.Global}
+use Rattle.dedup_lines.specs.{Kept.has_line, Kept.last_lines, Push.bytes_of, Push.to_back, Push.trimmed}
 use Rattle.dedup_lines.proofs.Distinct.{others, last_lines-all}
 
 -- items that are found by a line

@@ -1,11 +1,9 @@
 -- What the arguments say.
-use Rattle.std.proofs.Common.{ℕ, ◌≡◌, ◌+◌, ◌<◌, ◌≤◌, ◌^◌, List, [], ◌∷◌, length, get_or, refl, sym, ap, ap₂, ◌∙◌, subst, arith}
-use Rattle.std.specs.Prelude.{String, string_bytes}
+use Rattle.std.proofs.Common.{ℕ, ◌≡◌, ◌<◌, ◌≤◌, ◌^◌, List, [], ◌∷◌, length, get_or, sym, ap, ap₂, subst, arith}
 use Rattle.std.specs.Str.Parse.{IsNumeral, digits_value, without_leading_plus}
-use Rattle.std.specs.declared.alloc.Global.{Global}
-use Rattle.dedup_lines.specs.declared.keep.Keep.{Keep}
+use Rattle.std.specs.{Prelude.String, Prelude.string_bytes, declared.alloc.Global.Global}
 use Rattle.dedup_lines.specs.declared.keep.Keep.TheVariants.{First, Last, Window}
-use Rattle.dedup_lines.specs.Arguments.{SayKeep, SayNothing, SpellsNumber, texts}
+use Rattle.dedup_lines.specs.Arguments.{SayNothing, SpellsNumber, texts}
 
 pub texts-one : (arguments : List (String Global)) (a : String Global) → 1 ≤ length arguments → length arguments < 2
     → a ≡ get_or arguments 0 a → texts arguments ≡ string_bytes a ∷ []

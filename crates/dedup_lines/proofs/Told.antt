@@ -1,9 +1,7 @@
 -- What is told, and the help.
 use Rattle.std.proofs.Common.{ℕ, List, [], ◌∷◌, ◌++◌, Option, None, Some, Result, Ok, Err, ◌∙◌}
-use Rattle.std.specs.Prelude.{OnOk}
-use Rattle.std.specs.Io.KnownBytes.{Appends, Keeps}
-use Rattle.dedup_lines.specs.Stop.{TellsCause}
-use Rattle.dedup_lines.proofs.Passes.{Appends-append}
+use Rattle.std.specs.{Prelude.OnOk, Io.KnownBytes.Appends, Io.KnownBytes.Keeps}
+use Rattle.dedup_lines.{specs.Stop.TellsCause, proofs.Passes.Appends-append}
 
 Appends-keeps : (old now next : Option (List ℕ)) (bytes : List ℕ) → Appends old now bytes → Keeps now next → Appends old next bytes
 Appends-keeps None now next bytes written kept = tt

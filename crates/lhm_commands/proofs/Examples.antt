@@ -1,12 +1,9 @@
 -- The definitions, computed on short texts.
 use Rattle.std.proofs.Common.{◌≡◌, [], ◌∷◌, ◌++◌, refl}
-use Rattle.std.specs.Prelude.{codes}
-use Rattle.std.specs.Fmt.{digits}
+use Rattle.std.specs.{Prelude.codes, Fmt.digits}
 use Rattle.linked_hash_map.specs.declared.replay.Answer.TheVariants.{New, Old, Missing, Refused}
-use Rattle.lhm_commands.specs.declared.stop.Stop.TheVariants.{NotACommand}
-use Rattle.lhm_commands.specs.Grammar.{lines_of, words_of}
-use Rattle.lhm_commands.specs.Text.{reply_text, list_text}
-use Rattle.lhm_commands.specs.Stop.{stop_text}
+use Rattle.lhm_commands.specs.{declared.stop.Stop.TheVariants.NotACommand, Grammar.lines_of, Grammar.words_of, Text.reply_text}
+use Rattle.lhm_commands.specs.{Text.list_text, Stop.stop_text}
 
 -- blank lines count, and bytes after the last newline are a line
 lines_of-unended : lines_of (codes "a" ++ 10 ∷ 10 ∷ codes "bc") ≡ codes "a" ∷ [] ∷ codes "bc" ∷ []

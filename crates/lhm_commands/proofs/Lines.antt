@@ -1,8 +1,7 @@
 -- Lines and the commands that they say.
 use Rattle.std.proofs.Common.{ℕ, ◌≡◌, ◌+◌, List, [], ◌∷◌, refl, ap, inl, inr, map, arith}
-use Rattle.std.specs.Prelude.{All, filter}
-use Rattle.std.specs.List.{AllZip}
 use Rattle.std.proofs.lemmas.List.Elements.{All-nil, All-cons}
+use Rattle.std.specs.{Prelude.All, Prelude.filter, List.AllZip}
 use Rattle.linked_hash_map.specs.declared.replay.Command.{Command}
 use Rattle.lhm_commands.specs.Grammar.{words_of}
 use Rattle.lhm_commands.specs.Commands.{IsSaidBy, has_word, AreCommandsOf, IsValid, IsInvalid, IsFirstInvalid}

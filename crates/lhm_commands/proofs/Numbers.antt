@@ -1,10 +1,8 @@
 -- reading a number digit by digit
 use Rattle.std.proofs.Common.{ℕ, ◌<◌, ◌≤◌, ◌≡◌, ◌+◌, ◌*◌, ◌^◌, List, length, take, get_or, arith, lit≤}
-use Rattle.std.specs.Int.{IsInRange, IsOutOfRange}
-use Rattle.std.specs.Str.Parse.{digits_value}
-use Rattle.std.proofs.lemmas.Str.{digit_value_digit}
 use Rattle.std.proofs.lemmas.Str.Parse.{digit_at, digits_value-take-le, tells_by_index, numerals_by_value}
-use Rattle.std.proofs.lemmas.Int.Digits.{digits_value_more}
+use Rattle.std.proofs.lemmas.{Str.digit_value_digit, Int.Digits.digits_value_more}
+use Rattle.std.specs.{Int.IsInRange, Int.IsOutOfRange, Str.Parse.digits_value}
 use Rattle.lhm_commands.specs.Grammar.{IsNumber}
 
 -- a byte that is no digit

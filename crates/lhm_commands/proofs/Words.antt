@@ -1,7 +1,6 @@
 -- Words that spell numbers.
 use Rattle.std.proofs.Common.{ℕ, ◌≡◌, ◌≢◌, ◌<◌, List, [], ◌∷◌, length, refl, sym, ap, ◌∙◌, arith}
-use Rattle.lhm_commands.specs.Grammar.{SpellsNumber}
-use Rattle.lhm_commands.specs.Commands.{SpellNumbers, StartWithNumber, numbers_of}
+use Rattle.lhm_commands.specs.{Grammar.SpellsNumber, Commands.SpellNumbers, Commands.StartWithNumber, Commands.numbers_of}
 
 -- one number more
 pub SpellNumbers-cons : (words others : List (List ℕ)) (n : ℕ) (ns : List ℕ) → StartWithNumber words n others

@@ -1,8 +1,7 @@
 -- `get_or_insert` and `get_or_insert_with` insert by a first call, and hand on what `back_or` returns:
 -- what is said of them follows from what the two calls say.
 use mathlib.Core.Option as maybe
-use mathlib.Core.Path.{subst}
-use mathlib.Core.List.{List, [], ◌∷◌, ◌++◌}
+use mathlib.Core.{Path.subst, List.List, List.[], List.◌∷◌, List.◌++◌}
 use Prim.Native.Nat.{ℕ}
 use seplogic.Ra.Ura.{Ura}
 use base.Fraction.{full_share}
@@ -13,8 +12,8 @@ use contract.BorrowLft.{meet_⊑_left}
 use mir.Syntax.{Lifetime}
 use mir.Val.{Val, vptr}
 use types.Logic.{Logic, sem}
-use types.Kit.{‵, raw, ◌⊛◌, later, await, ◌$◌, ◌∵◌, !, qed, move, keep, drop, use0, use1, use2, use3, rewrite, split, join}
-use types.Kit.{fsplit, fjoin, fpick, fpack, feq_i, assume, suffices, updating, now, done}
+use types.Kit.{‵, raw, ◌⊛◌, later, await, ◌$◌, ◌∵◌, !, qed, move, keep, drop, use0, use1, use2, use3, rewrite, split, join, fsplit, fjoin}
+use types.Kit.{fpick, fpack, feq_i, assume, suffices, updating, now, done}
 use types.SemTy.{Body}
 use types.Tokens.{bor_open, res_agree}
 use borrow.Table.Lending.{lending, out_of_lem, lends_late}
@@ -27,11 +26,9 @@ use denote.Shares.{Shares}
 use denote.Steps.{only}
 use denote.Struct.Members.{Lone}
 use Rattle.std.proofs.Common.{◌≡◌, refl, sym, ap, rules}
-use Rattle.std.specs.Prelude.{⊤, unwrap_or, OnErr, Option, Some, None, Result}
-use Rattle.std.specs.Prelude.{Ok, Err, IfSome, IfNone, IfOk, IfErr, MatchResult, length}
+use Rattle.std.specs.Prelude.{⊤, unwrap_or, OnErr, Option, Some, None, Result, Ok, Err, IfSome, IfNone, IfOk, IfErr, MatchResult, length}
 use Rattle.linked_hash_map.specs.Pairs.{last}
-use Rattle.linked_hash_set.specs.LinkedSet.{LinkedSet}
-use Rattle.linked_hash_set.specs.declared.error.Refused.{Refused}
+use Rattle.linked_hash_set.specs.{LinkedSet.LinkedSet, declared.error.Refused.Refused}
 
 pub Lone-is : (vs : List Val) → Lone vs → vs ≡ only vs ∷ []
 Lone-is [] l = absurd l

@@ -1,13 +1,9 @@
 -- A sort of the items: the map's sort, by a comparison of two keys.
 use denote.Param.Always.{always_mut, mut_by, mut_next}
 use Rattle.std.proofs.Common.{◌≡◌, ◌+◌, ◌<◌, Bool, List, [], ◌∷◌, length, Bor, filter, refl, sym, ap, ap₂, ◌∙◌, arith}
-use Rattle.std.specs.Cmp.{IsStrictWeakOrder}
-use Rattle.std.specs.Fn.{Mut, Called, CalledAt, CalledAtTwo, ComparesAs, ComputesKey}
-use Rattle.std.specs.List.Sorted.{IsSortedBy, IsStableBy, ties}
-use Rattle.std.specs.Map.{keys_of}
-use Rattle.std.proofs.lemmas.List.{get_or-map, length-map}
-use Rattle.std.specs.declared.cmp.Ordering.{Ordering}
-use Rattle.std.proofs.lemmas.Fn.{answers_by}
+use Rattle.std.proofs.lemmas.{List.get_or-map, List.length-map, Fn.answers_by}
+use Rattle.std.specs.{Cmp.IsStrictWeakOrder, Fn.Mut, Fn.Called, Fn.CalledAt, Fn.CalledAtTwo, Fn.ComparesAs, Fn.ComputesKey}
+use Rattle.std.specs.{List.Sorted.IsSortedBy, List.Sorted.IsStableBy, List.Sorted.ties, Map.keys_of, declared.cmp.Ordering.Ordering}
 use Rattle.linked_hash_map.specs.Sort.{ComparesPairsAs, ComputesFromPair}
 
 -- what a comparison of two pairs takes

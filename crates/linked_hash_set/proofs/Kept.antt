@@ -1,20 +1,14 @@
 -- The items of a set are the keys of its map.
-use Rattle.std.proofs.Common.{◌≡◌, ℕ, ◌+◌, Bool, true, cond, not, ◌||◌, List, [], ◌∷◌, ◌++◌, length, take, drop, reverse}
-use Rattle.std.proofs.Common.{flat_map, is_some, option_map, option_to_list, append-nil, refl, sym, ap, ap₂, ◌∙◌, arith}
-use Rattle.std.specs.Cmp.{IsEquivalence}
-use Rattle.std.specs.Cmp.Lexicographic.{pointwise}
-use Rattle.std.specs.List.{list_any}
-use Rattle.std.specs.Map.{keys_of, lookup_entry}
+use Rattle.std.proofs.Common.{◌≡◌, ℕ, ◌+◌, Bool, true, cond, not, ◌||◌, List, [], ◌∷◌, ◌++◌, length, take, drop, reverse, flat_map, is_some}
+use Rattle.std.proofs.Common.{option_map, option_to_list, append-nil, refl, sym, ap, ap₂, ◌∙◌, arith}
 use Rattle.std.proofs.lemmas.List.{length-map, map-append, take-map, drop-map}
+use Rattle.std.specs.{Cmp.IsEquivalence, Cmp.Lexicographic.pointwise, List.list_any, Map.keys_of, Map.lookup_entry}
 use Rattle.linked_hash_map.specs.Comparison.{same_pair, pair_writes}
 use Rattle.linked_hash_map.specs.Inserts as inserts
 use Rattle.linked_hash_map.specs.Pairs as pairs
-use Rattle.linked_hash_map.specs.declared.map.Mode.{Mode}
-use Rattle.linked_hash_map.specs.declared.map.Mode.TheVariants.{Touch}
-use Rattle.linked_hash_map.proofs.Callers.Collected.{is_some-insert_each}
+use Rattle.linked_hash_map.specs.declared.map.{Mode.Mode, Mode.TheVariants.Touch}
 use Rattle.linked_hash_map.proofs.Callers.Keys.{keys_of-set_or_push, keys_of-without_last, keys_of-to_back, key_or-find, is_some-find}
-use Rattle.linked_hash_map.proofs.Callers.Lookups.{last-append}
-use Rattle.linked_hash_map.proofs.Callers.Permuted.{keys_of-reverse}
+use Rattle.linked_hash_map.proofs.Callers.{Collected.is_some-insert_each, Lookups.last-append, Permuted.keys_of-reverse}
 use Rattle.linked_hash_set.specs.Inserts.{insert_each}
 use Rattle.linked_hash_set.specs.Items.{contains, find, without, from, count_before, to_behind, to_before, to_after}
 

@@ -1,18 +1,13 @@
 -- What a cache has at a key after a call that may take pairs away.
 use Rattle.std.proofs.Common.{◌≡◌, ◌⊎◌, inl, inr, ℕ, zero, suc, ◌+◌, ◌-◌, ◌<◌, ◌≤◌, Bool, true, false, cond, List, [], ◌∷◌, ◌++◌, length}
 use Rattle.std.proofs.Common.{drop, option_map, Some, None, refl, sym, ap, ◌∙◌, subst, arith, length-append, drop_of_length-le}
-use Rattle.std.specs.Cmp.{IsEquivalence}
-use Rattle.std.specs.List.{IsDistinct}
-use Rattle.std.specs.Map.{keys_of}
-use Rattle.std.specs.Option.{IsSome, option_or}
 use Rattle.std.proofs.lemmas.Map.Keys.{IsDistinct-tail}
-use Rattle.linked_hash_map.specs.declared.map.Mode.TheVariants.{Touch}
+use Rattle.std.specs.{Cmp.IsEquivalence, List.IsDistinct, Map.keys_of, Option.IsSome, Option.option_or}
 use Rattle.linked_hash_map.specs.Pairs.{last, without_first, key_or, find, value_at, without, to_back}
-use Rattle.linked_hash_map.specs.Updates.{Updates}
+use Rattle.linked_hash_map.specs.{declared.map.Mode.TheVariants.Touch, Updates.Updates}
 use Rattle.linked_hash_map.proofs.Callers.Keys.{find-drop, distinct-to_back, length-put_most, length-to_back_present}
 use Rattle.linked_hash_map.proofs.Callers.Lookups.{last-append, lookup_entry-append, eq-stored, find-without_here, value_at-put_apart}
-use Rattle.linked_hash_map.proofs.Callers.Turns.{find-others}
-use Rattle.linked_hash_map.proofs.Callers.Updates.{Updates-put}
+use Rattle.linked_hash_map.proofs.Callers.{Turns.find-others, Updates.Updates-put}
 use Rattle.lru_cache.specs.Cache.{newest, inserted, SameOrNone}
 
 -- the last n of a list that ends in x

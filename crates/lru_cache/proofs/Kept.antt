@@ -1,10 +1,8 @@
 -- A cache, by the map that keeps it.
 use Rattle.std.proofs.Common.{◌≡◌, ℕ, ◌≤◌, Bool, List, length, refl, arith}
-use Rattle.linked_hash_map.specs.LinkedMap.{LinkedMap}
-use Rattle.linked_hash_map.specs.Validity.{IsValid}
+use Rattle.linked_hash_map.specs.{LinkedMap.LinkedMap, Validity.IsValid}
 use Rattle.linked_hash_map.specs.Clones as of_map
-use Rattle.lru_cache.specs.Cache.{cache, IsValidCache}
-use Rattle.lru_cache.specs.Clones.{IsClone}
+use Rattle.lru_cache.specs.{Cache.cache, Cache.IsValidCache, Clones.IsClone}
 
 module _ {K V S : Type 0} (eq : K → K → Bool) where
   -- as many pairs as before, in a valid map

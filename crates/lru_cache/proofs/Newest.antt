@@ -1,7 +1,6 @@
 -- The last n of a list, and insertions one after another.
 use Rattle.std.proofs.Common.{◌≡◌, ℕ, suc, ◌-◌, ◌<◌, Bool, List, [], ◌∷◌, ◌++◌, length, drop, refl, arith}
-use Rattle.lru_cache.specs.Cache.{newest, inserted}
-use Rattle.lru_cache.specs.Extension.{insert_each}
+use Rattle.lru_cache.specs.{Cache.newest, Cache.inserted, Extension.insert_each}
 
 -- the first goes, if there are more than n
 pub newest-drop : {X : Type 0} (n : ℕ) (xs : List X) → n < length xs → newest n (drop 1 xs) ≡ newest n xs

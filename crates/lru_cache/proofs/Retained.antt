@@ -1,10 +1,7 @@
 -- The keys that stay are some of the keys before.
 use Rattle.std.proofs.Common.{◌≡◌, inl, inr, Bool, true, false, ◌||◌, List, [], ◌∷◌, None, is_some, refl, sym, ap, ◌∙◌, true≢false}
-use Rattle.std.specs.List.{list_any}
-use Rattle.std.specs.Map.{keys_of}
-use Rattle.linked_hash_map.specs.Pairs.{find}
-use Rattle.linked_hash_map.specs.Retains.{IsSublist}
-use Rattle.linked_hash_map.proofs.Callers.Keys.{find-absent, is_some-find}
+use Rattle.std.specs.{List.list_any, Map.keys_of}
+use Rattle.linked_hash_map.{specs.Pairs.find, specs.Retains.IsSublist, proofs.Callers.Keys.find-absent, proofs.Callers.Keys.is_some-find}
 
 list_any-sublist : {X : Type 0} (test : X → Bool) (xs ys : List X) → IsSublist xs ys → list_any test ys ≡ false
     → list_any test xs ≡ false

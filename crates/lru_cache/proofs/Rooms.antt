@@ -1,16 +1,10 @@
 -- The room of a cache after insertions.
-use Rattle.std.proofs.Common.{◌≡◌, inl, inr, ℕ, ◌<◌, ◌≤◌, max, Bool, List, [], ◌∷◌, ◌++◌, length, None}
-use Rattle.std.proofs.Common.{is_some, refl, sym, ap, ◌∙◌, true≢false, arith}
-use Rattle.std.specs.Cmp.{IsEquivalence}
-use Rattle.std.specs.List.{IsDistinct}
-use Rattle.std.specs.Map.{keys_of}
-use Rattle.std.specs.Option.{IsSome}
-use Rattle.linked_hash_map.specs.declared.map.Mode.TheVariants.{Touch}
-use Rattle.linked_hash_map.specs.Pairs.{find, to_back}
-use Rattle.linked_hash_map.proofs.Callers.Keys.{length-put_absent}
-use Rattle.linked_hash_map.proofs.Callers.Updates.{max-length_put}
-use Rattle.lru_cache.specs.Cache.{Cache, inserted, IsRoomAfter}
-use Rattle.lru_cache.specs.Extension.{insert_each, IsRoomAfterEach}
+use Rattle.std.proofs.Common.{◌≡◌, inl, inr, ℕ, ◌<◌, ◌≤◌, max, Bool, List, [], ◌∷◌, ◌++◌, length, None, is_some, refl, sym, ap, ◌∙◌}
+use Rattle.std.proofs.Common.{true≢false, arith}
+use Rattle.std.specs.{Cmp.IsEquivalence, List.IsDistinct, Map.keys_of, Option.IsSome}
+use Rattle.linked_hash_map.specs.{declared.map.Mode.TheVariants.Touch, Pairs.find, Pairs.to_back}
+use Rattle.linked_hash_map.proofs.Callers.{Keys.length-put_absent, Updates.max-length_put}
+use Rattle.lru_cache.specs.{Cache.Cache, Cache.inserted, Cache.IsRoomAfter, Extension.insert_each, Extension.IsRoomAfterEach}
 
 module _ {K V S : Type 0} (eq : K → K → Bool) (c : Cache K V S) (k : K) (room : ℕ) (same : room ≡ c.room) where
   -- of a present key

@@ -1,9 +1,6 @@
 -- Runs that go on by one command.
 use Rattle.std.proofs.Common.{Bool, List, [], ◌∷◌, ◌++◌, refl, subst}
-use Rattle.lru_cache.specs.Cache.{Cache}
-use Rattle.lru_cache.specs.declared.replay.Command.{Command}
-use Rattle.lru_cache.specs.declared.replay.Answer.{Answer}
-use Rattle.lru_cache.specs.Runs.{Steps, Runs}
+use Rattle.lru_cache.specs.{Cache.Cache, declared.replay.Command.Command, declared.replay.Answer.Answer, Runs.Steps, Runs.Runs}
 
 module _ {K V S : Type 0} (eq : K → K → Bool) (d e : Cache K V S) (command : Command K V) (answer : Answer K V)
     (step : Steps eq d command answer e) where

@@ -1,27 +1,19 @@
 -- The pairs of a cache are the last of the unlimited list, after each command.
 use Rattle.std.proofs.Common.{◌≡◌, ◌⊎◌, inl, inr, ℕ, zero, suc, ◌+◌, ◌-◌, ◌≤◌, Bool, true, false, cond, not, List, [], ◌∷◌, ◌++◌, length}
-use Rattle.std.proofs.Common.{take, drop, option_map}
-use Rattle.std.proofs.Common.{Option, Some, None, is_some, option_to_list, refl, sym, ap, ap₂, ◌∙◌, subst, true≢false, arith, length-append}
-use Rattle.std.proofs.Common.{append_assoc}
-use Rattle.std.specs.Cmp.{IsEquivalence}
-use Rattle.std.specs.List.{IsDistinct}
-use Rattle.std.specs.Map.{keys_of}
-use Rattle.std.specs.Option.{IsSome, option_or}
-use Rattle.std.proofs.lemmas.List.{take-append-drop, length-drop, drop_at}
-use Rattle.std.proofs.lemmas.List.Elements.{filter-append}
-use Rattle.std.proofs.lemmas.Map.Keys.{IsDistinct-tail, IsDistinct-push}
-use Rattle.std.proofs.lemmas.Map.Made.{IsDistinct-keys_filter}
+use Rattle.std.proofs.Common.{take, drop, option_map, Option, Some, None, is_some, option_to_list, refl, sym, ap, ap₂, ◌∙◌, subst}
+use Rattle.std.proofs.Common.{true≢false, arith, length-append, append_assoc}
+use Rattle.std.proofs.lemmas.{List.take-append-drop, List.length-drop, List.drop_at, List.Elements.filter-append, Map.Keys.IsDistinct-tail}
+use Rattle.std.proofs.lemmas.{Map.Keys.IsDistinct-push, Map.Made.IsDistinct-keys_filter}
+use Rattle.std.specs.{Cmp.IsEquivalence, List.IsDistinct, Map.keys_of, Option.IsSome, Option.option_or}
 use Rattle.linked_hash_map.specs.Pairs.{first, without_first, key_or, find, without, to_back, to_back_as_is}
 use Rattle.linked_hash_map.proofs.Callers.Keys.{is_some-find, find-absent, without-absent, to_back-absent, distinct-nil, distinct-to_back}
 use Rattle.linked_hash_map.proofs.Callers.Keys.{keys_of-append, length-to_back_present, length-without_present}
 use Rattle.linked_hash_map.proofs.Callers.Lookups.{lookup_entry-append, find-same, find-without_here, drop-first}
-use Rattle.linked_hash_map.proofs.Callers.Moves.{to_back_as_is-absent}
-use Rattle.linked_hash_map.proofs.Callers.Turns.{find-without_first}
+use Rattle.linked_hash_map.proofs.Callers.{Moves.to_back_as_is-absent, Turns.find-without_first}
 use Rattle.lru_cache.specs.Cache.{Cache, newest, inserted, IsValidCache}
-use Rattle.lru_cache.specs.declared.replay.Command.{Command}
 use Rattle.lru_cache.specs.declared.replay.Command.TheVariants.{Insert, Get, Remove, RemoveLru, SetCapacity, Clear}
-use Rattle.lru_cache.specs.declared.replay.Answer.{Answer}
 use Rattle.lru_cache.specs.declared.replay.Answer.TheVariants.{New, Found, Missing}
+use Rattle.lru_cache.specs.declared.replay.{Command.Command, Answer.Answer}
 use Rattle.lru_cache.specs.Runs.{old_or, pair_or_empty, limit_after, answer_to, pairs_after, Steps, Runs}
 use Rattle.lru_cache.specs.Unlimited.{removed_after, removed_after_all, unlimited_after, unlimited, HasNewest}
 

@@ -1,8 +1,7 @@
 -- The pair that is used is the last.
 use Rattle.std.proofs.Common.{◌≡◌, Bool, true, List, ◌++◌, Option, Some, None, is_some, option_to_list, true≢false, sym}
 use Rattle.linked_hash_map.specs.Pairs.{last, find, without, to_back_as_is}
-use Rattle.linked_hash_map.proofs.Callers.Lookups.{last-append}
-use Rattle.linked_hash_map.proofs.Callers.Moves.{to_back_as_is-absent}
+use Rattle.linked_hash_map.proofs.Callers.{Lookups.last-append, Moves.to_back_as_is-absent}
 
 pub last-to_back_as_is : {A K V : Type 0} (eq : A → K → Bool) (pairs : List (K × V)) (k : A)
     → is_some (find eq pairs k) ≡ true → last (to_back_as_is eq pairs k) ≡ find eq pairs k

@@ -1,5 +1,4 @@
-use Rattle.lhm_commands.specs.Grammar.{lines_of}
-use Rattle.lhm_commands.proofs.Lines.{AreCommandsOf-valid}
+use Rattle.lhm_commands.{specs.Grammar.lines_of, proofs.Lines.AreCommandsOf-valid}
 use Rattle.lhm.proofs.run_bytes.Goals as goal
 
 pub returns-in-Ok-write_output-clause-valid : goal.returns-in-Ok-write_output-clause-valid

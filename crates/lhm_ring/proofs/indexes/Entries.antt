@@ -1,13 +1,12 @@
 -- Nodes with no chain link: what a change of chain links alone leaves.
-use Rattle.std.proofs.Common.{◌≡◌, ℕ, List, [], ◌∷◌, ◌++◌, refl, sym, ◌∙◌, ap, Bool, Option, None}
-use Rattle.std.proofs.Common.{◌%◌, true, false, length, map, subst, eqb, arith}
-use denote.RawPtr.{Ptr}
+use Rattle.std.proofs.Common.{◌≡◌, ℕ, List, [], ◌∷◌, ◌++◌, refl, sym, ◌∙◌, ap, Bool, Option, None, ◌%◌, true, false, length, map, subst}
+use Rattle.std.proofs.{Common.eqb, Common.arith, lemmas.List.map-append, lemmas.List.length-map}
 use Rattle.std.specs.Prelude.{count_by}
-use Rattle.std.proofs.lemmas.List.{map-append, length-map}
 use Rattle.lhm_ring.proofs.lists.RearrangedCounts.{count_by-cons}
-use Rattle.lhm_ring.specs.Ring.{Held, IsHeld, AtHeld, linked_to, first_at, last_at, last_of, change_at, triples, SplitAt, revalued}
+use Rattle.lhm_ring.specs.Ring.{Held, IsHeld, AtHeld, linked_to, last_at, last_of, change_at, triples, SplitAt, revalued}
 use Rattle.lhm_ring.specs.Index.{OfNodeAt, entries, spot, spots, count_with_hash, count_in_bucket}
 use Rattle.lhm_ring.specs.Search.{HasKey, LacksKey, Compares, CountsSome, CountsAll}
+use denote.RawPtr.{Ptr}
 
 pub entries-link : {K V : Type 0} (before : List (Held (K × V))) (x : Held (K × V)) (after : List (Held (K × V))) (l : Option Ptr)
     → entries (before ++ linked_to l x ∷ after) ≡ entries (before ++ x ∷ after)
@@ -85,9 +84,6 @@ module _ {K V : Type 0} where
   pub triples-entries : (hs : List (Held (K × V))) → triples (entries hs) ≡ triples hs
   triples-entries [] = refl
   triples-entries (t ∷ hs) = ap (λ ts. (t.hash, t.pair) ∷ ts) (triples-entries hs)
-
-  pub first_at-entries : (hs : List (Held (K × V))) → first_at (entries hs) ≡ first_at hs
-  first_at-entries hs = grind arith
 
   last_of-entries : (t : Held (K × V)) (hs : List (Held (K × V))) → last_of (linked_to None t) (entries hs) ≡ last_of t hs
   last_of-entries t [] = refl

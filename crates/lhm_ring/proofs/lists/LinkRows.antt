@@ -1,7 +1,6 @@
 -- A row of links: it is cut in two and put together, and its pointers and contents are read.
 use Rattle.lhm_ring.proofs.Names.{List, [], ap, arith, length, refl, ◌++◌, ◌∙◌, ◌∷◌, ◌≡◌, AreLinked, AreNeighbours, follow, listed, Cell}
-use Rattle.lhm_ring.proofs.Names.{Links, Ptr}
-use Rattle.lhm_ring.proofs.lists.Last.{first_from, last_from}
+use Rattle.lhm_ring.proofs.{Names.Links, Names.Ptr, lists.Last.first_from, lists.Last.last_from}
 
 -- a row of links, cut before p
 pub record RowCut {B : Type 0} (cs : List (Cell Links B)) (x : Ptr) (xs : List Ptr) (p : Ptr) (ys : List Ptr) : Type 0 where

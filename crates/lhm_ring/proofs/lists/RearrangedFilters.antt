@@ -1,7 +1,6 @@
 -- An element is put in among those that pass a test.
 use Rattle.lhm_ring.proofs.Names.{Bool, List, [], ap, arith, cond, false, inl, inr, refl, true, ◌++◌, ◌∙◌, ◌∷◌, ◌≡◌, filter, IsRearranged}
-use Rattle.lhm_ring.proofs.Names.{PutsIn}
-use Rattle.lhm_ring.proofs.lists.Rearranged.{IsRearranged-member, PutsIn-there}
+use Rattle.lhm_ring.proofs.{Names.PutsIn, lists.Rearranged.IsRearranged-member, lists.Rearranged.PutsIn-there}
 
 pub PutsIn-filter_in : {X : Type 0} (p : X → Bool) (x : X) (xs ys : List X) → PutsIn x xs ys
     → p x ≡ true → PutsIn x (filter p xs) (filter p ys)

@@ -2,8 +2,7 @@
 use Rattle.lhm_ring.proofs.Names.{[], arith, refl, ℕ, ◌*◌, ◌+◌, ◌-◌, ◌∷◌, ◌≡◌, ◌≤◌, parts_own, as_raw, as_written, El, array_of, glued}
 use Rattle.lhm_ring.proofs.Names.{room_split, froom, fwand, SProp, apply∗, ent, sep, wand, layout, RattleType, block_ptr, room_for, Ty}
 use Rattle.lhm_ring.proofs.Names.{ty_array, Ura, !, assume, done, fjoin, frame, fsplit, move, qed, raw, split, use1, use2, ‵, ◌$◌, ◌∵◌, ◌⊛◌}
-use Rattle.lhm_ring.proofs.Names.{Logic, sem}
-use Rattle.lhm_ring.proofs.memory.Lodging.{element}
+use Rattle.lhm_ring.proofs.{Names.Logic, Names.sem, memory.Lodging.element}
 use Rattle.lhm_ring.specs.contracts.bucket_block.{Head.the_row as head, Word.the_row as word}
 use denote.Param.Laws.{Laws}
 use mir.Raw.{raw as bare}

@@ -1,6 +1,6 @@
 -- How many units a chunk takes, and how many bytes these have.
-use Rattle.lhm_ring.proofs.Names.{ap, arith, subst, suc, sym, zero, ℕ, ◌%◌, ◌*◌, ◌+◌, ◌/◌, ◌<◌, ◌^◌, ◌∙◌, ◌≡◌, ◌≤◌, one_below, add-mul}
-use Rattle.lhm_ring.proofs.Names.{div-add-mod', le-mul_of_pos_right, lt_of_le_of_lt, mul-zero, mul_assoc, suc-mul, zero-mul, capped_is}
+use Rattle.lhm_ring.proofs.Names.{ap, arith, subst, suc, sym, zero, ℕ, ◌*◌, ◌+◌, ◌/◌, ◌<◌, ◌^◌, ◌∙◌, ◌≡◌, ◌≤◌, one_below, add-mul}
+use Rattle.lhm_ring.proofs.Names.{le-mul_of_pos_right, lt_of_le_of_lt, mul-zero, mul_assoc, suc-mul, zero-mul, capped_is}
 use Rattle.lhm_ring.proofs.Names.{capped_small, capped}
 
 -- so many units have the bytes of a head and n nodes
@@ -16,9 +16,6 @@ pub factor-some : (x y k : ℕ) → x * y ≡ k → 0 < k → 0 < y
 factor-some zero y k e some = let z = zero-mul y in omega (arith, e, some)
 factor-some (suc x) zero k e some = let z = mul-zero (suc x) in omega (arith, z, e, some)
 factor-some (suc x) (suc y) k e some = omega arith
-
-pub divides-whole : (b u : ℕ) → b % u ≡ 0 → b / u * u ≡ b
-divides-whole b u e = let d = div-add-mod' b u in omega (arith, d, e)
 
 capped-small : (k : ℕ) → k < 2 ^ 63 → capped k ≡ k
 capped-small k h = capped_is k (omega (arith, h))
@@ -51,9 +48,6 @@ module _ (u s n h v t : ℕ) (some : 0 < n) (h-is : h ≡ 16) (v-is : v ≡ capp
     node-is =
         let whole : 16 + n * s < 2 ^ 63 = subst (λ (k : ℕ). k < 2 ^ 63) (units-times u s n are.1 are.2) are.3 in
         t-is ∙ capped-small s (one_below n s (2 ^ 63) some (omega (arith, whole)))
-
-    pub unit-some : 0 < v
-    unit-some = subst (λ (k : ℕ). 0 < k) (sym unit-is) (factor-some (16 / u) u 16 are.1 (omega arith))
 
     pub node-units : n * (t / v) ≡ n * (s / u)
     node-units = ap (λ (k : ℕ). n * (k / v)) node-is ∙ ap (λ (k : ℕ). n * (s / k)) unit-is

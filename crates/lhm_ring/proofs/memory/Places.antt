@@ -3,8 +3,7 @@ use Rattle.lhm_ring.proofs.Names.{List, None, [], ap, append_assoc, arith, false
 use Rattle.lhm_ring.proofs.Names.{true, zero, ℕ, ◌*◌, ◌++◌, ◌+◌, ◌-◌, ◌<◌, ◌^◌, ◌∙◌, ◌∷◌, ◌≡◌, nat_lt, IsLaid, place_count, AreBlocks, Cell}
 use Rattle.lhm_ring.proofs.Names.{Chunk, chunk, is_block, is_null, is_null_or_block, places, pointers, row, led_to, length-map, next}
 use Rattle.lhm_ring.proofs.Names.{one_more, InBlock, Ptr, block_ptr, null_ptr, ◌+ₚ◌}
-use Rattle.lhm_ring.proofs.lists.ForAll.{AllByRecursion-left, AllByRecursion-right}
-use Rattle.lhm_ring.specs.Links.{IsChain}
+use Rattle.lhm_ring.{proofs.lists.ForAll.AllByRecursion-left, proofs.lists.ForAll.AllByRecursion-right, specs.Links.IsChain}
 use Rattle.std.proofs.Flags.{T_true}
 
 pub places-none : (s : ℕ) → [] ≡ places s []

@@ -2,11 +2,10 @@
 use Rattle.lhm_ring.proofs.Names.{List, Option, Some, [], ap, arith, false, sym, ℕ, ◌++◌, ◌∙◌, ◌∷◌, ◌≡◌, HasContent, IsOwned, IsRing}
 use Rattle.lhm_ring.proofs.Names.{listed, next_at, next_of, prev_at, prev_of, ring_list, Cell, links_at, same_ptr, led_to, AtHeld, State}
 use Rattle.lhm_ring.proofs.Names.{first_at, last_at, state, Link, Links, Ptr, null_ptr}
-use Rattle.lhm_ring.proofs.lists.{Apart.IsFresh, Apart.IsFresh-head, Splits.SplitAround}
-use Rattle.lhm_ring.proofs.lists.ForAll.{AllByRecursion-left, AllByRecursion-right}
-use Rattle.lhm_ring.proofs.lists.LinkRows.{AreLinked-glued, RowCut, RowCut-linked}
-use Rattle.lhm_ring.proofs.rings.FirstAndLast.{first_at-led_to, last_at-led_to}
-use Rattle.lhm_ring.proofs.rings.{Moves.AreLinked-row, RingNodes.Found-held, RingNodes.ring_split}
+use Rattle.lhm_ring.proofs.{lists.Apart.IsFresh, lists.Apart.IsFresh-head, lists.Splits.SplitAround, lists.ForAll.AllByRecursion-left}
+use Rattle.lhm_ring.proofs.{lists.ForAll.AllByRecursion-right, lists.LinkRows.AreLinked-glued, lists.LinkRows.RowCut}
+use Rattle.lhm_ring.proofs.{lists.LinkRows.RowCut-linked, rings.FirstAndLast.first_at-led_to, rings.FirstAndLast.last_at-led_to}
+use Rattle.lhm_ring.proofs.{rings.Moves.AreLinked-row, rings.RingNodes.Found-held, rings.RingNodes.ring_split}
 
 module _ {B : Type 0} {cs : List (Cell Links B)} {ps : List Ptr} {spare : Option Ptr}
     {ss : List Ptr} {p : Ptr} (ring : IsRing cs ps spare ss) (s : SplitAround ps p) where

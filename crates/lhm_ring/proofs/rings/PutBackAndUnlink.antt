@@ -12,14 +12,13 @@ use Rattle.lhm_ring.proofs.lists.LinkRows.{RowCut-linked, listed-append}
 use Rattle.lhm_ring.proofs.memory.OneNodeChanged.{AllByRecursion-content_other, AllByRecursion-there_other, AreLinked-other}
 use Rattle.lhm_ring.proofs.memory.OneNodeChanged.{IsSpareList-other, OnlyAt, OnlyAt-both, OnlyAt-with_body, OnlyAt-with_links}
 use Rattle.lhm_ring.proofs.memory.OneNodeChanged.{body_at-with_body, links_at-with_body, listed-other}
-use Rattle.lhm_ring.proofs.rings.Contents.{Holds-content, IsAt-content, pair-content}
-use Rattle.lhm_ring.proofs.rings.Joins.{AllByRecursion-content_unchanged, AllByRecursion-there_unchanged, AreLinked-pushed}
 use Rattle.lhm_ring.proofs.rings.{Joins.IsSpareList-unchanged, Joins.listed-unchanged, ReadAtPosition.content_at-held}
 use Rattle.lhm_ring.proofs.rings.Moves.{AllByRecursion-shifted, AreLinked-joined, IsApart-shifted, IsFresh-others, IsFresh-rest}
-use Rattle.lhm_ring.proofs.rings.Moves.{IsFresh-spares, IsJoined-past, listed-one}
-use Rattle.lhm_ring.proofs.rings.RingCells.{links_at-ring_cells, ring_cells-with_body, ring_cells-with_links}
-use Rattle.lhm_ring.proofs.rings.RingNodes.{CutAt, Found-held, ring_list-listed, ring_split}
-use Rattle.lhm_ring.proofs.rings.Writes.{IsAt-there, links_at-with_links}
+use Rattle.lhm_ring.proofs.rings.{Contents.Holds-content, Contents.IsAt-content, Contents.pair-content}
+use Rattle.lhm_ring.proofs.rings.{Joins.AllByRecursion-content_unchanged, Joins.AllByRecursion-there_unchanged, Joins.AreLinked-pushed}
+use Rattle.lhm_ring.proofs.rings.{Moves.IsFresh-spares, Moves.IsJoined-past, Moves.listed-one, RingCells.links_at-ring_cells}
+use Rattle.lhm_ring.proofs.rings.{RingCells.ring_cells-with_body, RingCells.ring_cells-with_links, RingNodes.CutAt, RingNodes.Found-held}
+use Rattle.lhm_ring.proofs.rings.{RingNodes.ring_list-listed, RingNodes.ring_split, Writes.IsAt-there, Writes.links_at-with_links}
 
 -- the first spare node p is given links, a hash and a body, and comes last
 module _ {B : Type 0} {cs ds es fs : List (Cell Links B)} {ps : List Ptr} {spare : Option Ptr} {p : Ptr} {ss : List Ptr}

@@ -1,8 +1,7 @@
 -- Nodes whose links lead as those of others do: rows, chains and a ring of these are theirs too.
 use Rattle.lhm_ring.proofs.Names.{List, Option, [], ap, arith, length, refl, subst, suc, sym, zero, ℕ, ◌∙◌, ◌∷◌, ◌≡◌, AreLinked, HasContent}
 use Rattle.lhm_ring.proofs.Names.{IsOwned, IsRing, IsSpareList, follow, is_there, link_at, next_at, prev_at, Cell, target, Link, Links}
-use Rattle.lhm_ring.proofs.Names.{AllByRecursion, Ptr}
-use Rattle.lhm_ring.proofs.lists.ForAll.{AllByRecursion-map}
+use Rattle.lhm_ring.proofs.{Names.AllByRecursion, Names.Ptr, lists.ForAll.AllByRecursion-map}
 
 module _ {B : Type 0} (cs ds : List (Cell Links B)) where
   abbrev pub SameLink : Ptr → Type 0

@@ -1,9 +1,9 @@
 -- Rows of nodes that become spare, and what a change of chain links alone keeps.
 use Rattle.lhm_ring.proofs.Names.{List, None, Option, Some, [], ap, arith, false, length, refl, subst, suc, sym, ℕ, ◌++◌, ◌+◌, ◌-◌, ◌<◌}
 use Rattle.lhm_ring.proofs.Names.{◌∙◌, ◌∷◌, ◌≡◌, HasRow, IsRow, SameButLinks, SparesRow, StartsAt, onto, triple_of, AreLinked, IsSpareList}
-use Rattle.lhm_ring.proofs.Names.{IsThere, chaining_to, content_of, ends_links, has_links, link_at, next_at, next_of, one_of, prev_of}
+use Rattle.lhm_ring.proofs.Names.{IsThere, chaining_to, content_of, has_links, link_at, next_at, next_of, one_of, prev_of}
 use Rattle.lhm_ring.proofs.Names.{ring_cells, Cell, IsApart, body_at, body_of, cell, cell_at, links_at, links_of, same_ptr, with_links}
-use Rattle.lhm_ring.proofs.Names.{target, Held, triples, Link, Ends, Links, AllByRecursion, Ptr, null_ptr}
+use Rattle.lhm_ring.proofs.Names.{target, Held, triples, Link, Ends, Links, AllByRecursion, Ptr}
 use Rattle.lhm_ring.proofs.lists.Apart.{IsApart-inserted, IsApart-removed, IsApart-tail, IsFresh-head, IsFresh-middle, same_ptr-reflexive}
 use Rattle.lhm_ring.proofs.lists.ForAll.{AllByRecursion-map, AllByRecursion-right}
 use Rattle.lhm_ring.proofs.{lists.Options.none_some, memory.OneNodeChanged.IsSpareList-other}
@@ -123,9 +123,6 @@ module _ {B : Type 0} where
 
 -- the same nodes of a ring, except for their chain links
 module _ {B : Type 0} (e : Ends) (cs ds : List (Cell Links B)) (same : SameButLinks cs ds) where
-  abbrev null_cell : Cell Links B
-  null_cell = cell null_ptr (ends_links e) None
-
   reader-ring_cells : {X : Type 0} (f : Option (Cell Links B) → X) (q : Ptr) → f (cell_at ds q) ≡ f (cell_at cs q)
       → f (cell_at (ring_cells e ds) q) ≡ f (cell_at (ring_cells e cs) q)
   unfolding cell_at

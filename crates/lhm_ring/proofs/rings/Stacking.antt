@@ -2,9 +2,8 @@
 use Rattle.lhm_ring.proofs.Names.{List, None, Option, Some, ap, arith, length, refl, subst, suc, sym, zero, ℕ, ◌+◌, ◌^◌, ◌∙◌, ◌∷◌, ◌≡◌, ◌≤◌}
 use Rattle.lhm_ring.proofs.Names.{IsOwned, IsRing, IsStacked, listed, ring_cells, ring_list, AreBlocks, Cell, IsApart, cell, pointers}
 use Rattle.lhm_ring.proofs.Names.{target, Link, Ends, Links, Ptr}
-use Rattle.lhm_ring.proofs.{lists.Apart.IsApart-tail, rings.RingNodes.ring_list-listed}
-use Rattle.lhm_ring.proofs.memory.NodeAdded.{IsRing-added, listed-added}
-use Rattle.lhm_ring.specs.declared.pointer.NodePointer.{NodePointer}
+use Rattle.lhm_ring.{proofs.lists.Apart.IsApart-tail, proofs.rings.RingNodes.ring_list-listed, proofs.memory.NodeAdded.IsRing-added}
+use Rattle.lhm_ring.{proofs.memory.NodeAdded.listed-added, specs.declared.pointer.NodePointer.NodePointer}
 
 module _ {B : Type 0} where
   pub IsStacked-none : (cs : List (Cell Links B)) (s : Link) → IsStacked cs s 0 cs s

@@ -1,26 +1,17 @@
 -- Positions and indexes: what lies at an index, and where a position is once a triple moved.
-use Rattle.std.proofs.Common.{◌≡◌, ℕ, zero, suc, ◌+◌, ◌-◌, ◌<◌, ◌≤◌, ◌≢◌, Bool, true, false, cond, List, [], ◌∷◌, ◌++◌}
-use Rattle.std.proofs.Common.{map, length, take, drop}
-use Rattle.std.proofs.Common.{remove, slice_get, Option, Some, None, option_map, refl, sym, ap, ◌∙◌, subst, arith}
-use Rattle.std.proofs.Common.{length-append, append-nil}
-use Rattle.std.specs.Prelude.{IfSome, nat_lt}
-use Rattle.std.specs.Option.{IsSome, option_to_list}
-use Rattle.std.specs.List.Sorted.{IsPermutation}
-use Rattle.std.proofs.lemmas.Bool.{ltb-true, ltb-false}
+use Rattle.std.proofs.Common.{◌≡◌, ℕ, zero, suc, ◌+◌, ◌-◌, ◌<◌, ◌≤◌, ◌≢◌, Bool, true, false, cond, List, [], ◌∷◌, ◌++◌, map, length, take}
+use Rattle.std.proofs.Common.{drop, remove, slice_get, Option, Some, None, option_map, refl, sym, ap, ◌∙◌, subst, arith, length-append}
 use Rattle.std.proofs.lemmas.List.{map-append, length-map, take-append-drop, take-map, drop-map, drop_more, take_more}
 use Rattle.std.proofs.lemmas.List.Sorted.{IsPermutation-refl, IsPermutation-cons, IsPermutation-trans, IsPermutation-append_comm}
 use Rattle.std.proofs.lemmas.Option.{slice_get-map, slice_get_within, slice_get_cases, get_or_from_slice_get}
-use Rattle.std.proofs.Math.Seq.{drop-append-add}
-use denote.RawPtr.{Ptr}
+use Rattle.std.proofs.{Common.append-nil, lemmas.Bool.ltb-true, lemmas.Bool.ltb-false, Math.Seq.drop-append-add}
+use Rattle.std.specs.{Prelude.IfSome, Prelude.nat_lt, Option.IsSome, Option.option_to_list, List.Sorted.IsPermutation}
 use Rattle.lhm_ring.proofs.lists.Apart.{IsFresh, same_ptr-equal, same_ptr-reflexive, same_ptr-symmetric, IsFresh-middle}
-use Rattle.lhm_ring.proofs.lists.Options.{Some-injective, none_some}
-use Rattle.lhm_ring.proofs.indexes.Entries.{pointers-entries}
-use Rattle.lhm_ring.specs.Index.{entries}
-use Rattle.lhm_ring.specs.declared.pointer.Position.{Position}
-use Rattle.lhm_ring.specs.Nodes.{same_ptr, IsApart}
-use Rattle.lhm_ring.specs.Pointer.{pointer_of_some}
+use Rattle.lhm_ring.proofs.{lists.Options.Some-injective, lists.Options.none_some, indexes.Entries.pointers-entries}
 use Rattle.lhm_ring.specs.Positions.{IsAt, PlaceAt, index_of, insert_at, to_back_at, to_front_at, to_before_at}
 use Rattle.lhm_ring.specs.Ring.{Held, IsHeld, AtHeld, BeforeHeld, first_at, last_at, last_of}
+use Rattle.lhm_ring.specs.{Index.entries, declared.pointer.Position.Position, Nodes.same_ptr, Nodes.IsApart, Pointer.pointer_of_some}
+use denote.RawPtr.{Ptr}
 
 -- the element right after the first ones, and the list without it
 pub slice_get-append : {X : Type 0} (xs : List X) (x : X) (ys : List X) → slice_get (xs ++ x ∷ ys) (length xs) ≡ Some x

@@ -6,8 +6,7 @@ use Rattle.lhm_ring.proofs.Names.{WritesOnly, table_of, CallableOnEachPair, Some
 use Rattle.lhm_ring.proofs.{indexes.Entries.EntriesCut-split, rings.Ends.First, rings.Ends.First-first_at}
 use Rattle.lhm_ring.proofs.lists.Apart.{IsApart-tail, IsFresh-head, same_ptr-reflexive}
 use Rattle.lhm_ring.proofs.rings.HeldPointers.{IsApart-without_node, pointers_of, pointers_of-append, same_ptr-fresh}
-use Rattle.lhm_ring.proofs.tables.Positions.{IsAt-split, remove-append}
-use Rattle.lhm_ring.specs.Positions.{IsAt}
+use Rattle.lhm_ring.{proofs.tables.Positions.IsAt-split, proofs.tables.Positions.remove-append, specs.Positions.IsAt}
 
 -- how many are held from the one at a pointer on
 abbrev pub left_from : {B : Type 0} → Option Ptr → List (Held B) → ℕ

@@ -1,11 +1,10 @@
 -- The nodes of a table, of which the first ones are reversed.
 use Rattle.lhm_ring.proofs.Names.{List, Option, Some, [], ap, append-nil, ap₂, length, refl, reverse, slice_get, sym, take, ℕ, ◌++◌, ◌+◌}
 use Rattle.lhm_ring.proofs.Names.{◌∙◌, ◌∷◌, ◌≡◌, PlaceAt, to_front_at, Held, IsHeld, first_at, drop-length, take-length, reverse-append}
-use Rattle.lhm_ring.proofs.Names.{option_to_list, Ptr}
-use Rattle.std.proofs.Common.{drop}
 use Rattle.lhm_ring.proofs.tables.Positions.{CutAt, IsAt-split, PlaceAt-first_at, cut_at, drop-from, first_at-drop, remove-append}
 use Rattle.lhm_ring.proofs.tables.Positions.{slice_get-append, slice_get-at, slice_get-behind, take-through}
-use Rattle.lhm_ring.specs.Positions.{IsAt}
+use Rattle.lhm_ring.{proofs.Names.option_to_list, proofs.Names.Ptr, specs.Positions.IsAt}
+use Rattle.std.proofs.Common.{drop}
 
 module _ {B : Type 0} (hs : List (Held B)) where
   -- the first n of hs are reversed, and the others are behind them, from the pointer on

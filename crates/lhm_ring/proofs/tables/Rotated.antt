@@ -2,10 +2,9 @@
 use Rattle.lhm_ring.proofs.Names.{append-nil, append_assoc, pointer_of_some, to_front_at, last_at, drop-length, take-length, option_to_list}
 use Rattle.lhm_ring.proofs.Names.{Option, get_or, length, pointer_of, to_back_at, IsHeld, first_at, last_of, Position, drop_more, take_more}
 use Rattle.lhm_ring.proofs.Names.{List, Some, [], ap, ap₂, arith, refl, sym, take, ℕ, ◌++◌, ◌+◌, ◌<◌, ◌∙◌, ◌∷◌, ◌≡◌, Held, IsSome, Ptr}
-use Rattle.std.proofs.Common.{drop}
-use Rattle.lhm_ring.proofs.lists.Options.{Some-injective}
 use Rattle.lhm_ring.proofs.tables.Positions.{IsAt-split, remove-append, slice_get-append}
-use Rattle.lhm_ring.specs.Positions.{IsAt}
+use Rattle.lhm_ring.{proofs.lists.Options.Some-injective, specs.Positions.IsAt}
+use Rattle.std.proofs.Common.{drop}
 
 -- the first n behind the others
 abbrev pub rotated : {X : Type 0} → ℕ → List X → List X

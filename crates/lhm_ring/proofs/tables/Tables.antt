@@ -10,8 +10,7 @@ use Rattle.lhm_ring.proofs.indexes.Entries.{AtHeld-entries, IsHeld-entries, entr
 use Rattle.lhm_ring.proofs.indexes.Entries.{length-entries, length-same_entries, pointers-entries, triples-entries}
 use Rattle.lhm_ring.proofs.indexes.{IndexMoves.spots-rekeyed, IndexMoves.spots-value, Spots.PutsIn-spots}
 use Rattle.lhm_ring.proofs.tables.IndexedRing.{IsIndexed-moved, IsIndexed-same_spots, IsIndexed-value}
-use Rattle.lhm_ring.proofs.tables.Positions.{MovedTo, length-moved_to}
-use Rattle.lhm_ring.specs.TableAfterLoan.{with_value as write}
+use Rattle.lhm_ring.{proofs.tables.Positions.MovedTo, proofs.tables.Positions.length-moved_to, specs.TableAfterLoan.with_value as write}
 
 -- a table that is seen as m
 module _ {K V : Type 0} (s : State (K × V)) (r : ℕ) {m : TableState (K × V)} (seen : table_of s r ≡ m) where

@@ -1,17 +1,11 @@
 -- For callers: what `append` leaves of two maps, whose keys differ in each.
-use Rattle.std.proofs.Common.{◌≡◌, ℕ, zero, suc, ◌+◌, ◌≤◌, Bool, true, false, cond, not, List, [], ◌∷◌, length, take}
-use Rattle.std.proofs.Common.{slice_get, count_by, Some, None, is_some, refl, sym, ap, ap₂, ◌∙◌, arith}
-use Rattle.std.specs.Cmp.{IsEquivalence}
-use Rattle.std.specs.List.{IsDistinct, AllByRecursion}
-use Rattle.std.specs.Map.{keys_of}
+use Rattle.std.proofs.Common.{◌≡◌, ℕ, zero, suc, ◌+◌, ◌≤◌, Bool, true, false, cond, not, List, [], ◌∷◌, length, take, slice_get, count_by}
+use Rattle.std.proofs.Common.{Some, None, is_some, refl, sym, ap, ap₂, ◌∙◌, arith}
 use Rattle.std.proofs.lemmas.Map.Keys.{IsDistinct-head, IsDistinct-tail}
-use Rattle.lhm_ring.proofs.lists.Options.{Some-injective, none_some}
-use Rattle.lhm_ring.proofs.lists.RearrangedCounts.{count_by-cons}
-use Rattle.linked_hash_map.specs.declared.map.Mode.{Mode}
-use Rattle.linked_hash_map.specs.Pairs.{key_or, find, put}
-use Rattle.linked_hash_map.specs.Inserts.{insert_each}
-use Rattle.linked_hash_map.proofs.pairs.Calls.{length-put}
-use Rattle.linked_hash_map.proofs.pairs.Inserts.{distinct-put, length-insert_each_least}
+use Rattle.std.specs.{Cmp.IsEquivalence, List.IsDistinct, List.AllByRecursion, Map.keys_of}
+use Rattle.lhm_ring.proofs.lists.{Options.Some-injective, Options.none_some, RearrangedCounts.count_by-cons}
+use Rattle.linked_hash_map.specs.{declared.map.Mode.Mode, Pairs.key_or, Pairs.find, Pairs.put, Inserts.insert_each}
+use Rattle.linked_hash_map.proofs.pairs.{Calls.length-put, Inserts.distinct-put, Inserts.length-insert_each_least}
 use Rattle.linked_hash_map.proofs.Callers.Lookups.{find-put}
 
 module _ {K V : Type 0} {eq : K → K → Bool} (laws : IsEquivalence eq) (mode : Mode) where

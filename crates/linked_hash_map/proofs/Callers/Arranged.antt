@@ -1,15 +1,12 @@
 -- For callers: the pairs after some keys were moved to the back, one after another.
-use Rattle.std.proofs.Common.{◌≡◌, ℕ, ◌+◌, ◌<◌, ◌≤◌, Bool, true, false, cond, not, ◌||◌, List, [], ◌∷◌, ◌++◌, filter, fold, arith}
-use Rattle.std.proofs.Common.{take, length, get_or, nat_eq, Option, Some, None, option_to_list, refl, sym, ap, ap₂, ◌∙◌}
+use Rattle.std.proofs.Common.{◌≡◌, ℕ, ◌+◌, ◌<◌, ◌≤◌, Bool, true, false, cond, not, ◌||◌, List, [], ◌∷◌, ◌++◌, filter, fold, arith, take}
+use Rattle.std.proofs.Common.{length, get_or, nat_eq, Option, Some, None, option_to_list, refl, sym, ap, ap₂, ◌∙◌}
+use Rattle.std.proofs.lemmas.List.{append-nil, append_assoc, take_all}
+use Rattle.std.proofs.lemmas.{List.Elements.filter-append, List.Sums.fold_more, Map.Keys.IsDistinct-head, Map.Keys.IsDistinct-tail}
 use Rattle.std.specs.Cmp.{IsEquivalence, nat_eq_equiv}
 use Rattle.std.specs.List.{AllByRecursion, IsDistinct, cons_option, filter_map, list_any}
-use Rattle.std.proofs.lemmas.List.{append-nil, append_assoc, take_all}
-use Rattle.std.proofs.lemmas.List.Elements.{filter-append}
-use Rattle.std.proofs.lemmas.List.Sums.{fold_more}
-use Rattle.std.proofs.lemmas.Map.Keys.{IsDistinct-head, IsDistinct-tail}
 use Rattle.linked_hash_map.specs.Pairs.{find, without, to_back_as_is}
-use Rattle.linked_hash_map.proofs.Callers.Lookups.{eq-find}
-use Rattle.linked_hash_map.proofs.Callers.Moves.{find-to_back_as_is}
+use Rattle.linked_hash_map.proofs.Callers.{Lookups.eq-find, Moves.find-to_back_as_is}
 
 filter-all : {X : Type 0} (xs : List X) → filter (λ (x : X). not false) xs ≡ xs
 filter-all [] = refl

@@ -1,18 +1,12 @@
 -- For callers: the pairs with one moved beside another. Each key finds what it found.
 use Rattle.std.proofs.Common.{◌≡◌, ℕ, suc, ◌+◌, Bool, true, false, cond, not, filter, List, [], ◌∷◌, ◌++◌, take, drop, Option, Some, None}
 use Rattle.std.proofs.Common.{option_map, option_to_list, refl, sym, ap, ◌∙◌, arith}
-use Rattle.std.specs.Cmp.{IsEquivalence}
-use Rattle.std.specs.List.{IsDistinct}
-use Rattle.std.specs.Map.{keys_of}
-use Rattle.std.specs.Option.{option_or}
-use Rattle.std.proofs.lemmas.List.{map-append, take-append-drop, take-map, drop-map}
-use Rattle.std.proofs.lemmas.Map.Keys.{IsDistinct-tail}
+use Rattle.std.proofs.lemmas.{List.map-append, List.take-append-drop, List.take-map, List.drop-map, Map.Keys.IsDistinct-tail}
+use Rattle.std.specs.{Cmp.IsEquivalence, List.IsDistinct, Map.keys_of, Option.option_or}
 use Rattle.linked_hash_map.specs.Pairs.{find, without, count_before, to_behind, to_before}
-use Rattle.linked_hash_map.proofs.Callers.Keys.{keys_of-without}
 use Rattle.linked_hash_map.proofs.Callers.Lookups.{eq-find, find-same, find-without, lookup_entry-append}
-use Rattle.linked_hash_map.proofs.lists.Elements.{option_or_none}
-use Rattle.linked_hash_map.proofs.pairs.Calls.{without-absent}
-use Rattle.linked_hash_map.proofs.pairs.Indexes.{others_differ}
+use Rattle.linked_hash_map.proofs.{Callers.Keys.keys_of-without, lists.Elements.option_or_none, pairs.Calls.without-absent}
+use Rattle.linked_hash_map.proofs.{pairs.Indexes.others_differ}
 
 cond-same : {X : Type 0} (b : Bool) (x : X) → cond b x x ≡ x
 cond-same b x = grind arith

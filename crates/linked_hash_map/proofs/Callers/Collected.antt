@@ -1,25 +1,16 @@
 -- For callers: insertions one after another.
 use Rattle.std.proofs.Common.{◌≡◌, ◌+◌, ◌≤◌, Bool, true, false, cond, not, ◌||◌, List, [], ◌∷◌, ◌++◌, length, map, filter, reverse}
 use Rattle.std.proofs.Common.{append_assoc, append-nil, Option, Some, None, is_some, option_map, refl, sym, ap, ap₂, ◌∙◌, arith}
-use Rattle.std.specs.Option.{option_or}
-use Rattle.std.specs.List.{All, IsDistinct, AllByRecursion}
-use Rattle.std.specs.Map.{keys_of}
-use Rattle.std.proofs.lemmas.List.{reverse-append}
-use Rattle.std.proofs.lemmas.List.Elements.{filter-append}
-use Rattle.std.specs.Cmp.{IsEquivalence}
-use Rattle.std.proofs.lemmas.Map.Keys.{IsDistinct-head, IsDistinct-tail}
-use Rattle.linked_hash_map.specs.declared.map.Mode.{Mode}
-use Rattle.linked_hash_map.specs.declared.map.Mode.TheVariants.{Touch, Keep}
+use Rattle.std.proofs.lemmas.{List.reverse-append, List.Elements.filter-append, Map.Keys.IsDistinct-head, Map.Keys.IsDistinct-tail}
+use Rattle.std.specs.{Option.option_or, List.All, List.IsDistinct, List.AllByRecursion, Map.keys_of, Cmp.IsEquivalence}
+use Rattle.linked_hash_map.specs.declared.map.{Mode.Mode, Mode.TheVariants.Touch, Mode.TheVariants.Keep}
 use Rattle.linked_hash_map.specs.Pairs.{key_or, find, value_at, to_back, set_or_push, put}
 use Rattle.linked_hash_map.specs.Inserts.{insert_each}
 use Rattle.linked_hash_map.proofs.lists.Elements.{by_last}
 use Rattle.linked_hash_map.proofs.pairs.Inserts.{insert_each-last, length-put_most, distinct-put}
 use Rattle.linked_hash_map.proofs.Callers.Keys.{keys_of-to_back, keys_of-set_or_push, put-absent}
-use Rattle.linked_hash_map.proofs.Callers.Cuts.{find-cut}
-use Rattle.linked_hash_map.proofs.Callers.EachPair.{All-find}
-use Rattle.linked_hash_map.proofs.Callers.Lookups.{lookup_entry-append, find-same, eq-find, eq-stored, value_at-put}
-use Rattle.linked_hash_map.proofs.Callers.Lookups.{find-put, find-to_back, find-set_or_push_apart}
-use Rattle.linked_hash_map.proofs.Callers.Turns.{find-others}
+use Rattle.linked_hash_map.proofs.Callers.Lookups.{lookup_entry-append, find-same, eq-find, eq-stored, value_at-put, find-put, find-to_back}
+use Rattle.linked_hash_map.proofs.Callers.{Cuts.find-cut, EachPair.All-find, Lookups.find-set_or_push_apart, Turns.find-others}
 -- items with keys that differ, inserted into nothing, are the pairs
 pub use Rattle.linked_hash_map.proofs.pairs.Inserts.{insert_each-distinct}
 
@@ -64,20 +55,6 @@ module _ {K V : Type 0} {eq : K → K → Bool} (laws : IsEquivalence eq) where
   is_some-insert_each mode pairs [] q = or-false (is_some (find eq pairs q))
   is_some-insert_each mode pairs (item ∷ items) q =
       grind (arith, find-put, is_some-insert_each mode (put eq mode pairs item.0 item.1) items q)
-    where
-      by_test : (b : Bool) → eq item.0 q ≡ b → (h : Bool) → is_some (find eq pairs q) ≡ h
-          → (is_some (cond (eq item.0 q) (Some (key_or item.0 (find eq pairs item.0), item.1))
-          (find eq pairs q)) || is_some (find eq items q))
-          ≡ (is_some (find eq pairs q) || is_some (cond b (Some item) (find eq items q)))
-      by_test true same true older = ap (λ b.
-          is_some (cond b (Some (key_or item.0 (find eq pairs item.0), item.1)) (find eq pairs q))
-          || is_some (find eq items q)) same ∙ sym (ap (λ h. h || true) older)
-      by_test true same false older = ap (λ b.
-          is_some (cond b (Some (key_or item.0 (find eq pairs item.0), item.1)) (find eq pairs q))
-          || is_some (find eq items q)) same ∙ sym (ap (λ h. h || true) older)
-      by_test false same h older = ap (λ b.
-          is_some (cond b (Some (key_or item.0 (find eq pairs item.0), item.1)) (find eq pairs q))
-          || is_some (find eq items q)) same
 
   -- one pair for each item comes at most
   pub length-insert_each_most : (mode : Mode) (pairs items : List (K × V)) → IsDistinct eq (keys_of pairs)

@@ -2,15 +2,10 @@
 -- in which they first come.
 use Rattle.std.proofs.Common.{◌≡◌, ℕ, ◌+◌, ◌<◌, Bool, true, false, cond, List, [], ◌∷◌, ◌++◌, length, take, get_or, fold, Option, Some}
 use Rattle.std.proofs.Common.{None, option_map, unwrap_or, refl, sym, ap, ◌∙◌, arith, length-take}
-use Rattle.std.specs.Prelude.{if◌then◌else◌}
-use Rattle.std.specs.List.{count_by, list_any}
-use Rattle.std.specs.Map.{keys_of}
-use Rattle.std.specs.Cmp.{IsEquivalence}
 use Rattle.std.proofs.lemmas.List.Sums.{count_by_more_yes, count_by_more_no, count_by-le-length, fold_more}
-use Rattle.linked_hash_map.specs.Pairs.{value_at, set_or_push, ActsAs}
-use Rattle.linked_hash_map.specs.Updates.{Updates}
-use Rattle.linked_hash_map.proofs.Callers.Lookups.{value_at-same, value_at-set_or_push}
-use Rattle.linked_hash_map.proofs.Callers.Keys.{keys_of-set_or_push, is_some-find}
+use Rattle.std.specs.{Prelude.if◌then◌else◌, List.count_by, List.list_any, Map.keys_of, Cmp.IsEquivalence}
+use Rattle.linked_hash_map.specs.{Pairs.value_at, Pairs.set_or_push, Pairs.ActsAs, Updates.Updates}
+use Rattle.linked_hash_map.proofs.Callers.{Lookups.value_at-same, Lookups.value_at-set_or_push, Keys.keys_of-set_or_push, Keys.is_some-find}
 
 module _ {K : Type 0} {eq : K → K → Bool} (laws : IsEquivalence eq) (pairs : List (K × ℕ)) (items : List K) where
   -- the next item is counted

@@ -1,10 +1,8 @@
 -- For callers: how many buckets a capacity has.
-use Rattle.std.proofs.Common.{ℕ, ◌<◌, ◌≤◌, ◌≡◌, inl, inr, arith, subst}
-use Rattle.std.proofs.lemmas.Nat.{pow_pos}
+use Rattle.std.proofs.{Common.ℕ, Common.◌<◌, Common.◌≤◌, Common.◌≡◌, Common.inl, Common.inr, Common.arith, Common.subst, lemmas.Nat.pow_pos}
 use Rattle.std.specs.Int.{IsPowerOfTwo, IsNextPowerOfTwo}
 use Rattle.lhm_ring.proofs.indexes.BucketCounts as ring
-use Rattle.linked_hash_map.specs.Counts.{buckets}
-use Rattle.linked_hash_map.proofs.pairs.RehashCounts.{buckets-table}
+use Rattle.linked_hash_map.{specs.Counts.buckets, proofs.pairs.RehashCounts.buckets-table}
 
 -- n is a power of two that is not below c, and no smaller one is
 pub record IsLeastPower (c n : ℕ) : Type 0 where

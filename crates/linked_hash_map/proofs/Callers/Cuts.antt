@@ -1,16 +1,11 @@
 -- For callers: pairs cut at one of them, and what each call says of it, in words of the cut.
 use Rattle.std.proofs.Common.{◌≡◌, ◌+◌, Bool, false, cond, not, List, [], ◌∷◌, ◌++◌, length, reverse, Some, None, refl, sym, ap, ◌∙◌, subst}
-use Rattle.std.proofs.Common.{arith, append_assoc, length-append}
-use Rattle.std.specs.Cmp.{IsEquivalence}
-use Rattle.std.specs.List.{IsDistinct}
-use Rattle.std.specs.Map.{keys_of}
-use Rattle.std.proofs.Math.Seq.{take-append_seam, drop-append_seam}
-use Rattle.std.proofs.lemmas.List.{reverse-append}
-use Rattle.std.proofs.lemmas.List.Sorted.{IsPermutation-map, IsPermutation-reverse}
-use Rattle.std.proofs.lemmas.Map.Keys.{IsDistinct-tail, IsDistinct-IsPermutation}
+use Rattle.std.proofs.{Common.arith, Common.append_assoc, Common.length-append, Math.Seq.take-append_seam, Math.Seq.drop-append_seam}
+use Rattle.std.proofs.{lemmas.List.reverse-append, lemmas.List.Sorted.IsPermutation-map, lemmas.List.Sorted.IsPermutation-reverse}
+use Rattle.std.proofs.{lemmas.Map.Keys.IsDistinct-tail, lemmas.Map.Keys.IsDistinct-IsPermutation}
+use Rattle.std.specs.{Cmp.IsEquivalence, List.IsDistinct, Map.keys_of}
 use Rattle.linked_hash_map.specs.Pairs.{find, from, without, count_before, to_behind, to_before, to_after}
-use Rattle.linked_hash_map.proofs.Callers.Keys.{without-absent}
-use Rattle.linked_hash_map.proofs.Callers.Turns.{find-others}
+use Rattle.linked_hash_map.proofs.Callers.{Keys.without-absent, Turns.find-others}
 
 module _ {K V : Type 0} {eq : K → K → Bool} (laws : IsEquivalence eq) where
   abbrev Differ : List (K × V) → Type 0

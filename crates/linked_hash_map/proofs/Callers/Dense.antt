@@ -1,9 +1,7 @@
 -- For callers: maps whose values are numbers from 0 on, in the order of the places.
 use Rattle.std.proofs.Common.{◌≡◌, ℕ, zero, suc, ◌+◌, ◌<◌, ◌≤◌, Bool, true, false, cond, List, [], ◌∷◌, ◌++◌, length, Option, Some, None}
 use Rattle.std.proofs.Common.{IfSome, IsSome, option_map, refl, subst, ap, ◌∙◌, arith, length-append}
-use Rattle.std.specs.Cmp.{IsEquivalence}
-use Rattle.std.specs.List.{range_with_len}
-use Rattle.std.specs.Map.{values_of}
+use Rattle.std.specs.{Cmp.IsEquivalence, List.range_with_len, Map.values_of}
 use Rattle.linked_hash_map.specs.Pairs.{find, value_at}
 
 pub values_of-append : {K V : Type 0} (pairs : List (K × V)) (k : K) (v : V) → values_of (pairs ++ (k, v) ∷ []) ≡ values_of pairs ++ v ∷ []

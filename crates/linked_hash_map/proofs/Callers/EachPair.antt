@@ -1,13 +1,9 @@
 -- For callers: what is true of each pair, as that its value is right, still is after a call.
-use Rattle.std.proofs.Common.{◌≡◌, Bool, true, false, cond, not, List, [], ◌∷◌, ◌++◌, arith}
-use Rattle.std.proofs.Common.{is_some, Option, Some, option_to_list, IfSome, refl, subst}
-use Rattle.std.specs.Cmp.{IsEquivalence}
-use Rattle.std.specs.List.{All}
-use Rattle.std.specs.Map.{lookup_entry}
+use Rattle.std.proofs.Common.{◌≡◌, Bool, true, false, cond, not, List, [], ◌∷◌, ◌++◌, arith, is_some, Option, Some, option_to_list, IfSome}
 use Rattle.std.proofs.lemmas.List.Elements.{All-nil, All-cons, All-head, All-tail, All-append, All-push, All-filter}
-use Rattle.linked_hash_map.specs.declared.map.Mode.{Mode}
+use Rattle.std.{proofs.Common.refl, proofs.Common.subst, specs.Cmp.IsEquivalence, specs.List.All, specs.Map.lookup_entry}
 use Rattle.linked_hash_map.specs.Pairs.{key_or, find, without, to_back, to_back_as_is, to_front, set_value, set_or_push, put}
-use Rattle.linked_hash_map.proofs.Callers.Lookups.{eq-stored}
+use Rattle.linked_hash_map.{specs.declared.map.Mode.Mode, proofs.Callers.Lookups.eq-stored}
 
 module _ {K V : Type 0} (P : K × V → Type 0) where
   -- of the pair that a test finds

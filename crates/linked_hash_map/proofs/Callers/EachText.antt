@@ -1,14 +1,11 @@
 -- For callers: `String` keys that are looked up as texts. What is true of the bytes of each key and
 -- its value is true of what a text finds, and still is after a call.
 use Rattle.std.proofs.Common.{◌≡◌, ℕ, true, List, option_map, Option, Some, None, is_some, unwrap_or, refl, sym, ap, subst, true≢false}
-use Rattle.std.specs.Cmp.Lexicographic.{bytes_decides}
-use Rattle.std.specs.List.{All}
-use Rattle.std.specs.Prelude.{String, string_eq}
-use Rattle.std.specs.String.{string_bytes, string_eq_equiv}
-use Rattle.linked_hash_map.specs.declared.map.Mode.{Mode}
+use Rattle.std.specs.{Cmp.Lexicographic.bytes_decides, List.All, Prelude.String, Prelude.string_eq, String.string_bytes}
+use Rattle.std.specs.{String.string_eq_equiv}
 use Rattle.linked_hash_map.specs.Pairs.{find, value_at, without, to_back_as_is, to_front, put}
 use Rattle.linked_hash_map.proofs.Callers.EachPair.{All-find, All-without, All-to_back_as_is, All-to_front, All-put}
-use Rattle.linked_hash_map.proofs.Callers.Texts.{is_text, is_text-find}
+use Rattle.linked_hash_map.{specs.declared.map.Mode.Mode, proofs.Callers.Texts.is_text, proofs.Callers.Texts.is_text-find}
 
 -- P is true of the bytes of each key and its value
 abbrev pub AllTexts : {Y V : Type 0} → (List ℕ → V → Type 0) → List (String Y × V) → Type 0

@@ -1,16 +1,12 @@
 -- For callers: which pair and which keys stand at the ends, after one was moved there.
 use Rattle.std.proofs.Common.{◌≡◌, ℕ, ◌<◌, ◌≤◌, length, Bool, true, not, List, [], ◌∷◌, ◌++◌, take, filter, append-nil, Some}
-use Rattle.std.proofs.Common.{option_to_list, refl, sym, arith}
-use Rattle.std.specs.Cmp.{IsEquivalence}
+use Rattle.std.{proofs.Common.option_to_list, proofs.Common.refl, proofs.Common.sym, proofs.Common.arith, specs.Cmp.IsEquivalence}
 use Rattle.std.specs.List as lists
-use Rattle.std.specs.Option.{IsSome}
-use Rattle.std.specs.Map.{keys_of}
-use Rattle.std.proofs.lemmas.List.{map-append, take-map, take_all, length-map}
-use Rattle.std.proofs.lemmas.List.Elements.{filter-append}
+use Rattle.std.specs.{Option.IsSome, Map.keys_of}
+use Rattle.std.proofs.lemmas.{List.map-append, List.take-map, List.take_all, List.length-map, List.Elements.filter-append}
 use Rattle.linked_hash_map.specs.declared.map.Mode.{Mode}
 use Rattle.linked_hash_map.specs.Pairs.{first, last, key_or, find, value_at, without, to_back_as_is, to_front, set_value, put}
-use Rattle.linked_hash_map.proofs.Callers.Keys.{keys_of-without}
-use Rattle.linked_hash_map.proofs.Callers.Lookups.{eq-stored, find-put, last-append}
+use Rattle.linked_hash_map.proofs.Callers.{Keys.keys_of-without, Lookups.eq-stored, Lookups.find-put, Lookups.last-append}
 
 module _ {A K V : Type 0} (eq : A → K → Bool) where
   keys_of-found : (pairs : List (K × V)) (k : A)

@@ -1,13 +1,7 @@
 -- For callers: what `==` of two maps says of their lists, and clones.
-use Rattle.std.proofs.Common.{◌≡◌, Bool, Result, IfOk, arith}
-use Rattle.std.specs.Prelude.{MatchResult}
-use Rattle.std.specs.Bool.{Decides}
-use Rattle.std.specs.Cmp.{IsEquivalence}
-use Rattle.std.specs.Cmp.Lexicographic.{pointwise}
-use Rattle.std.proofs.lemmas.Slice.Eq.{slice_eq-Decides}
-use Rattle.linked_hash_map.specs.LinkedMap.{LinkedMap}
-use Rattle.linked_hash_map.specs.Comparison.{same_pair}
-use Rattle.linked_hash_map.specs.Clones.{IsClone}
+use Rattle.std.proofs.{Common.◌≡◌, Common.Bool, Common.Result, Common.IfOk, Common.arith, lemmas.Slice.Eq.slice_eq-Decides}
+use Rattle.std.specs.{Prelude.MatchResult, Bool.Decides, Cmp.IsEquivalence, Cmp.Lexicographic.pointwise}
+use Rattle.linked_hash_map.specs.{LinkedMap.LinkedMap, Comparison.same_pair, Clones.IsClone}
 
 module _ {K V : Type 0} {eq : K → K → Bool} {value_eq : V → V → Bool} where
   same_pair-Decides : ((a b : K) → Decides (eq a b) (a ≡ b)) → ((a b : V) → Decides (value_eq a b) (a ≡ b)) → (p q : K × V)

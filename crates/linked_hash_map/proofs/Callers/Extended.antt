@@ -3,30 +3,19 @@
 -- what the source becomes gives the list.
 use Rattle.std.proofs.Common.{◌≡◌, ℕ, ◌+◌, ◌-◌, ◌≤◌, max, Bool, not, List, [], ◌++◌, length, map, take, filter, slice_get, Option, Some}
 use Rattle.std.proofs.Common.{None, is_some, unwrap_or, Vec, vec_items, vec_len, refl, sym, ap, subst, ◌∙◌, arith}
-use Rattle.std.specs.List.{IsDistinct}
-use Rattle.std.specs.Map.{keys_of}
-use Rattle.std.specs.Option.{option_or}
-use Rattle.std.specs.Map.Iter.{TakesFirst}
-use Rattle.std.specs.Cmp.{IsEquivalence}
-use Rattle.std.specs.Iterator.{Count, at_most}
-use Rattle.std.specs.Vec.Iter.{into_iter_items, into_iter_len, into_iter_steps}
-use Rattle.std.specs.declared.vec.IntoIter.{IntoIter}
-use Rattle.std.proofs.lemmas.Iterator.{YieldsList}
 use Rattle.std.proofs.lemmas.Iterator.Consumers.{YieldsList-end, YieldsList-so_far, YieldsList-from_rest, YieldsList-from_shown}
 use Rattle.std.proofs.lemmas.Iterator.Consumers.{nth_from_yields_List}
-use Rattle.std.proofs.lemmas.Iterator.Adapters.{YieldsList-from_vec}
-use Rattle.std.proofs.lemmas.List.{map-id}
-use Rattle.linked_hash_map.specs.Counts.{rechained_each}
-use Rattle.linked_hash_map.specs.declared.map.Mode.{Mode}
-use Rattle.linked_hash_map.specs.declared.map.Mode.TheVariants.{Touch, Keep}
-use Rattle.linked_hash_map.specs.declared.drain.Drain.{Drain}
-use Rattle.linked_hash_map.specs.Drains.{drain_rest, DrainSteps}
+use Rattle.std.proofs.lemmas.{Iterator.YieldsList, Iterator.Adapters.YieldsList-from_vec, List.map-id}
+use Rattle.std.specs.Vec.Iter.{into_iter_items, into_iter_len, into_iter_steps}
+use Rattle.std.specs.{List.IsDistinct, Map.keys_of, Option.option_or, Map.Iter.TakesFirst, Cmp.IsEquivalence, Iterator.Count}
+use Rattle.std.specs.{Iterator.at_most, declared.vec.IntoIter.IntoIter}
 use Rattle.linked_hash_map.specs.Pairs.{key_or, find, value_at}
 use Rattle.linked_hash_map.specs.Inserts.{insert_each, GivesAtMost, InsertsAll, InsertsUntil, Collects}
-use Rattle.linked_hash_map.proofs.Callers.Keys.{distinct-nil}
-use Rattle.linked_hash_map.proofs.Callers.Merges.{insert_each-keep, insert_each-touch}
+use Rattle.linked_hash_map.specs.{Counts.rechained_each, declared.map.Mode.Mode, declared.map.Mode.TheVariants.Touch}
+use Rattle.linked_hash_map.specs.{declared.map.Mode.TheVariants.Keep, declared.drain.Drain.Drain, Drains.drain_rest, Drains.DrainSteps}
 use Rattle.linked_hash_map.proofs.Callers.Collected.{insert_each-distinct, length-insert_each_most, value_at-insert_each_distinct}
 use Rattle.linked_hash_map.proofs.Callers.Collected.{keys_of-insert_each_keep, keys_of-insert_each_touch}
+use Rattle.linked_hash_map.proofs.Callers.{Keys.distinct-nil, Merges.insert_each-keep, Merges.insert_each-touch}
 
 module _ {T I X K V : Type 0} {becomes : T → I → Type 0} {steps : I → Option X → I → Type 0}
     {source : T} {eq : K → K → Bool} {shows : X → K × V} {all : List (K × V)} where

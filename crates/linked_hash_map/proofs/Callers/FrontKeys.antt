@@ -1,14 +1,10 @@
 -- For callers: a pair that was put in and moved to the front, where the last pair may be taken out.
-use Rattle.std.proofs.Common.{◌≡◌, ℕ, ◌-◌, ◌<◌, ◌≤◌, Option, Some, None, zero, suc, length, take, not, List, ◌∷◌, ◌++◌, filter}
-use Rattle.std.proofs.Common.{option_map, option_to_list, cond, refl, ap, ◌∙◌, nat_eq, arith}
-use Rattle.std.specs.Cmp.{nat_eq_equiv}
-use Rattle.std.specs.Map.{keys_of}
-use Rattle.linked_hash_map.specs.declared.map.Mode.{Mode}
+use Rattle.std.proofs.Common.{◌≡◌, ℕ, ◌-◌, ◌<◌, ◌≤◌, Option, Some, None, zero, suc, length, take, not, List, ◌∷◌, ◌++◌, filter, option_map}
+use Rattle.std.proofs.Common.{option_to_list, cond, refl, ap, ◌∙◌, nat_eq, arith}
+use Rattle.std.specs.{Cmp.nat_eq_equiv, Map.keys_of}
 use Rattle.linked_hash_map.specs.Pairs.{find, value_at, without, without_last, to_front, put}
-use Rattle.linked_hash_map.specs.Updates.{Updates}
-use Rattle.linked_hash_map.proofs.Callers.Rules.{keys_of-put_to_front}
-use Rattle.linked_hash_map.proofs.Callers.Ends.{take-keys_of}
-use Rattle.linked_hash_map.proofs.Callers.Lookups.{eq-find}
+use Rattle.linked_hash_map.specs.{declared.map.Mode.Mode, Updates.Updates}
+use Rattle.linked_hash_map.proofs.Callers.{Rules.keys_of-put_to_front, Ends.take-keys_of, Lookups.eq-find}
 
 -- the keys, as the first n of them, if there are no more
 pub keys_of-front_few : {V : Type 0} (mode : Mode) (pairs : List (ℕ × V)) (k : ℕ) (v : V) (n : ℕ) {inserted moved : List (ℕ × V)}

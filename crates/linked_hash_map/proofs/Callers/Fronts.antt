@@ -1,16 +1,12 @@
 -- For callers: insertions at the front.
 use Rattle.std.proofs.Common.{◌≡◌, ◌-◌, Bool, true, false, cond, List, [], ◌∷◌, ◌++◌, length, length-append, take, drop, Option, Some, None}
 use Rattle.std.proofs.Common.{IsSome, is_some, filter, not, refl, sym, ap, ◌∙◌, arith}
-use Rattle.std.specs.Cmp.{IsEquivalence}
-use Rattle.std.specs.Map.{keys_of}
-use Rattle.linked_hash_map.specs.declared.map.Mode.{Mode}
-use Rattle.linked_hash_map.specs.declared.map.Mode.TheVariants.{Touch, Keep}
+use Rattle.std.specs.{Cmp.IsEquivalence, Map.keys_of}
 use Rattle.linked_hash_map.specs.Pairs.{first, key_or, find, without, set_value, put, put_front}
-use Rattle.linked_hash_map.specs.Updates.{Updates}
-use Rattle.linked_hash_map.proofs.Callers.Keys.{keys_of-set_value, keys_of-without}
 use Rattle.linked_hash_map.proofs.Callers.Lookups.{eq-stored, find-put, find-without}
-use Rattle.linked_hash_map.proofs.lists.Stretches.{take-none}
-use Rattle.linked_hash_map.proofs.pairs.Calls.{without-absent}
+use Rattle.linked_hash_map.{specs.declared.map.Mode.Mode, specs.declared.map.Mode.TheVariants.Touch}
+use Rattle.linked_hash_map.{specs.declared.map.Mode.TheVariants.Keep, specs.Updates.Updates, proofs.Callers.Keys.keys_of-set_value}
+use Rattle.linked_hash_map.{proofs.Callers.Keys.keys_of-without, proofs.lists.Stretches.take-none, proofs.pairs.Calls.without-absent}
 
 module _ {X : Type 0} where
   drop-length : (xs ys : List X) → drop (length xs) (xs ++ ys) ≡ ys

@@ -1,9 +1,7 @@
 -- For callers: maps of vectors, in which a loop collects the items of each key.
 use Rattle.std.proofs.Common.{◌≡◌, ℕ, ◌+◌, ◌<◌, Bool, true, false, cond, List, [], ◌∷◌, ◌++◌, length, take, get_or, filter, append-nil}
 use Rattle.std.proofs.Common.{Option, Some, None, option_map, unwrap_or, Vec, vec_items, nat_eq, refl, sym, ap, ◌∙◌, arith}
-use Rattle.std.specs.Cmp.{IsEquivalence, nat_eq_equiv}
-use Rattle.std.proofs.lemmas.List.{get_or_default}
-use Rattle.std.proofs.lemmas.List.Elements.{filter_more}
+use Rattle.std.{specs.Cmp.IsEquivalence, specs.Cmp.nat_eq_equiv, proofs.lemmas.List.get_or_default, proofs.lemmas.List.Elements.filter_more}
 use Rattle.linked_hash_map.specs.Pairs.{value_at, set_or_push, ActsAs}
 use Rattle.linked_hash_map.proofs.Callers.Lookups.{value_at-same, value_at-set_or_push}
 

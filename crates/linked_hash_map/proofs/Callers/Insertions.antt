@@ -1,23 +1,13 @@
 -- For callers: a run of insertions that leaves one pair more for each of them refused none.
-use Rattle.std.proofs.Common.{◌≡◌, ℕ, ◌+◌, ◌≤◌, ◌⊎◌, inl, inr, Bool, true, false, ◌||◌, List, [], ◌∷◌, ◌++◌, length, append-nil}
-use Rattle.std.proofs.Common.{refl, sym, ap, ap₂, ◌∙◌, subst, true≢false, arith}
-use Rattle.std.specs.List.{list_all}
-use Rattle.std.specs.Cmp.{IsEquivalence}
-use Rattle.linked_hash_map.specs.declared.map.Mode.{Mode}
-use Rattle.linked_hash_map.specs.LinkedMap.{LinkedMap}
-use Rattle.linked_hash_map.specs.Validity.{IsValid}
-use Rattle.linked_hash_map.specs.Log.{Log, Defines, size}
-use Rattle.linked_hash_map.specs.AllowedAnswers.{effects, log_after}
-use Rattle.linked_hash_map.specs.Run.{last_log, IsReply, IsRun, Replayed}
-use Rattle.linked_hash_map.specs.Commands.{is_refusal}
-use Rattle.linked_hash_map.specs.declared.replay.Command.{Command}
-use Rattle.linked_hash_map.specs.declared.replay.Command.TheVariants.{Insert}
-use Rattle.linked_hash_map.specs.declared.replay.Answer.{Answer}
-use Rattle.linked_hash_map.specs.declared.replay.Reply.{Reply}
-use Rattle.linked_hash_map.specs.Pairs.{put}
-use Rattle.linked_hash_map.proofs.Callers.Keys.{length-put_most}
-use Rattle.linked_hash_map.proofs.Callers.Replay.{Replied-given, Defines-first}
-use Rattle.linked_hash_map.proofs.Callers.WholeRuns.{NoneRefused, both_hold}
+use Rattle.std.proofs.Common.{◌≡◌, ℕ, ◌+◌, ◌≤◌, ◌⊎◌, inl, inr, Bool, true, false, ◌||◌, List, [], ◌∷◌, ◌++◌, length, append-nil, refl, sym}
+use Rattle.std.proofs.Common.{ap, ap₂, ◌∙◌, subst, true≢false, arith}
+use Rattle.std.specs.{List.list_all, Cmp.IsEquivalence}
+use Rattle.linked_hash_map.specs.{declared.map.Mode.Mode, LinkedMap.LinkedMap, Validity.IsValid, Log.Log, Log.Defines, Log.size}
+use Rattle.linked_hash_map.specs.{AllowedAnswers.effects, AllowedAnswers.log_after, Run.last_log, Run.IsReply, Run.IsRun, Run.Replayed}
+use Rattle.linked_hash_map.specs.{Commands.is_refusal, declared.replay.Command.Command, declared.replay.Command.TheVariants.Insert}
+use Rattle.linked_hash_map.specs.{declared.replay.Answer.Answer, declared.replay.Reply.Reply, Pairs.put}
+use Rattle.linked_hash_map.proofs.Callers.{Keys.length-put_most, Replay.Replied-given, Replay.Defines-first, WholeRuns.NoneRefused}
+use Rattle.linked_hash_map.proofs.Callers.{WholeRuns.both_hold}
 
 -- a command that inserts a pair
 abbrev pub is_insertion : {K V : Type 0} → Command K V → Bool

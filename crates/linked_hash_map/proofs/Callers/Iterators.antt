@@ -1,11 +1,9 @@
 -- For callers: the laws of iterators, for a wrapper that has an iterator of its own. It is seen as
 -- the list of what it has left.
 use Rattle.std.proofs.Common.{◌≡◌, List, [], ◌∷◌, length, reverse, Result, IfOk, Vec, vec_items, subst, ap, ◌∙◌}
-use Rattle.std.specs.Iterator.Adapters.{rev_source, rev_steps}
-use Rattle.std.specs.Map.Iter.{TakesLast}
-use Rattle.std.proofs.lemmas.List.{length-reverse, reverse-append}
 use Rattle.std.proofs.lemmas.Iterator.{YieldsList, IsCollectResult, items_from_collect}
-use Rattle.std.proofs.lemmas.Iterator.Consumers.{YieldsList-from_shown}
+use Rattle.std.proofs.lemmas.{List.length-reverse, List.reverse-append, Iterator.Consumers.YieldsList-from_shown}
+use Rattle.std.specs.{Iterator.Adapters.rev_source, Iterator.Adapters.rev_steps, Map.Iter.TakesLast}
 pub use Rattle.linked_hash_map.proofs.pairs.IteratorLaws.{shows_in_order, shows_in_reverse, gives_in_order, gives_in_reverse}
 pub use Rattle.linked_hash_map.proofs.pairs.IteratorLaws.{lends_in_order, lends_in_reverse, keys_stand}
 

@@ -2,8 +2,7 @@
 use Rattle.std.proofs.Common.{◌≡◌, ℕ, not, List, ◌∷◌, filter, true, is_some, nat_eq, ap, ◌∙◌}
 use Rattle.std.specs.Map.{keys_of}
 use Rattle.linked_hash_map.specs.Pairs.{find, without, to_front}
-use Rattle.linked_hash_map.proofs.Callers.Keys.{keys_of-without}
-use Rattle.linked_hash_map.proofs.Callers.Rules.{keys_of-to_front_number}
+use Rattle.linked_hash_map.proofs.Callers.{Keys.keys_of-without, Rules.keys_of-to_front_number}
 
 module _ {V : Type 0} (pairs after : List (ℕ × V)) (k : ℕ) where
   -- the keys after a removal

@@ -1,19 +1,13 @@
 -- For callers: which pairs and keys there are after each call, and how many.
-use Rattle.std.proofs.Common.{◌≡◌, ℕ, zero, suc, ◌+◌, ◌≤◌, Bool, true, false, cond, not, ◌||◌, IsTrue, List, []}
-use Rattle.std.proofs.Common.{◌∷◌, ◌++◌, length, drop, option_map, unwrap_or}
-use Rattle.std.proofs.Common.{filter, Some, None, is_some, refl, sym, ap, ◌∙◌, subst, true≢false, arith, length-append}
-use Rattle.std.specs.Option.{IsSome}
-use Rattle.std.specs.List.{IsDistinct, list_any}
+use Rattle.std.proofs.Common.{◌≡◌, ℕ, zero, suc, ◌+◌, ◌≤◌, Bool, true, false, cond, not, ◌||◌, IsTrue, List, [], ◌∷◌, ◌++◌, length, drop}
+use Rattle.std.proofs.Common.{option_map, unwrap_or, filter, Some, None, is_some, refl, sym, ap, ◌∙◌, subst, true≢false, arith}
+use Rattle.std.{proofs.Common.length-append, specs.Option.IsSome, specs.List.IsDistinct, specs.List.list_any}
 use Rattle.std.specs.List as lists
-use Rattle.std.specs.Map.{lookup_entry, keys_of}
-use Rattle.std.specs.Cmp.{IsEquivalence}
+use Rattle.std.specs.{Map.lookup_entry, Map.keys_of, Cmp.IsEquivalence}
 use Rattle.std.proofs.lemmas.List.{map-append, drop-map, take-map, length-map}
-use Rattle.linked_hash_map.specs.declared.map.Mode.{Mode}
-use Rattle.linked_hash_map.specs.declared.map.Mode.TheVariants.{Touch}
-use Rattle.linked_hash_map.specs.Pairs.{first, without_first, without_last, key_or, find, value_at, without, to_back}
-use Rattle.linked_hash_map.specs.Pairs.{set_value, set_or_push, put}
-use Rattle.linked_hash_map.proofs.log.LiveKeys.{none_is}
-use Rattle.linked_hash_map.proofs.Callers.Lookups.{eq-stored}
+use Rattle.linked_hash_map.specs.Pairs.{first, without_first, without_last, key_or, find, value_at, without, to_back, set_value}
+use Rattle.linked_hash_map.specs.{declared.map.Mode.Mode, declared.map.Mode.TheVariants.Touch, Pairs.set_or_push, Pairs.put}
+use Rattle.linked_hash_map.proofs.{log.LiveKeys.none_is, Callers.Lookups.eq-stored}
 -- calls with a key that is absent, and one with a key that is present
 pub use Rattle.linked_hash_map.proofs.pairs.Calls.{find-none, set_value-none, without-absent, to_back-absent}
 pub use Rattle.linked_hash_map.proofs.pairs.Calls.{set_or_push-absent, put-absent, set_or_push-present}

@@ -1,15 +1,10 @@
 -- For callers: what a map has at a key after each call.
 use Rattle.std.proofs.Common.{◌≡◌, ◌-◌, Bool, true, false, cond, not, List, [], ◌∷◌, ◌++◌, length, length-append, drop, remove, slice_get}
 use Rattle.std.proofs.Common.{filter, Option, Some, None, is_some, option_map, refl, sym, ap, ◌∙◌, true≢false, arith}
-use Rattle.std.specs.List.{IsDistinct}
-use Rattle.std.specs.Option.{option_or}
-use Rattle.std.specs.Map.{lookup_entry, keys_of}
-use Rattle.std.specs.Cmp.{IsEquivalence}
-use Rattle.linked_hash_map.specs.declared.map.Mode.{Mode}
-use Rattle.linked_hash_map.specs.declared.map.Mode.TheVariants.{Touch}
+use Rattle.std.specs.{List.IsDistinct, Option.option_or, Map.lookup_entry, Map.keys_of, Cmp.IsEquivalence}
+use Rattle.linked_hash_map.specs.declared.map.{Mode.Mode, Mode.TheVariants.Touch}
 use Rattle.linked_hash_map.specs.Pairs.{last, key_or, find, value_at, without, to_back, set_value, set_or_push, put}
-use Rattle.linked_hash_map.proofs.log.LiveKeys.{same_test}
-use Rattle.linked_hash_map.proofs.pairs.Indexes.{without-own, slice_get-last}
+use Rattle.linked_hash_map.proofs.{log.LiveKeys.same_test, pairs.Indexes.without-own, pairs.Indexes.slice_get-last}
 
 -- what stands behind the others is the last
 pub last-append : {X : Type 0} (xs : List X) (x : X) → last (xs ++ x ∷ []) ≡ Some x

@@ -1,18 +1,13 @@
 -- For callers: insertions of items with distinct keys one by one, as one list.
 use Rattle.std.proofs.Common.{◌≡◌, Bool, true, false, cond, not, List, [], ◌∷◌, ◌++◌, map, filter, append_assoc, arith, append-nil, Option}
 use Rattle.std.proofs.Common.{Some, None, is_some, unwrap_or, refl, sym, ap, ap₂, ◌∙◌}
-use Rattle.std.specs.Cmp.{IsEquivalence}
-use Rattle.std.specs.List.{IsDistinct, AllByRecursion}
-use Rattle.std.specs.Map.{keys_of}
-use Rattle.std.proofs.lemmas.List.{map-append}
-use Rattle.std.proofs.lemmas.Map.Keys.{IsDistinct-head, IsDistinct-tail}
-use Rattle.linked_hash_map.specs.declared.map.Mode.TheVariants.{Touch, Keep}
+use Rattle.std.proofs.lemmas.{List.map-append, Map.Keys.IsDistinct-head, Map.Keys.IsDistinct-tail}
+use Rattle.std.specs.{Cmp.IsEquivalence, List.IsDistinct, List.AllByRecursion, Map.keys_of}
 use Rattle.linked_hash_map.specs.Pairs.{key_or, find, value_at, to_back, set_value, set_or_push}
-use Rattle.linked_hash_map.specs.Inserts.{insert_each}
+use Rattle.linked_hash_map.specs.{declared.map.Mode.TheVariants.Touch, declared.map.Mode.TheVariants.Keep, Inserts.insert_each}
 use Rattle.linked_hash_map.proofs.pairs.Calls.{set_value-none}
-use Rattle.linked_hash_map.proofs.Callers.Collected.{filter-filter, filter-last, not_again}
-use Rattle.linked_hash_map.proofs.Callers.Lookups.{eq-stored, find-to_back, find-set_or_push_apart}
-use Rattle.linked_hash_map.proofs.Callers.Turns.{find-others}
+use Rattle.linked_hash_map.proofs.Callers.{Collected.filter-filter, Collected.filter-last, Collected.not_again, Lookups.eq-stored}
+use Rattle.linked_hash_map.proofs.Callers.{Lookups.find-to_back, Lookups.find-set_or_push_apart, Turns.find-others}
 
 map-same : {X : Type 0} (xs : List X) → map (λ x. x) xs ≡ xs
 map-same [] = refl

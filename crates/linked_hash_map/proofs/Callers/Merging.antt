@@ -1,14 +1,9 @@
 -- For callers: loops over the pairs of another map, whose values go into the values of this one.
-use Rattle.std.proofs.Common.{◌≡◌, ◌⊎◌, inl, inr, Bool, true, false, cond, List, ◌∷◌, Option, Some, None, option_map, arith}
-use Rattle.std.proofs.Common.{refl, sym, ap, subst, ◌∙◌}
-use Rattle.std.specs.Cmp.{IsEquivalence}
-use Rattle.std.specs.List.{IsDistinct}
-use Rattle.std.specs.Map.{keys_of}
-use Rattle.std.specs.Option.{option_or}
-use Rattle.std.proofs.lemmas.Map.Keys.{IsDistinct-tail}
+use Rattle.std.proofs.Common.{◌≡◌, ◌⊎◌, inl, inr, Bool, true, false, cond, List, ◌∷◌, Option, Some, None, option_map, arith, refl, sym, ap}
+use Rattle.std.proofs.{Common.subst, Common.◌∙◌, lemmas.Map.Keys.IsDistinct-tail}
+use Rattle.std.specs.{Cmp.IsEquivalence, List.IsDistinct, Map.keys_of, Option.option_or}
 use Rattle.linked_hash_map.specs.Pairs.{find, value_at, set_or_push, ActsAs}
-use Rattle.linked_hash_map.proofs.Callers.Lookups.{value_at-same, value_at-set_or_push}
-use Rattle.linked_hash_map.proofs.Callers.Turns.{find-others}
+use Rattle.linked_hash_map.proofs.Callers.{Lookups.value_at-same, Lookups.value_at-set_or_push, Turns.find-others}
 
 -- what a key has in the pairs that are left before the first is taken: if it is the first key, the
 -- value there, and it has in other pairs what the first key has; else what it has in the rest

@@ -1,18 +1,12 @@
 -- For callers: the pairs with one moved to the back or to the front, as it is, or rotated. Each key
 -- finds what it found.
-use Rattle.std.proofs.Common.{◌≡◌, ℕ, Bool, true, false, cond, List, [], ◌∷◌, ◌++◌, take, drop, Option, Some, None, arith}
-use Rattle.std.proofs.Common.{option_to_list, refl, sym, ap, ◌∙◌}
-use Rattle.std.specs.Cmp.{IsEquivalence}
-use Rattle.std.specs.List.{IsDistinct}
-use Rattle.std.specs.Map.{keys_of}
-use Rattle.std.specs.Option.{option_or}
-use Rattle.std.proofs.lemmas.List.{append-nil, take-append-drop}
-use Rattle.std.proofs.lemmas.Map.Keys.{IsDistinct-tail}
+use Rattle.std.proofs.Common.{◌≡◌, ℕ, Bool, true, false, cond, List, [], ◌∷◌, ◌++◌, take, drop, Option, Some, None, arith, option_to_list}
+use Rattle.std.proofs.Common.{refl, sym, ap, ◌∙◌}
+use Rattle.std.proofs.lemmas.{List.append-nil, List.take-append-drop, Map.Keys.IsDistinct-tail}
+use Rattle.std.specs.{Cmp.IsEquivalence, List.IsDistinct, Map.keys_of, Option.option_or}
 use Rattle.linked_hash_map.specs.Pairs.{key_or, find, without, to_back_as_is, to_front}
-use Rattle.linked_hash_map.proofs.Callers.Keys.{without-absent}
 use Rattle.linked_hash_map.proofs.Callers.Lookups.{eq-find, find-same, find-without, find-to_back, lookup_entry-append}
-use Rattle.linked_hash_map.proofs.pairs.Calls.{filter-none}
-use Rattle.linked_hash_map.proofs.pairs.Indexes.{others_differ}
+use Rattle.linked_hash_map.proofs.{Callers.Keys.without-absent, pairs.Calls.filter-none, pairs.Indexes.others_differ}
 
 -- of a key that is absent
 module _ {A K V : Type 0} (eq : A → K → Bool) (pairs : List (K × V)) (k : A) (none : find eq pairs k ≡ None) where

@@ -1,25 +1,16 @@
 -- For callers: more sets of lemmas that an attribute names, at numbers: an insertion taken back,
 -- pairs of another map, moves across others, writes, and visits. `Rules` says how they are written.
-use Rattle.std.proofs.Common.{◌≡◌, ◌+◌, ℕ, Bool, true, false, List, [], ◌∷◌, ◌++◌, length, Some, None, is_some, nat_eq, refl, sym, ap, ap₂, ◌∙◌}
-use Rattle.std.proofs.Common.{arith, append_assoc, length-append}
-use Rattle.std.specs.Cmp.{nat_eq_equiv}
-use Rattle.std.specs.List.{All, IsDistinct}
-use Rattle.std.specs.Map.{keys_of}
-use Rattle.std.proofs.Math.Seq.{take-append_seam, drop-append_seam}
-use Rattle.std.proofs.lemmas.Bool.Decides.{nat_tests}
-use Rattle.std.proofs.lemmas.Map.Keys.{IsDistinct-tail}
-use Rattle.linked_hash_map.specs.declared.map.Mode.{Mode}
-use Rattle.linked_hash_map.specs.declared.map.Mode.TheVariants.{Keep}
-use Rattle.linked_hash_map.specs.Inserts.{insert_each}
+use Rattle.std.proofs.Common.{◌≡◌, ◌+◌, ℕ, Bool, true, false, List, [], ◌∷◌, ◌++◌, length, Some, None, is_some, nat_eq, refl, sym, ap, ap₂}
+use Rattle.std.proofs.Common.{◌∙◌, arith, append_assoc, length-append}
+use Rattle.std.proofs.{Math.Seq.take-append_seam, Math.Seq.drop-append_seam, lemmas.Bool.Decides.nat_tests, lemmas.Map.Keys.IsDistinct-tail}
+use Rattle.std.specs.{Cmp.nat_eq_equiv, List.All, List.IsDistinct, Map.keys_of}
 use Rattle.linked_hash_map.specs.Pairs.{find, value_at, without, set_value, set_or_push, count_before, to_behind, to_before, to_after}
-use Rattle.linked_hash_map.specs.Visits.{VisitMaps}
-use Rattle.linked_hash_map.proofs.Callers.Collected.{insert_each-apart}
+use Rattle.linked_hash_map.specs.{declared.map.Mode.Mode, declared.map.Mode.TheVariants.Keep, Inserts.insert_each, Visits.VisitMaps}
 use Rattle.linked_hash_map.proofs.Callers.Cuts.{find-cut, count_before-cut, to_before-cut}
 use Rattle.linked_hash_map.proofs.Callers.Keys.{find-none, set_value-none, without-absent}
-use Rattle.linked_hash_map.proofs.Callers.Lookups.{lookup_entry-append, value_at-set_or_push_here}
-use Rattle.linked_hash_map.proofs.Callers.Turns.{find-others}
 use Rattle.linked_hash_map.proofs.Callers.WritingVisits.{VisitMaps-written, VisitMaps-removed, length-changed}
-use Rattle.linked_hash_map.proofs.Callers.Writes.{without-put, set_value-set_or_push}
+use Rattle.linked_hash_map.proofs.Callers.{Collected.insert_each-apart, Lookups.lookup_entry-append, Lookups.value_at-set_or_push_here}
+use Rattle.linked_hash_map.proofs.Callers.{Turns.find-others, Writes.without-put, Writes.set_value-set_or_push}
 
 -- after an insertion in Keep the key has the value; a new key removed, or the old value written,
 -- gives the pairs that were there before

@@ -1,10 +1,9 @@
 -- For callers: a page of what an iterator over a map has left.
 use Rattle.std.proofs.Common.{◌≡◌, ℕ, List, map, take, drop, Result, IfOk, Vec, vec_items}
+use Rattle.std.proofs.lemmas.Iterator.{IsCollectResult, YieldsList-from_take}
+use Rattle.std.proofs.lemmas.Iterator.{Adapters.YieldsList-from_skip, Consumers.YieldsList-from_rest, Consumers.map_from_collect}
 use Rattle.std.specs.Iterator.Adapters.{skip_source, skip_count, skip_steps, take_source, take_count, take_steps}
 use Rattle.std.specs.Map.Iter.{TakesFirst}
-use Rattle.std.proofs.lemmas.Iterator.{IsCollectResult, YieldsList-from_take}
-use Rattle.std.proofs.lemmas.Iterator.Adapters.{YieldsList-from_skip}
-use Rattle.std.proofs.lemmas.Iterator.Consumers.{YieldsList-from_rest, map_from_collect}
 
 -- the first n, as by `take(n)`
 pub map_from_take_collect : {X Y Z E : Type 0} (shows : X → Y) {s : _} (all : List Y) (n : ℕ) (r : Result (Vec X Z) E)

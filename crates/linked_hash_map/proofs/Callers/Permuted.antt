@@ -1,16 +1,10 @@
 -- For callers: the pairs in another order, and in the reverse one. Each key finds what it found.
 use Rattle.std.proofs.Common.{◌≡◌, suc, Bool, true, false, cond, List, [], ◌∷◌, reverse, Option, Some, None, refl, sym, ap, ◌∙◌, arith}
-use Rattle.std.specs.Cmp.{IsEquivalence}
-use Rattle.std.specs.List.{Contains, IsDistinct}
-use Rattle.std.specs.List.Sorted.{IsPermutation}
-use Rattle.std.specs.Map.{keys_of}
 use Rattle.std.proofs.lemmas.List.Sorted.{IsPermutation-sym, IsPermutation-map, IsPermutation-reverse, Contains-permutation}
-use Rattle.std.proofs.lemmas.Map.Keys.{IsDistinct-IsPermutation}
-use Rattle.std.proofs.lemmas.Option.{slice_get-get_or}
+use Rattle.std.proofs.lemmas.{Map.Keys.IsDistinct-IsPermutation, Option.slice_get-get_or}
+use Rattle.std.specs.{Cmp.IsEquivalence, List.Contains, List.IsDistinct, List.Sorted.IsPermutation, Map.keys_of}
 use Rattle.linked_hash_map.specs.Pairs.{find}
-use Rattle.linked_hash_map.proofs.Callers.Lookups.{eq-find, find-same}
-use Rattle.linked_hash_map.proofs.lists.FromFirst.{map-reverse}
-use Rattle.linked_hash_map.proofs.pairs.Indexes.{find-own}
+use Rattle.linked_hash_map.proofs.{Callers.Lookups.eq-find, Callers.Lookups.find-same, lists.FromFirst.map-reverse, pairs.Indexes.find-own}
 
 pub keys_of-reverse : {K V : Type 0} (pairs : List (K × V)) → keys_of (reverse pairs) ≡ reverse (keys_of pairs)
 keys_of-reverse pairs = map-reverse (λ pair. pair.0) pairs

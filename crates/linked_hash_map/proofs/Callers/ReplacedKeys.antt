@@ -1,9 +1,7 @@
 -- For callers: the pairs with a key in place of the stored key that is the same. Each key finds the
 -- same value.
-use Rattle.std.proofs.Common.{◌≡◌, Bool, true, false, cond, List, [], ◌∷◌, map, length, Some, option_map, arith, refl, ap}
-use Rattle.std.specs.Cmp.{IsEquivalence}
-use Rattle.std.specs.Map.{keys_of}
-use Rattle.std.proofs.lemmas.List.{length-map}
+use Rattle.std.proofs.Common.{◌≡◌, Bool, List, [], ◌∷◌, map, length, option_map, arith, refl, ap}
+use Rattle.std.{specs.Cmp.IsEquivalence, specs.Map.keys_of, proofs.lemmas.List.length-map}
 use Rattle.linked_hash_map.specs.Pairs.{find, value_at, replaced, set_key}
 -- of a key that is absent
 pub use Rattle.linked_hash_map.proofs.pairs.Calls.{set_key-absent}
@@ -21,18 +19,10 @@ pub eq-replaced : {K : Type 0} {eq : K → K → Bool} → IsEquivalence eq → 
 eq-replaced laws k stored q = grind arith
 
 module _ {K V : Type 0} {eq : K → K → Bool} (laws : IsEquivalence eq) where
-  abbrev rekeyed : K → K × V → K × V
-  rekeyed k pair = (replaced eq k pair.0, pair.1)
-
   pub find-set_key : (pairs : List (K × V)) (k q : K)
       → find eq (set_key eq pairs k) q ≡ option_map (λ (pair : K × V). (replaced eq k pair.0, pair.1)) (find eq pairs q)
   find-set_key [] k q = refl
   find-set_key (first ∷ pairs) k q = grind (arith, eq-replaced, find-set_key pairs k q)
-    where
-      by_test : (b : Bool) → cond b (Some (rekeyed k first)) (option_map (rekeyed k) (find eq pairs q))
-          ≡ option_map (rekeyed k) (cond b (Some first) (find eq pairs q))
-      by_test true = refl
-      by_test false = refl
 
   pub value_at-set_key : (pairs : List (K × V)) (k q : K) → value_at eq (set_key eq pairs k) q ≡ value_at eq pairs q
   value_at-set_key pairs k q = grind (arith, find-set_key)

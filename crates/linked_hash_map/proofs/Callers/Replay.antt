@@ -2,25 +2,17 @@
 -- of single calls.
 use Rattle.std.proofs.Common.{◌≡◌, ℕ, ◌-◌, Bool, false, cond, IsFalse, List, [], length, take, arith, drop, slice_get, Option, is_some, ap}
 use Rattle.std.specs.Cmp.{IsEquivalence}
-use Rattle.linked_hash_map.specs.LinkedMap.{LinkedMap}
-use Rattle.linked_hash_map.specs.Validity.{IsValid}
-use Rattle.linked_hash_map.specs.Log.{Log, Defines}
-use Rattle.linked_hash_map.specs.declared.map.Mode.{Mode}
 use Rattle.linked_hash_map.specs.Pairs.{find, value_at, without, set_value}
-use Rattle.linked_hash_map.specs.AllowedAnswers.{log_after}
-use Rattle.linked_hash_map.specs.Run.{first_log, IsReply}
-use Rattle.linked_hash_map.specs.Commands.{is_refusal, old_or, pair_or_empty, to_back_if_some}
-use Rattle.linked_hash_map.specs.Commands.{answer_to, pairs_after, capacity_after, mode_after}
-use Rattle.linked_hash_map.specs.declared.replay.Command.{Command}
+use Rattle.linked_hash_map.specs.Commands.{is_refusal, old_or, pair_or_empty, to_back_if_some, answer_to, pairs_after, capacity_after}
 use Rattle.linked_hash_map.specs.declared.replay.Command.TheVariants.{Write, Refresh, Remove, PopFront, PopBack, Clear, EntryRemove}
-use Rattle.linked_hash_map.specs.declared.replay.Command.TheVariants.{SetMode}
-use Rattle.linked_hash_map.specs.declared.replay.Answer.{Answer}
 use Rattle.linked_hash_map.specs.declared.replay.Answer.TheVariants.{Found, Missing, Absent, Done}
-use Rattle.linked_hash_map.specs.declared.replay.Reply.{Reply}
-use Rattle.linked_hash_map.proofs.runs.Effects.{size-contents}
-use Rattle.linked_hash_map.proofs.runs.Steps.{Defines-first_log}
+use Rattle.linked_hash_map.specs.{LinkedMap.LinkedMap, Validity.IsValid, Log.Log, Log.Defines, declared.map.Mode.Mode}
+use Rattle.linked_hash_map.specs.{AllowedAnswers.log_after, Run.first_log, Run.IsReply, Commands.mode_after}
+use Rattle.linked_hash_map.specs.{declared.replay.Command.Command, declared.replay.Command.TheVariants.SetMode}
+use Rattle.linked_hash_map.specs.{declared.replay.Answer.Answer, declared.replay.Reply.Reply}
 use Rattle.linked_hash_map.proofs.runs.Outcomes.{outcome, write_outcome, refresh_outcome, remove_outcome, pop_front_outcome}
 use Rattle.linked_hash_map.proofs.runs.Outcomes.{pop_back_outcome, clear_outcome, set_mode_outcome}
+use Rattle.linked_hash_map.proofs.runs.{Effects.size-contents, Steps.Defines-first_log}
 
 -- a run begins with a log that defines the map
 pub Defines-first : {K V S : Type 0} {eq : K → K → Bool} → IsEquivalence eq → {m : LinkedMap K V S}

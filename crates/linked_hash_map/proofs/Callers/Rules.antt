@@ -2,44 +2,31 @@
 -- using(linked_hash_map::proofs::Callers::Rules::number_keys))]. At numbers a lemma is stated at
 -- their equality, so that `grind` has none to find; the first part of a conclusion shows it the
 -- call to match.
-use Rattle.std.proofs.Common.{◌≡◌, ◌⊎◌, false, ℕ, ◌+◌, ◌<◌, ◌≤◌, inl, inr, sym, take, get_or, cond, not, List, [], ◌∷◌, arith}
-use Rattle.std.proofs.Common.{◌++◌, length, filter, map, is_some, Some, None, refl, ap, ◌∙◌, nat_eq, true}
-use Rattle.std.proofs.Common.{slice_get, reverse, subst, append_assoc, Option, option_to_list, ap₂, true≢false}
-use Rattle.std.specs.Cmp.Lexicographic.{nat_list_eq_equiv}
-use Rattle.std.specs.Prelude.{String, string_eq}
-use Rattle.std.specs.declared.alloc.Global.{Global}
-use Rattle.std.specs.Str.{bytes_eq}
-use Rattle.std.specs.String.{string_bytes}
-use Rattle.std.specs.Cmp.{nat_eq_equiv}
-use Rattle.std.specs.Map.{keys_of, values_of}
-use Rattle.std.specs.Option.{option_or}
-use Rattle.std.specs.List.{Contains, IsDistinct}
-use Rattle.std.proofs.lemmas.List.{append-nil}
-use Rattle.std.proofs.lemmas.Bool.{eqb-true}
-use Rattle.std.proofs.lemmas.List.Elements.{All-weaker, All-contains_itself}
-use Rattle.linked_hash_map.specs.declared.map.Mode.{Mode}
-use Rattle.linked_hash_map.specs.declared.map.Mode.TheVariants.{Touch}
-use Rattle.linked_hash_map.specs.Pairs.{key_or, find, value_at, without, from, to_back_as_is, to_front}
-use Rattle.linked_hash_map.specs.Pairs.{set_or_push, put, put_front, to_before, to_after}
-use Rattle.linked_hash_map.proofs.Callers.Keys.{length-put_most, key_or-find, keys_of-to_back, keys_of-to_back_own}
-use Rattle.linked_hash_map.proofs.Callers.Keys.{keys_of-without, keys_of-set_or_push, keys_of-append, keys_of-without_first}
-use Rattle.linked_hash_map.proofs.Callers.Keys.{keys_of-without_last, first-keys_of, put-absent, find-none, set_value-none}
-use Rattle.linked_hash_map.proofs.Callers.Collected.{insert_each-append, insert_each-snoc}
-use Rattle.linked_hash_map.proofs.Callers.Counted.{CountsItems-start, CountsItems-counted, CountsItems-below}
-use Rattle.linked_hash_map.proofs.Callers.Counted.{CountsKnown-start, CountsKnown-counted, CountsKnown-fits}
+use Rattle.std.proofs.Common.{◌≡◌, ◌⊎◌, false, ℕ, ◌+◌, ◌<◌, ◌≤◌, inl, inr, sym, take, get_or, cond, not, List, [], ◌∷◌, arith, ◌++◌, length}
+use Rattle.std.proofs.Common.{filter, map, is_some, Some, None, refl, ap, ◌∙◌, nat_eq, true, slice_get, reverse, subst, append_assoc}
+use Rattle.std.proofs.Common.{Option, option_to_list, ap₂, true≢false}
+use Rattle.std.proofs.lemmas.{List.append-nil, Bool.eqb-true, List.Elements.All-weaker, List.Elements.All-contains_itself}
+use Rattle.std.specs.{Cmp.Lexicographic.nat_list_eq_equiv, Prelude.String, Prelude.string_eq, declared.alloc.Global.Global, Str.bytes_eq}
+use Rattle.std.specs.{String.string_bytes, Cmp.nat_eq_equiv, Map.keys_of, Map.values_of, Option.option_or, List.Contains, List.IsDistinct}
+use Rattle.linked_hash_map.specs.Pairs.{key_or, find, value_at, without, from, to_back_as_is, to_front, set_or_push, put, put_front}
+use Rattle.linked_hash_map.specs.{declared.map.Mode.Mode, declared.map.Mode.TheVariants.Touch, Pairs.to_before, Pairs.to_after}
+use Rattle.linked_hash_map.proofs.Callers.Keys.{length-put_most, key_or-find, keys_of-to_back, keys_of-to_back_own, keys_of-without}
+use Rattle.linked_hash_map.proofs.Callers.Keys.{keys_of-set_or_push, keys_of-append, keys_of-without_first, keys_of-without_last}
+use Rattle.linked_hash_map.proofs.Callers.Keys.{first-keys_of, put-absent, find-none, set_value-none}
+use Rattle.linked_hash_map.proofs.Callers.Counted.{CountsItems-start, CountsItems-counted, CountsItems-below, CountsKnown-start}
+use Rattle.linked_hash_map.proofs.Callers.Counted.{CountsKnown-counted, CountsKnown-fits}
 use Rattle.linked_hash_map.proofs.Callers.Cuts.{find-cut, find-second, from-cut, from-second_reverse, to_before-cut, to_after-cut}
 use Rattle.linked_hash_map.proofs.Callers.Dense.{values_of_dense_push, value_at_dense_each, eq-dense, eq-dense_found}
 use Rattle.linked_hash_map.proofs.Callers.EachPair.{All-find, All-without, All-to_back_as_is, All-put}
 use Rattle.linked_hash_map.proofs.Callers.Ends.{keys_of-take, take-keys_of, to_front-put, value_at-take}
 use Rattle.linked_hash_map.proofs.Callers.Lookups.{eq-find, eq-stored, value_at-append, value_at-without_append}
-use Rattle.linked_hash_map.proofs.Callers.Moves.{to_back_as_is-absent}
 use Rattle.linked_hash_map.proofs.Callers.Rounds.{IsTurned-start, IsTurned-turn, IsTurned-round}
 use Rattle.linked_hash_map.proofs.Callers.TextCounts.{CountsTexts-start, CountsTexts-counted, CountsTexts-below, CountsTexts-all}
 use Rattle.linked_hash_map.proofs.Callers.TextLookups.{find-by_key, value_at-set_value, value_at-put_text, value_at-removed_text}
-use Rattle.linked_hash_map.proofs.Callers.Texts.{value_at-by_bytes, values_of-by_bytes}
-use Rattle.linked_hash_map.proofs.Callers.Turns.{cons-keys_of_first, put-without_first}
 use Rattle.linked_hash_map.proofs.Callers.Visits.{VisitKeeps-passed, VisitKeeps-removed, append-visited, length-kept}
 use Rattle.linked_hash_map.proofs.Callers.WritingVisits.{VisitMaps-written, VisitMaps-removed, VisitMaps-start, length-changed}
+use Rattle.linked_hash_map.proofs.Callers.{Collected.insert_each-append, Collected.insert_each-snoc, Texts.value_at-by_bytes}
+use Rattle.linked_hash_map.proofs.Callers.{Texts.values_of-by_bytes, Turns.cons-keys_of_first, Turns.put-without_first}
 
 -- at numbers
 module _ {V : Type 0} (mode : Mode) (pairs : List (ℕ × V)) (k : ℕ) (v : V) where
@@ -91,7 +78,8 @@ keys_of-put_to_front mode pairs k v put_is moved_is = grind (arith, to_front-put
 
 -- a pair that is put in at the front
 pub put_front_number : {V : Type 0} (mode : Mode) (pairs : List (ℕ × V)) (k : ℕ) (v : V) → mode ≡ Touch
-    → (put_front nat_eq mode pairs k v ≡ put_front nat_eq mode pairs k v) × (put_front nat_eq mode pairs k v ≡ (k, v) ∷ without nat_eq pairs k)
+    → (put_front nat_eq mode pairs k v ≡ put_front nat_eq mode pairs k v)
+    × (put_front nat_eq mode pairs k v ≡ (k, v) ∷ without nat_eq pairs k)
 put_front_number mode pairs k v touch = (
   refl,
   ap (λ m. put_front nat_eq m pairs k v) touch ∙ ap (λ (j : ℕ). (j, v) ∷ without nat_eq pairs k)
@@ -242,15 +230,8 @@ pub ruleset text_keys = (keys_of-without_text, keys_of-set_or_push_text)
 pub ruleset byte_keys = (value_at-put_bytes, value_at-text_bytes, values_of-text_bytes)
 
 -- what each text finds after each call
-pub ruleset text_lookups = (
-  find-by_key,
-  value_at-set_value,
-  value_at-put_text,
-  value_at-removed_text,
-  find-none,
-  set_value-none,
-  to_back_as_is-absent,
-)
+pub ruleset text_lookups =
+    (find-by_key, value_at-set_value, value_at-put_text, value_at-removed_text, find-none, set_value-none)
 
 -- the keys after an insertion in Touch, in words of the keys alone
 pub ruleset stored_keys = (keys_of-to_back, key_or-find)

@@ -1,12 +1,8 @@
 -- For callers: what ascends after `sort_by` and `sort_by_key`, as std says of a list by `IsNonDecreasingBy-from_sort_by`.
 use Rattle.std.proofs.Common.{◌≡◌, ℕ, List, Bor, ap}
-use Rattle.std.specs.Cmp.{IsTotalOrder, nat_cmp_total}
-use Rattle.std.specs.Fn.{Mut, Called}
-use Rattle.std.specs.List.Sorted.{IsNonDecreasingBy, IsSortedByKey}
-use Rattle.std.specs.Ordering.{is_lt, nat_cmp}
-use Rattle.std.specs.declared.cmp.Ordering.{Ordering}
-use Rattle.std.proofs.lemmas.Fn.{always_returns_same}
-use Rattle.std.proofs.lemmas.List.Sorted.{ranks_by, IsNonDecreasingBy-from_sort}
+use Rattle.std.proofs.lemmas.{Fn.always_returns_same, List.Sorted.ranks_by, List.Sorted.IsNonDecreasingBy-from_sort}
+use Rattle.std.specs.{Cmp.IsTotalOrder, Cmp.nat_cmp_total, Fn.Mut, Fn.Called, List.Sorted.IsNonDecreasingBy, List.Sorted.IsSortedByKey}
+use Rattle.std.specs.{Ordering.is_lt, Ordering.nat_cmp, declared.cmp.Ordering.Ordering}
 use Rattle.linked_hash_map.specs.Sort.{IsSortedByClosure, IsSortedByKeyClosure}
 
 module _ {K V F : Type 0} where

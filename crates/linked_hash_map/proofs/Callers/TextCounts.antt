@@ -1,15 +1,9 @@
 -- For callers: a count for each text of a slice, one text after another.
-use Rattle.std.proofs.Common.{◌≡◌, ℕ, ◌+◌, ◌<◌, ◌≤◌, length, length-take, take, take_all, get_or, unwrap_or, List, [], Some}
-use Rattle.std.proofs.Common.{refl, ap, ◌∙◌, arith}
-use Rattle.std.specs.Borrow.{Bor}
-use Rattle.std.specs.List.{count_by}
+use Rattle.std.proofs.Common.{◌≡◌, ℕ, ◌+◌, ◌<◌, ◌≤◌, length, length-take, take, take_all, get_or, unwrap_or, List, [], Some, refl, ap, ◌∙◌}
+use Rattle.std.proofs.{Common.arith, lemmas.List.Sums.count_by-le-length}
 use Rattle.std.specs.Prelude.{String, string_eq}
-use Rattle.std.specs.declared.alloc.Global.{Global}
-use Rattle.std.specs.Str.{bytes_eq}
-use Rattle.std.specs.String.{string_bytes}
-use Rattle.std.proofs.lemmas.List.Sums.{count_by-le-length}
-use Rattle.linked_hash_map.specs.Pairs.{value_at}
-use Rattle.linked_hash_map.specs.Updates.{UpdatesBy}
+use Rattle.std.specs.{Borrow.Bor, List.count_by, declared.alloc.Global.Global, Str.bytes_eq, String.string_bytes}
+use Rattle.linked_hash_map.specs.{Pairs.value_at, Updates.UpdatesBy}
 use Rattle.linked_hash_map.proofs.Callers.Texts.{is_text, count_by-updated}
 
 -- each text has as its count how often it comes, which is 0 if it has none

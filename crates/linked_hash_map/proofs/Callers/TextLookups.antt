@@ -1,19 +1,12 @@
 -- For callers: what each text finds after a change, at `String` keys. The first part of a conclusion
 -- shows `grind` the lookup or the call.
-use Rattle.std.proofs.Common.{◌≡◌, ◌⊎◌, inl, inr, ℕ, Bool, List, [], ◌∷◌, Option, Some, None, option_map, cond, true, false}
-use Rattle.std.proofs.Common.{refl, sym, ap, ◌∙◌, arith}
-use Rattle.std.specs.Cmp.Lexicographic.{bytes_decides}
-use Rattle.std.specs.Prelude.{String, string_eq}
-use Rattle.std.specs.declared.alloc.Global.{Global}
-use Rattle.std.specs.Str.{bytes_eq}
-use Rattle.std.specs.String.{string_bytes, string_eq_equiv}
-use Rattle.std.proofs.lemmas.Cmp.{nat_list_eq_equiv}
-use Rattle.linked_hash_map.specs.declared.map.Mode.{Mode}
-use Rattle.linked_hash_map.specs.Pairs.{find, value_at, without, set_value, put}
-use Rattle.linked_hash_map.proofs.Callers.Lookups.{value_at-without}
-use Rattle.linked_hash_map.proofs.Callers.Texts.{is_text, is_text-find, find-is_text, value_at-updated}
-use Rattle.linked_hash_map.proofs.Callers.Texts.{by_bytes, value_at-by_bytes, by_bytes-without}
-use Rattle.linked_hash_map.proofs.Callers.Updates.{Updates-put}
+use Rattle.std.proofs.Common.{◌≡◌, ◌⊎◌, inl, inr, ℕ, Bool, List, [], ◌∷◌, Option, Some, None, option_map, cond, true, false, refl, sym, ap}
+use Rattle.std.proofs.{Common.◌∙◌, Common.arith, lemmas.Cmp.nat_list_eq_equiv}
+use Rattle.std.specs.{Cmp.Lexicographic.bytes_decides, Prelude.String, Prelude.string_eq, declared.alloc.Global.Global, Str.bytes_eq}
+use Rattle.std.specs.{String.string_bytes, String.string_eq_equiv}
+use Rattle.linked_hash_map.specs.{declared.map.Mode.Mode, Pairs.find, Pairs.value_at, Pairs.without, Pairs.set_value, Pairs.put}
+use Rattle.linked_hash_map.proofs.Callers.Texts.{is_text, is_text-find, find-is_text, value_at-updated, by_bytes, value_at-by_bytes}
+use Rattle.linked_hash_map.proofs.Callers.{Lookups.value_at-without, Texts.by_bytes-without, Updates.Updates-put}
 
 -- `is_text` of strings that the system allocated, since `grind` matches none of `is_text`
 abbrev pub names : List ℕ → String Global → Bool

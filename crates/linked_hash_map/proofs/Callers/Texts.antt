@@ -2,24 +2,12 @@
 -- keys.
 use Rattle.std.proofs.Common.{◌≡◌, ℕ, ◌+◌, ◌<◌, length, take, get_or, unwrap_or, Bool, true, false, cond, List, [], ◌∷◌, ◌++◌, map, drop}
 use Rattle.std.proofs.Common.{Option, Some, None, refl, sym, ap, ap₂, ◌∙◌, arith}
-use Rattle.std.specs.Borrow.{Bor}
-use Rattle.std.specs.Cmp.{IsEquivalence}
-use Rattle.std.specs.Cmp.Lexicographic.{bytes_decides}
-use Rattle.std.specs.List.{count_by}
-use Rattle.std.specs.Map.{values_of, AreApart}
-use Rattle.std.specs.Prelude.{String, string_eq}
-use Rattle.std.specs.Str.{bytes_eq}
-use Rattle.std.specs.String.{string_bytes, string_eq_equiv}
-use Rattle.std.proofs.lemmas.Cmp.{nat_list_eq_equiv}
-use Rattle.std.proofs.lemmas.List.{map-append}
-use Rattle.std.proofs.lemmas.List.Sums.{count_by_more_yes, count_by_more_no}
-use Rattle.linked_hash_map.specs.declared.map.Mode.{Mode}
-use Rattle.linked_hash_map.specs.declared.map.Mode.TheVariants.{Touch}
+use Rattle.std.proofs.lemmas.{Cmp.nat_list_eq_equiv, List.map-append, List.Sums.count_by_more_yes, List.Sums.count_by_more_no}
+use Rattle.std.specs.{Borrow.Bor, Cmp.IsEquivalence, Cmp.Lexicographic.bytes_decides, List.count_by, Map.values_of, Map.AreApart}
+use Rattle.std.specs.{Prelude.String, Prelude.string_eq, Str.bytes_eq, String.string_bytes, String.string_eq_equiv}
 use Rattle.linked_hash_map.specs.Pairs.{key_or, find, value_at, without, without_first, to_back, put}
-use Rattle.linked_hash_map.specs.Updates.{UpdatesBy}
-use Rattle.linked_hash_map.proofs.Callers.Keys.{find-drop}
-use Rattle.linked_hash_map.proofs.Callers.Lookups.{eq-stored}
-use Rattle.linked_hash_map.proofs.Callers.Updates.{passes-lookup_entry, lookup_entry-updated}
+use Rattle.linked_hash_map.specs.{declared.map.Mode.Mode, declared.map.Mode.TheVariants.Touch, Updates.UpdatesBy}
+use Rattle.linked_hash_map.proofs.Callers.{Keys.find-drop, Lookups.eq-stored, Updates.passes-lookup_entry, Updates.lookup_entry-updated}
 
 -- two texts that are lent are the same
 abbrev pub same_text : Bor (List ℕ) → Bor (List ℕ) → Bool

@@ -2,13 +2,9 @@
 -- after another.
 use Rattle.std.proofs.Common.{◌≡◌, ℕ, ◌+◌, ◌<◌, Bool, true, false, cond, List, [], ◌∷◌, ◌++◌, arith, length, take, drop, map, get_or}
 use Rattle.std.proofs.Common.{append_assoc, subst, Option, Some, None, is_some, true≢false, refl, sym, ap, ap₂, ◌∙◌}
-use Rattle.std.specs.Option.{option_or}
-use Rattle.std.specs.List.{IsDistinct}
-use Rattle.std.specs.Map.{keys_of}
-use Rattle.std.specs.Cmp.{IsEquivalence}
 use Rattle.std.proofs.lemmas.List.{drop_more, take_more, map-append}
-use Rattle.linked_hash_map.specs.Pairs.{find, put, first, without_first}
-use Rattle.linked_hash_map.specs.declared.map.Mode.{Mode}
+use Rattle.std.specs.{Option.option_or, List.IsDistinct, Map.keys_of, Cmp.IsEquivalence}
+use Rattle.linked_hash_map.specs.{Pairs.find, Pairs.put, Pairs.first, Pairs.without_first, declared.map.Mode.Mode}
 use Rattle.linked_hash_map.proofs.Callers.Lookups.{lookup_entry-append, find-same, find-without_here, drop-first}
 use Rattle.linked_hash_map.proofs.Callers.Keys.{find-drop, put-absent}
 

@@ -1,16 +1,11 @@
 -- For callers: all that is known of a run whose commands are never refused, and of two runs of the
 -- same commands on maps with the same pairs, at once.
 use Rattle.std.proofs.Common.{◌≡◌, Bool, true, Result, IfOk, IsOkAnd, Vec, Global, List, map}
-use Rattle.std.specs.List.{list_all}
-use Rattle.std.specs.Cmp.{IsEquivalence}
-use Rattle.linked_hash_map.specs.LinkedMap.{LinkedMap}
-use Rattle.linked_hash_map.specs.Validity.{IsValid}
-use Rattle.linked_hash_map.specs.Run.{Replayed}
-use Rattle.linked_hash_map.specs.Commands.{refusals, replies_to, pairs_after_all}
-use Rattle.linked_hash_map.specs.declared.replay.Command.{Command}
-use Rattle.linked_hash_map.specs.declared.replay.Reply.{Reply}
-use Rattle.linked_hash_map.proofs.Callers.WholeRuns.{NoneRefused, never_refused, same_runs, same_refusals}
-use Rattle.linked_hash_map.proofs.Callers.WholeRuns.{pairs-replayed_never_refused, replies-replayed_never_refused}
+use Rattle.std.specs.{List.list_all, Cmp.IsEquivalence}
+use Rattle.linked_hash_map.specs.{LinkedMap.LinkedMap, Validity.IsValid, Run.Replayed, Commands.refusals, Commands.replies_to}
+use Rattle.linked_hash_map.specs.{Commands.pairs_after_all, declared.replay.Command.Command, declared.replay.Reply.Reply}
+use Rattle.linked_hash_map.proofs.Callers.WholeRuns.{NoneRefused, never_refused, same_runs, same_refusals, pairs-replayed_never_refused}
+use Rattle.linked_hash_map.proofs.Callers.WholeRuns.{replies-replayed_never_refused}
 
 -- the pairs and the replies of a run of these commands, each of which is never refused
 pub replayed_never_refused : {K V S : Type 0} {eq : K → K → Bool} → IsEquivalence eq → {old new : LinkedMap K V S}

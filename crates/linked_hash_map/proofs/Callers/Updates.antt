@@ -1,13 +1,9 @@
 -- For callers: what a call changes, at its key and at the others.
-use Rattle.std.proofs.Common.{◌≡◌, ℕ, ◌<◌, ◌≤◌, max, Bool, true, false, List, [], ◌∷◌, length, Option, Some, None}
-use Rattle.std.proofs.Common.{option_map, sym, ◌∙◌, arith}
-use Rattle.std.specs.Cmp.{IsEquivalence}
-use Rattle.std.specs.List.{IsDistinct}
-use Rattle.std.specs.Map.{keys_of, lookup_entry, IsKeyTest, AreApart}
-use Rattle.std.specs.Option.{IsSome}
-use Rattle.linked_hash_map.specs.declared.map.Mode.{Mode}
+use Rattle.std.proofs.Common.{◌≡◌, ℕ, ◌<◌, ◌≤◌, max, Bool, true, false, List, [], ◌∷◌, length, Option, Some, None, option_map, sym, ◌∙◌}
+use Rattle.std.proofs.Common.{arith}
+use Rattle.std.specs.{Cmp.IsEquivalence, List.IsDistinct, Map.keys_of, Map.lookup_entry, Map.IsKeyTest, Map.AreApart, Option.IsSome}
 use Rattle.linked_hash_map.specs.Pairs.{find, put, without, set_value, set_or_push}
-use Rattle.linked_hash_map.specs.Updates.{Updates, UpdatesBy}
+use Rattle.linked_hash_map.specs.{declared.map.Mode.Mode, Updates.Updates, Updates.UpdatesBy}
 use Rattle.linked_hash_map.proofs.Callers.Lookups.{value_at-put_here, value_at-put_apart, value_at-without_here, value_at-without_apart}
 use Rattle.linked_hash_map.proofs.Callers.Lookups.{value_at-set_or_push_here, value_at-set_or_push_apart}
 use Rattle.linked_hash_map.proofs.Callers.Keys.{length-put_absent, length-put_present, set_or_push-present}

@@ -1,25 +1,17 @@
 -- For callers: a map stays valid through each change. The map after it is one whose pairs, capacity
 -- and cursor are as the clauses of the call say.
 use Rattle.std.proofs.Common.{◌≡◌, ◌+◌, ◌<◌, ◌≤◌, max, Bool, length, None, is_some, true≢false, refl, sym, ap, ◌∙◌, arith}
-use Rattle.std.specs.Option.{IsSome}
-use Rattle.std.specs.Cmp.{IsEquivalence}
+use Rattle.std.specs.{Option.IsSome, Cmp.IsEquivalence}
 use Rattle.std.specs.declared.cmp.PartialEq as eq
 use Rattle.std.specs.declared.hash.Hash as hash
 use Rattle.std.specs.declared.hash.Hasher as hasher
 use Rattle.std.specs.declared.hash.BuildHasher as builder
-use Rattle.linked_hash_map.specs.LinkedMap.{LinkedMap}
-use Rattle.linked_hash_map.specs.declared.map.TheConstants.{LIMIT}
-use Rattle.linked_hash_map.specs.Validity.{IsValid}
-use Rattle.linked_hash_map.specs.declared.map.Mode.{Mode}
-use Rattle.linked_hash_map.specs.declared.map.Mode.TheVariants.{Keep}
 use Rattle.linked_hash_map.specs.Pairs.{find, set_or_push, put}
-use Rattle.linked_hash_map.specs.Changes.{set_or_pushed, drained}
 use Rattle.linked_hash_map.specs.Entry.{Occupied, Vacant, occupied_key, vacant_map, vacant_key, entry_map, entry_key, entry_value}
-use Rattle.linked_hash_map.specs.declared.entry.Entry.{Entry}
-use Rattle.linked_hash_map.proofs.Callers.Keys.{distinct-nil, distinct-put, length-set_or_push_most}
-use Rattle.linked_hash_map.proofs.Callers.Updates.{max-length_put}
-use Rattle.linked_hash_map.proofs.pairs.Inserts.{length-grows}
-use Rattle.linked_hash_map.proofs.pairs.OccupiedEntries.{is_some-occupied}
+use Rattle.linked_hash_map.specs.{LinkedMap.LinkedMap, declared.map.TheConstants.LIMIT, Validity.IsValid, declared.map.Mode.Mode}
+use Rattle.linked_hash_map.specs.{declared.map.Mode.TheVariants.Keep, Changes.set_or_pushed, Changes.drained, declared.entry.Entry.Entry}
+use Rattle.linked_hash_map.proofs.Callers.{Keys.distinct-nil, Keys.distinct-put, Keys.length-set_or_push_most, Updates.max-length_put}
+use Rattle.linked_hash_map.proofs.pairs.{Inserts.length-grows, OccupiedEntries.is_some-occupied}
 
 module _ {K V S : Type 0} {eq : K → K → Bool} (laws : IsEquivalence eq) {m n : LinkedMap K V S} where
   -- after `insert` in either mode, if the pairs are within the limit, and those left to visit there

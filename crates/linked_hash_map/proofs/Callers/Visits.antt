@@ -1,25 +1,16 @@
 -- For callers: a visit that keeps some of the pairs and takes the others out, also one that counts
 -- these, and one that puts pairs behind the others, step by step.
-use Rattle.std.proofs.Common.{◌≡◌, ℕ, ◌+◌, ◌<◌, ◌≤◌, Bool, true, false, cond, List, [], ◌∷◌, ◌++◌, length, map, take, drop}
-use Rattle.std.proofs.Common.{slice_get, get_or, nat_eq}
-use Rattle.std.proofs.Common.{option_map, Some, None, filter, refl, sym, ap, subst, ◌∙◌, append_assoc, append-nil, length-append, arith}
-use Rattle.std.specs.Cmp.{IsEquivalence, nat_eq_equiv}
-use Rattle.std.specs.List.{IsDistinct, remove}
-use Rattle.std.specs.Map.{keys_of}
+use Rattle.std.proofs.Common.{◌≡◌, ℕ, ◌+◌, ◌<◌, ◌≤◌, Bool, true, false, cond, List, [], ◌∷◌, ◌++◌, length, map, take, drop, slice_get}
+use Rattle.std.proofs.Common.{get_or, nat_eq, option_map, Some, None, filter, refl, sym, ap, subst, ◌∙◌, append_assoc, append-nil}
 use Rattle.std.proofs.lemmas.List.{map-append, drop-map, drop_more, take_more, length-drop, length-map, get_or_append_left}
-use Rattle.std.proofs.lemmas.List.Elements.{filter-append}
-use Rattle.std.proofs.lemmas.List.Sums.{length-filter, count_by-le-length}
-use Rattle.std.proofs.lemmas.Option.{slice_get-get_or, slice_get_past}
-use Rattle.lhm_ring.proofs.lists.Options.{Some-injective}
-use Rattle.linked_hash_map.specs.LinkedMap.{LinkedMap}
-use Rattle.linked_hash_map.specs.Cursor.{to_visit}
-use Rattle.linked_hash_map.specs.Pairs.{value_at, without}
-use Rattle.linked_hash_map.specs.Validity.{IsValid}
-use Rattle.linked_hash_map.specs.Visits.{VisitKeeps}
+use Rattle.std.proofs.{Common.length-append, Common.arith, lemmas.List.Elements.filter-append, lemmas.List.Sums.length-filter}
+use Rattle.std.proofs.{lemmas.List.Sums.count_by-le-length, lemmas.Option.slice_get-get_or, lemmas.Option.slice_get_past}
+use Rattle.std.specs.{Cmp.IsEquivalence, Cmp.nat_eq_equiv, List.IsDistinct, List.remove, Map.keys_of}
+use Rattle.lhm_ring.proofs.lists.{Options.Some-injective, Splits.SplitFirst}
+use Rattle.lhm_ring.proofs.tables.Positions.{slice_get-append, remove-append}
+use Rattle.linked_hash_map.specs.{LinkedMap.LinkedMap, Cursor.to_visit, Pairs.value_at, Pairs.without, Validity.IsValid, Visits.VisitKeeps}
 use Rattle.linked_hash_map.proofs.pairs.Indexes.{find-own, without-own}
 use Rattle.linked_hash_map.proofs.Callers.Keys.{IsSome-find, length-without_present}
-use Rattle.lhm_ring.proofs.tables.Positions.{slice_get-append, remove-append}
-use Rattle.lhm_ring.proofs.lists.Splits.{SplitFirst}
 
 -- the first pair to come has the key that is next, and the others are to come behind it
 pub record Next {K V : Type 0} (k : K) (left : List K) (rest : List (K × V)) : Type 0 where

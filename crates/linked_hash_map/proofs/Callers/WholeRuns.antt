@@ -2,26 +2,19 @@
 -- from the commands and the first map. Two runs with the same refusals have the same answers.
 use Rattle.std.proofs.Common.{◌≡◌, ℕ, Bool, true, false, Result, Ok, Err, IfOk, IsOkAnd, Vec, Global, ◌||◌, ◌&&◌, IsFalse, List, [], ◌∷◌}
 use Rattle.std.proofs.Common.{Option, Some, None, slice_get, map, refl, sym, ap, ap₂, ◌∙◌, subst}
-use Rattle.std.specs.List.{list_any, list_all}
-use Rattle.std.specs.Cmp.{IsEquivalence}
-use Rattle.linked_hash_map.specs.declared.map.Mode.{Mode}
-use Rattle.linked_hash_map.specs.LinkedMap.{LinkedMap}
-use Rattle.linked_hash_map.specs.Validity.{IsValid}
+use Rattle.std.specs.{List.list_any, List.list_all, Cmp.IsEquivalence}
 use Rattle.linked_hash_map.specs.Log.{Log, mode, pairs, high, Defines}
-use Rattle.linked_hash_map.specs.AllowedAnswers.{log_after, Answers}
 use Rattle.linked_hash_map.specs.Run.{first_log, last_log, IsReply, IsRun}
-use Rattle.linked_hash_map.specs.Commands.{is_refusal, refused_after, refusals, answer_to, replies_to}
-use Rattle.linked_hash_map.specs.Commands.{mode_after, pairs_after, capacity_after, pairs_after_all}
-use Rattle.linked_hash_map.specs.declared.replay.Command.{Command}
-use Rattle.linked_hash_map.specs.declared.replay.Command.TheVariants.{Insert, Write, Refresh, Remove, PopFront, PopBack, Clear}
-use Rattle.linked_hash_map.specs.declared.replay.Command.TheVariants.{Extend, OrInsert, EntryInsert, EntryRemove, SetMode}
-use Rattle.linked_hash_map.specs.declared.replay.Answer.{Answer}
+use Rattle.linked_hash_map.specs.Commands.{is_refusal, refused_after, refusals, answer_to, replies_to, mode_after, pairs_after}
+use Rattle.linked_hash_map.specs.declared.replay.Command.TheVariants.{Insert, Write, Refresh, Remove, PopFront, PopBack, Clear, Extend}
+use Rattle.linked_hash_map.specs.declared.replay.Command.TheVariants.{OrInsert, EntryInsert, EntryRemove, SetMode}
 use Rattle.linked_hash_map.specs.declared.replay.Answer.TheVariants.{Refused, Stopped, NoRoom}
-use Rattle.linked_hash_map.specs.declared.replay.Reply.{Reply}
+use Rattle.linked_hash_map.specs.{declared.map.Mode.Mode, LinkedMap.LinkedMap, Validity.IsValid, AllowedAnswers.log_after}
+use Rattle.linked_hash_map.specs.{AllowedAnswers.Answers, Commands.capacity_after, Commands.pairs_after_all}
+use Rattle.linked_hash_map.specs.{declared.replay.Command.Command, declared.replay.Answer.Answer, declared.replay.Reply.Reply}
 use Rattle.linked_hash_map.proofs.Callers.Replay.{Replied-given, Defines-first, is_refusal-write, is_refusal-refresh, is_refusal-remove}
 use Rattle.linked_hash_map.proofs.Callers.Replay.{is_refusal-entry_remove, is_refusal-pop_front, is_refusal-pop_back, is_refusal-clear}
-use Rattle.linked_hash_map.proofs.Callers.Replay.{is_refusal-set_mode}
-use Rattle.linked_hash_map.proofs.lists.Elements.{none_first, none_later}
+use Rattle.linked_hash_map.proofs.{Callers.Replay.is_refusal-set_mode, lists.Elements.none_first, lists.Elements.none_later}
 pub use Rattle.linked_hash_map.proofs.log.WithoutKeep.{pairs-in_touch}
 use Rattle.linked_hash_map.proofs.runs.Outcomes.{outcome}
 use Rattle.std.proofs.Common.{arith}

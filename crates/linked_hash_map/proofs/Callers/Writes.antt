@@ -1,18 +1,11 @@
 -- For callers: values that are written, and calls one after another by the same key.
-use Rattle.std.proofs.Common.{◌≡◌, Bool, true, false, cond, List, [], ◌∷◌, append-nil, Option, Some, None, arith}
-use Rattle.std.proofs.Common.{is_some, option_map, unwrap_or, refl, ap, ap₂, ◌∙◌}
-use Rattle.std.specs.Option.{IsSome}
-use Rattle.std.specs.Borrow.{MutBor}
-use Rattle.std.specs.Fn.{Once}
-use Rattle.std.specs.List.{IsDistinct}
-use Rattle.std.specs.Map.{keys_of}
+use Rattle.std.proofs.Common.{◌≡◌, Bool, true, false, cond, List, [], ◌∷◌, append-nil, Option, Some, None, arith, is_some, option_map}
+use Rattle.std.proofs.{Common.unwrap_or, Common.refl, Common.ap, Common.ap₂, Common.◌∙◌, lemmas.List.Elements.filter-append}
 use Rattle.std.specs.Map.Calls.{MayWrite, ModifiesValue}
-use Rattle.std.specs.Cmp.{IsEquivalence}
-use Rattle.std.proofs.lemmas.List.Elements.{filter-append}
-use Rattle.linked_hash_map.specs.declared.map.Mode.{Mode}
+use Rattle.std.specs.{Option.IsSome, Borrow.MutBor, Fn.Once, List.IsDistinct, Map.keys_of, Cmp.IsEquivalence}
 use Rattle.linked_hash_map.specs.Pairs.{ActsAs, find, value_at, without, set_value, set_or_push, set_if_some, put}
-use Rattle.linked_hash_map.proofs.pairs.Calls.{set_value-none, is_some-value_at}
 use Rattle.linked_hash_map.proofs.Callers.Keys.{find-absent, IsSome-find, set_or_push-present, without-absent, put-absent}
+use Rattle.linked_hash_map.{specs.declared.map.Mode.Mode, proofs.pairs.Calls.set_value-none, proofs.pairs.Calls.is_some-value_at}
 -- a value that is set as it was changes nothing
 pub use Rattle.linked_hash_map.proofs.pairs.Indexes.{set_value-own}
 

@@ -1,20 +1,14 @@
 -- For callers: a visit that takes some of the pairs out and writes the values of the others, step
 -- by step.
-use Rattle.std.proofs.Common.{◌≡◌, ◌≤◌, ℕ, Bool, true, false, cond, List, [], ◌∷◌, ◌++◌, length, map, slice_get, arith, option_map, Some, IfSome}
-use Rattle.std.proofs.Common.{filter, refl, sym, ap, subst, ◌∙◌, append_assoc, length-append}
-use Rattle.std.specs.Cmp.{IsEquivalence}
-use Rattle.std.specs.List.{IsDistinct, remove}
-use Rattle.std.specs.Map.{keys_of}
-use Rattle.std.proofs.lemmas.List.{map-append, length-map}
-use Rattle.std.proofs.lemmas.List.Elements.{filter-append}
-use Rattle.lhm_ring.proofs.lists.Options.{Some-injective}
-use Rattle.linked_hash_map.specs.Indexes.{set_value_at}
-use Rattle.linked_hash_map.specs.Pairs.{value_at, without, set_value}
-use Rattle.linked_hash_map.specs.Visits.{VisitMaps}
-use Rattle.linked_hash_map.proofs.pairs.Indexes.{find-own, without-own, set_value-own_at, set_value_at-append}
+use Rattle.std.proofs.Common.{◌≡◌, ◌≤◌, ℕ, Bool, true, false, cond, List, [], ◌∷◌, ◌++◌, length, map, filter, slice_get, option_map, Some}
+use Rattle.std.proofs.Common.{IfSome, refl, sym, ap, subst, ◌∙◌, arith, append_assoc, length-append}
+use Rattle.std.proofs.lemmas.{List.map-append, List.length-map, List.Elements.filter-append}
+use Rattle.std.specs.{Cmp.IsEquivalence, List.IsDistinct, List.remove, Map.keys_of}
+use Rattle.lhm_ring.proofs.lists.{Options.Some-injective, Splits.SplitFirst}
 use Rattle.lhm_ring.proofs.tables.Positions.{slice_get-append, remove-append}
+use Rattle.linked_hash_map.specs.{Indexes.set_value_at, Pairs.value_at, Pairs.without, Pairs.set_value, Visits.VisitMaps}
+use Rattle.linked_hash_map.proofs.pairs.Indexes.{find-own, without-own, set_value-own_at, set_value_at-append}
 use Rattle.linked_hash_map.proofs.Callers.Visits.{Next, next_of, length-kept}
-use Rattle.lhm_ring.proofs.lists.Splits.{SplitFirst}
 
 module _ {K V : Type 0} {eq : K → K → Bool} (laws : IsEquivalence eq) {keeps : K × V → Bool} {change : K × V → V}
     {start now : List (K × V)} {k : K} {left : List K} {v : V}

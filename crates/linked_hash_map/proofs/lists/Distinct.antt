@@ -1,7 +1,6 @@
 -- Lists without repetitions.
 use Rattle.std.proofs.Common.{◌≡◌, ℕ, zero, suc, Bool, false, ◌||◌, List, [], ◌∷◌, ◌++◌, IsTrue, remove, refl, ap, ◌∙◌, arith}
-use Rattle.std.specs.List.{list_any, IsDistinct, AllByRecursion}
-use Rattle.std.specs.Cmp.{IsEquivalence}
+use Rattle.std.specs.{List.list_any, List.IsDistinct, List.AllByRecursion, Cmp.IsEquivalence}
 use Rattle.lhm_ring.proofs.lists.ForAll.{AllByRecursion-map}
 
 -- keys of which all differ from one differ from what is the same as it

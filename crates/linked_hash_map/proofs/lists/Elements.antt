@@ -1,12 +1,9 @@
 -- Lists, cut at an element or with one more at the end.
-use Rattle.std.proofs.Common.{◌≡◌, ℕ, ◌+◌, max, Bool, false, cond, ◌||◌, List, [], ◌∷◌, ◌++◌, map, length, Option, Some, None, refl}
-use Rattle.std.proofs.Common.{sym, ap, ◌∙◌, arith, append_assoc, append-nil, drop_of_length-le, length-append}
-use Rattle.std.specs.List.{after_last, suffix_len, prefix_len, zip}
-use Rattle.std.specs.Option.{option_or}
-use Rattle.std.proofs.lemmas.List.{reverse-append, drop-append-le, map-append}
-use Rattle.std.proofs.lemmas.List.Sums.{suffix_len-le-length}
-use Rattle.linked_hash_map.specs.Pairs.{first, without_first}
-use Rattle.linked_hash_map.specs.Log.{first_some, last_some, largest, beginnings, moments}
+use Rattle.std.proofs.Common.{◌≡◌, ℕ, ◌+◌, max, Bool, false, cond, ◌||◌, List, [], ◌∷◌, ◌++◌, map, length, Option, Some, None, refl, sym}
+use Rattle.std.proofs.Common.{ap, ◌∙◌, arith, append_assoc, append-nil, drop_of_length-le, length-append}
+use Rattle.std.proofs.lemmas.{List.reverse-append, List.drop-append-le, List.map-append, List.Sums.suffix_len-le-length}
+use Rattle.std.specs.{List.after_last, List.suffix_len, List.prefix_len, List.zip, Option.option_or}
+use Rattle.linked_hash_map.specs.{Pairs.first, Pairs.without_first, Log.first_some, Log.last_some, Log.largest, Log.beginnings, Log.moments}
 
 module _ {A : Type 0} (P : List A → Type 0) (step : (xs : List A) (x : A) → P xs → P (xs ++ x ∷ [])) where
   by_last_from : (done xs : List A) → P done → P (done ++ xs)

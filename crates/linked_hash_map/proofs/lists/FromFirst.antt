@@ -1,10 +1,9 @@
 -- A list from its first element that passes a test on.
-use Rattle.std.proofs.Common.{◌≡◌, Bool, true, false, cond, List, [], ◌∷◌, ◌++◌, map, reverse}
-use Rattle.std.proofs.Common.{refl, sym, ap, ◌∙◌, subst, arith, append_assoc}
-use Rattle.std.specs.List.{IsDistinct, AllByRecursion}
-use Rattle.std.proofs.lemmas.List.{map-append, reverse-append}
-use Rattle.std.proofs.lemmas.List.Sorted.{IsPermutation-map, IsPermutation-reverse}
+use Rattle.std.proofs.Common.{◌≡◌, Bool, true, false, cond, List, [], ◌∷◌, ◌++◌, map, reverse, refl, sym, ap, ◌∙◌, subst, arith}
+use Rattle.std.proofs.Common.{append_assoc}
 use Rattle.std.proofs.lemmas.Map.Keys.{IsDistinct-head, IsDistinct-tail, IsDistinct-IsPermutation}
+use Rattle.std.proofs.lemmas.{List.map-append, List.reverse-append, List.Sorted.IsPermutation-map, List.Sorted.IsPermutation-reverse}
+use Rattle.std.specs.List.{IsDistinct, AllByRecursion}
 use Rattle.lhm_ring.proofs.lists.ForAll.{AllByRecursion-right}
 use Rattle.linked_hash_map.specs.Pairs.{from_first}
 

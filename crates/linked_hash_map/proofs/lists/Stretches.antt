@@ -1,10 +1,9 @@
 -- A stretch of a list, by the index where it begins and its length: what a cursor has still to
 -- visit.
-use Rattle.std.proofs.Common.{◌≡◌, ℕ, zero, suc, ◌+◌, ◌-◌, ◌<◌, ◌≤◌, ◌⊎◌, inl, inr, List, [], ◌∷◌}
-use Rattle.std.proofs.Common.{◌++◌, length, take, drop, remove, slice_get, Some, refl, sym, ap, ◌∙◌, arith}
+use Rattle.std.proofs.Common.{◌≡◌, ℕ, zero, suc, ◌+◌, ◌-◌, ◌<◌, ◌≤◌, ◌⊎◌, inl, inr, List, [], ◌∷◌, ◌++◌, length, take, drop, remove}
+use Rattle.std.proofs.lemmas.List.{length-drop, length-take, take-append-drop, drop-append-le, take-append-le, drop-set-lt, drop-set-add}
+use Rattle.std.proofs.{Common.slice_get, Common.Some, Common.refl, Common.sym, Common.ap, Common.◌∙◌, Common.arith, lemmas.List.take-set-le}
 use Rattle.std.specs.Prelude.{slice_set}
-use Rattle.std.proofs.lemmas.List.{length-drop, length-take, take-append-drop, drop-append-le, take-append-le}
-use Rattle.std.proofs.lemmas.List.{drop-set-lt, drop-set-add, take-set-le}
 use Rattle.lhm_ring.proofs.tables.Positions.{drop-from}
 
 -- it begins with the element at its index

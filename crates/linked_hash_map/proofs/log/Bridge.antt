@@ -1,13 +1,9 @@
 -- How the pairs that a log defines change with one more event: single calls on a list of pairs.
 use Rattle.std.proofs.Common.{◌≡◌, ℕ, Bool, true, false, cond, not, ◌&&◌, ◌||◌, List, [], ◌∷◌, ◌++◌, arith, map, Option, Some, None}
 use Rattle.std.proofs.Common.{is_some, option_map, filter, filter_map, refl, sym, ap, ◌∙◌, true≢false, append-nil}
-use Rattle.std.specs.List.{list_any, cons_option}
-use Rattle.std.specs.Option.{option_or, option_zip}
-use Rattle.std.specs.Map.{lookup_entry}
-use Rattle.std.specs.Cmp.{IsEquivalence}
 use Rattle.std.proofs.lemmas.List.Elements.{filter_map-append}
-use Rattle.linked_hash_map.specs.declared.map.Mode.{Mode}
-use Rattle.linked_hash_map.specs.declared.map.Mode.TheVariants.{Touch, Keep}
+use Rattle.std.specs.{List.list_any, List.cons_option, Option.option_or, Option.option_zip, Map.lookup_entry, Cmp.IsEquivalence}
+use Rattle.linked_hash_map.specs.declared.map.{Mode.Mode, Mode.TheVariants.Touch, Mode.TheVariants.Keep}
 use Rattle.linked_hash_map.specs.Log.{Event, Put, Write, Refresh, Remove, RemoveAll, Need, Fit, SetMode, Log, moves, mode, touched, put_key}
 use Rattle.linked_hash_map.specs.Log.{ends, written, live, stored, value, pair_of, stands, standing, pairs}
 use Rattle.linked_hash_map.specs.Pairs.{key_or, find, without, to_back, set_value, put}

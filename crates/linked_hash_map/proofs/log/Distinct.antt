@@ -1,15 +1,12 @@
 -- The keys of a log's pairs differ, whatever the log.
-use Rattle.std.proofs.Common.{◌≡◌, Bool, true, false, cond, ◌&&◌, List, [], ◌∷◌, ◌++◌, Option, arith}
-use Rattle.std.proofs.Common.{Some, None, filter, filter_map, refl, sym, ap, ◌∙◌, subst, append-nil}
-use Rattle.std.specs.List.{list_any, IsDistinct, AllByRecursion, cons_option}
-use Rattle.std.specs.Map.{keys_of}
-use Rattle.std.specs.Cmp.{IsEquivalence}
+use Rattle.std.proofs.Common.{◌≡◌, Bool, true, false, cond, ◌&&◌, List, [], ◌∷◌, ◌++◌, Option, arith, Some, None, filter, filter_map, refl}
+use Rattle.std.proofs.Common.{sym, ap, ◌∙◌, subst, append-nil}
 use Rattle.std.proofs.lemmas.Map.Keys.{IsDistinct-push, IsDistinct-head, IsDistinct-tail, IsDistinct-cons}
+use Rattle.std.specs.{List.list_any, List.IsDistinct, List.AllByRecursion, List.cons_option, Map.keys_of, Cmp.IsEquivalence}
 use Rattle.linked_hash_map.specs.declared.map.Mode.{Mode}
 use Rattle.linked_hash_map.specs.Log.{Log, Event, moves, touched, live, pair_of, pairs, stands, standing, standing_in}
-use Rattle.linked_hash_map.proofs.lists.Elements.{by_last}
-use Rattle.linked_hash_map.proofs.log.Standing.{standing-snoc, keeps}
 use Rattle.linked_hash_map.proofs.log.LiveKeys.{pair_of-same, keeps_same, any-filter}
+use Rattle.linked_hash_map.proofs.{lists.Elements.by_last, log.Standing.standing-snoc, log.Standing.keeps}
 
 all_filter : {K : Type 0} (P : K → Type 0) (p : K → Bool) (ks : List K) → AllByRecursion P ks → AllByRecursion P (filter p ks)
 all_filter P p [] h = tt

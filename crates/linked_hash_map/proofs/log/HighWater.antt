@@ -2,22 +2,16 @@
 use Rattle.std.proofs.Common.{◌≡◌, ℕ, ◌+◌, ◌<◌, ◌≤◌, max, suc, Bool, true, false, cond, ◌&&◌, ◌==◌, List, [], ◌∷◌, ◌++◌, length, map}
 use Rattle.std.proofs.Common.{Option, Some, None, is_some, filter, filter_map, count_by, refl, sym, ap, ◌∙◌, true≢false, arith, eq-eqb}
 use Rattle.std.proofs.Common.{ne_eqb}
-use Rattle.std.specs.List.{list_any, list_all, cons_option}
-use Rattle.std.specs.Cmp.{IsEquivalence}
-use Rattle.std.proofs.lemmas.List.{map-append, length-map}
-use Rattle.std.proofs.lemmas.List.Elements.{filter_map-append, filter-append}
-use Rattle.std.proofs.lemmas.List.Folds.{list_any-append, list_all-append}
-use Rattle.std.proofs.lemmas.List.Sums.{sum_by-append}
-use Rattle.linked_hash_map.specs.declared.map.Mode.{Mode}
+use Rattle.std.proofs.lemmas.{List.map-append, List.length-map, List.Elements.filter_map-append, List.Elements.filter-append}
+use Rattle.std.proofs.lemmas.{List.Folds.list_any-append, List.Folds.list_all-append, List.Sums.sum_by-append}
+use Rattle.std.specs.{List.list_any, List.list_all, List.cons_option, Cmp.IsEquivalence}
 use Rattle.linked_hash_map.specs.Log.{Event, Put, Write, Refresh, Remove, RemoveAll, Need, Fit, SetMode, Log, moments, is_fit, needed, live}
 use Rattle.linked_hash_map.specs.Log.{pair_of, stands, standing_in, standing, pairs, size, largest, beginnings, fitted, high}
+use Rattle.linked_hash_map.specs.{declared.map.Mode.Mode, Pairs.find, Pairs.to_back}
 use Rattle.linked_hash_map.proofs.lists.Elements.{by_last, after_last-more, after_last-snoc, largest-append, beginnings-snoc}
-use Rattle.linked_hash_map.proofs.log.LiveKeys.{pair_of-live}
-use Rattle.linked_hash_map.specs.Pairs.{find, to_back}
 use Rattle.linked_hash_map.proofs.log.Bridge.{find-pairs, pairs-write, pairs-refresh, pairs-refresh_absent, pairs-remove, pairs-remove_all}
-use Rattle.linked_hash_map.proofs.log.Bridge.{pairs-fit, pairs-need, pairs-set_mode}
-use Rattle.linked_hash_map.proofs.pairs.Calls.{length-without, length-to_back}
-use Rattle.linked_hash_map.proofs.log.Distinct.{distinct-pairs}
+use Rattle.linked_hash_map.proofs.{log.LiveKeys.pair_of-live, log.Bridge.pairs-fit, log.Bridge.pairs-need, log.Bridge.pairs-set_mode}
+use Rattle.linked_hash_map.proofs.{pairs.Calls.length-without, pairs.Calls.length-to_back, log.Distinct.distinct-pairs}
 
 length-filter_map : {X Y : Type 0} (g : X → Option Y) (xs : List X)
     → list_all (λ x. is_some (g x)) xs ≡ true → length (filter_map g xs) ≡ length xs

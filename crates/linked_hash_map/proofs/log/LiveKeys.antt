@@ -1,14 +1,10 @@
 -- What a log says of a key is what its pairs have at that key.
 use Rattle.std.proofs.Common.{◌≡◌, Bool, true, false, cond, not, ◌&&◌, ◌||◌, List, [], ◌∷◌, ◌++◌, Option, Some, None, is_some, filter, refl}
-use Rattle.std.proofs.Common.{sym, ap, ◌∙◌, true≢false, arith}
-use Rattle.std.specs.List.{list_any, after_last}
-use Rattle.std.specs.Option.{option_or, option_zip}
-use Rattle.std.specs.Cmp.{IsEquivalence}
-use Rattle.std.proofs.lemmas.List.Folds.{list_any-append}
-use Rattle.linked_hash_map.specs.declared.map.Mode.{Mode}
-use Rattle.linked_hash_map.specs.declared.map.Mode.TheVariants.{Touch, Keep}
-use Rattle.linked_hash_map.specs.Log.{Event, Log, first_some, moves}
-use Rattle.linked_hash_map.specs.Log.{touched, put_key, puts, ends, written, live, stored, value, pair_of, stands, standing_in, standing}
+use Rattle.std.proofs.{Common.sym, Common.ap, Common.◌∙◌, Common.true≢false, Common.arith, lemmas.List.Folds.list_any-append}
+use Rattle.std.specs.{List.list_any, List.after_last, Option.option_or, Option.option_zip, Cmp.IsEquivalence}
+use Rattle.linked_hash_map.specs.declared.map.{Mode.Mode, Mode.TheVariants.Touch, Mode.TheVariants.Keep}
+use Rattle.linked_hash_map.specs.Log.{Event, Log, first_some, moves, touched, put_key, puts, ends, written, live, stored, value, pair_of}
+use Rattle.linked_hash_map.specs.Log.{stands, standing_in, standing}
 use Rattle.linked_hash_map.proofs.lists.Elements.{by_last}
 use Rattle.linked_hash_map.proofs.log.Standing.{live-snoc, stored-snoc, value-snoc, standing-snoc, keeps}
 

@@ -1,16 +1,12 @@
 -- What one more event does to the keys of a log, one key at a time and as the list of those that
 -- stand.
 use Rattle.std.proofs.Common.{◌≡◌, Bool, true, false, cond, not, ◌&&◌, ◌||◌, List, [], ◌∷◌, ◌++◌, Option, None, unwrap_or, filter, refl, ap}
-use Rattle.std.proofs.Common.{◌∙◌, append-nil, arith}
+use Rattle.std.proofs.{Common.◌∙◌, Common.append-nil, Common.arith, lemmas.List.Elements.filter-append, lemmas.List.Folds.list_any-append}
+use Rattle.std.proofs.{Math.Bool.and-true, Math.Bool.and-false, Math.Bool.or-true}
 use Rattle.std.specs.Option.{option_or}
-use Rattle.std.proofs.lemmas.List.Elements.{filter-append}
-use Rattle.std.proofs.lemmas.List.Folds.{list_any-append}
-use Rattle.std.proofs.Math.Bool.{and-true, and-false, or-true}
-use Rattle.linked_hash_map.specs.declared.map.Mode.{Mode}
-use Rattle.linked_hash_map.specs.declared.map.Mode.TheVariants.{Touch}
 use Rattle.linked_hash_map.specs.Log.{Event, Put, Write, Refresh, Remove, RemoveAll, Need, Fit, SetMode, Log, last_some, moves, mode_set}
 use Rattle.linked_hash_map.specs.Log.{mode, touched, put_key, puts, ends, written, touches, live, stored, value, stands, standing_in}
-use Rattle.linked_hash_map.specs.Log.{standing}
+use Rattle.linked_hash_map.specs.{declared.map.Mode.Mode, declared.map.Mode.TheVariants.Touch, Log.standing}
 use Rattle.linked_hash_map.proofs.lists.Elements.{after_last-snoc, first_some-snoc, last_some-snoc, moments-snoc}
 
 live_step : (p a n q l : Bool) → ((p && not (a || (n || false))) || (q || (l && not n))) ≡ (q || (((p && not a) || l) && not n))

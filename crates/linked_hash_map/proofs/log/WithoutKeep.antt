@@ -1,16 +1,11 @@
 -- A log that never sets the mode to Keep: each Put and each Refresh is a touch, wherever it stands.
 use Rattle.std.proofs.Common.{◌≡◌, Bool, false, List, [], ◌∷◌, ◌++◌, map, Option, unwrap_or, arith, filter_map, refl, sym, ap, ◌∙◌, subst}
+use Rattle.std.proofs.{lemmas.List.map-append, lemmas.List.Folds.list_any-append, Math.Bool.and-true}
 use Rattle.std.specs.List.{list_any, AllByRecursion}
-use Rattle.std.proofs.lemmas.List.{map-append}
-use Rattle.std.proofs.lemmas.List.Folds.{list_any-append}
-use Rattle.std.proofs.Math.Bool.{and-true}
-use Rattle.linked_hash_map.specs.declared.map.Mode.{Mode}
-use Rattle.linked_hash_map.specs.declared.map.Mode.TheVariants.{Touch}
-use Rattle.linked_hash_map.specs.Log.{Event, Log, moments}
-use Rattle.linked_hash_map.specs.Log.{mode_set, mode, live, pair_of, touches, touched, stands, standing_in, standing, pairs}
+use Rattle.linked_hash_map.specs.Log.{Event, Log, moments, mode_set, mode, live, pair_of, touches, touched, stands, standing_in, standing}
 use Rattle.linked_hash_map.specs.LastUses.{sets_keep, used_key, is_use, last_used, last_uses, pairs_by_use}
-use Rattle.linked_hash_map.proofs.log.Standing.{mode-snoc}
-use Rattle.linked_hash_map.proofs.lists.Elements.{by_last, none_first, moments-snoc}
+use Rattle.linked_hash_map.specs.{declared.map.Mode.Mode, declared.map.Mode.TheVariants.Touch, Log.pairs}
+use Rattle.linked_hash_map.proofs.{log.Standing.mode-snoc, lists.Elements.by_last, lists.Elements.none_first, lists.Elements.moments-snoc}
 
 all_last : {X : Type 0} (P : X → Type 0) (xs : List X) (x : X) → AllByRecursion P xs → P x → AllByRecursion P (xs ++ x ∷ [])
 all_last P [] x all h = (h, tt)

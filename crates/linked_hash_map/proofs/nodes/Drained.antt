@@ -1,8 +1,7 @@
 -- Runs of a `Drain`, and what is left of one.
 use Rattle.linked_hash_map.proofs.Names.{List, Option, [], ap, length, map, sym, ℕ, ◌∙◌, ◌∷◌, ◌≡◌, Held, triples, DrainKeepsAlong}
 use Rattle.linked_hash_map.proofs.Names.{DrainSteps, DrainStepsBack, drain_name, drain_rest, pairs_of, Drain, as_is, as_is_back, from_back}
-use Rattle.linked_hash_map.proofs.Names.{from_front, YieldsInOrder, YieldsInReverse}
-use Rattle.linked_hash_map.proofs.nodes.HeldPairs.{pairs-triples}
+use Rattle.linked_hash_map.proofs.{Names.from_front, Names.YieldsInOrder, Names.YieldsInReverse, nodes.HeldPairs.pairs-triples}
 
 module _ {K V : Type 0} where
   pub drains_in_order : YieldsInOrder (DrainSteps {K = K} {V = V}) drain_rest

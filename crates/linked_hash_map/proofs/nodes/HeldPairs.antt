@@ -1,13 +1,10 @@
 -- The pairs of held nodes, and the nodes with their keys alone.
 use Rattle.std.proofs.Common.{◌≡◌, suc, ◌+◌, cond, List, [], ◌∷◌, ◌++◌, map, length, refl, sym, ap, ◌∙◌, arith}
-use Rattle.std.specs.Map.{keys_of}
-use Rattle.std.proofs.lemmas.List.{map-append}
-use denote.RawPtr.{Ptr}
+use Rattle.std.{specs.Map.keys_of, proofs.lemmas.List.map-append}
 use Rattle.linked_hash_map.specs.Nodes.{pairs_of, bare, bare_node}
-use Rattle.lhm_ring.specs.Positions.{index_of}
-use Rattle.lhm_ring.specs.Nodes.{same_ptr}
 use Rattle.lhm_ring.specs.Ring.{Held, change_at, triples, revalued, set_held_values}
-use Rattle.lhm_ring.specs.Index.{entries}
+use Rattle.lhm_ring.specs.{Positions.index_of, Nodes.same_ptr, Index.entries}
+use denote.RawPtr.{Ptr}
 
 -- what is the same of nodes with the same entries, and of nodes with other values
 module _ {K V : Type 0} where

@@ -1,15 +1,10 @@
 -- A map whose table and visit are kept, as its callers see it.
 use Rattle.std.proofs.Common.{◌≡◌, ℕ, Bool, List, [], ◌∷◌, None, refl, ap, subst, arith}
-use Rattle.std.specs.List.{IsDistinct}
-use Rattle.std.specs.Map.{keys_of}
-use Rattle.linked_hash_map.specs.LinkedMap.{LinkedMap}
-use Rattle.linked_hash_map.specs.declared.map.LinkedHashMap.TheInside.{Inside}
+use Rattle.std.specs.{List.IsDistinct, Map.keys_of}
 use Rattle.linked_hash_map.specs.Nodes.{VisitState, pairs_of, bare, Beside, beside, cursor_at, map_of, IsKept}
-use Rattle.linked_hash_map.specs.Pairs.{set_values}
-use Rattle.linked_hash_map.specs.Validity.{IsValid}
+use Rattle.linked_hash_map.specs.{LinkedMap.LinkedMap, declared.map.LinkedHashMap.TheInside.Inside, Pairs.set_values, Validity.IsValid}
 use Rattle.linked_hash_map.proofs.nodes.HeldPairs.{bare-values, keys-bare, length-bare, length-pairs_of}
-use Rattle.lhm_ring.specs.Ring.{Held, set_held_values}
-use Rattle.lhm_ring.specs.Table.{TableState}
+use Rattle.lhm_ring.specs.{Ring.Held, Ring.set_held_values, Table.TableState}
 
 -- nothing is left to visit, and no entry stands for a pair
 abbrev pub no_visit : VisitState

@@ -1,8 +1,7 @@
 -- What a lookup counts of the nodes, by the pairs: each stored hash is that of its key.
 use Rattle.linked_hash_map.proofs.Names.{Bool, List, [], ap, arith, cond, count_by, eqb, refl, ℕ, ◌%◌, ◌∙◌, ◌∷◌, ◌≡◌, count_by-cons, Spot}
 use Rattle.linked_hash_map.proofs.Names.{spot, spots, Held, buckets, same, IsKept, VisitState, bare, pairs_of, AllByRecursion}
-use Rattle.linked_hash_map.proofs.pairs.RehashCounts.{buckets-table}
-use Rattle.linked_hash_map.specs.Counts.{beside}
+use Rattle.linked_hash_map.{proofs.pairs.RehashCounts.buckets-table, specs.Counts.beside}
 use Rattle.lhm_ring.specs.Index as nodes
 use Rattle.lhm_ring.specs.Buckets as table
 

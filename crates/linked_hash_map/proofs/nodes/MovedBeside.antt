@@ -6,10 +6,9 @@ use Rattle.linked_hash_map.proofs.Names.{index_of, to_before_at, to_front_at, He
 use Rattle.linked_hash_map.proofs.Names.{bare_node, pairs_of, take-append-drop, IsPermutation-append_comm, IsPermutation-append_left}
 use Rattle.linked_hash_map.proofs.Names.{IsPermutation-trans, length_permutation, IsEquivalence, IsDistinct, position_or_len, IsPermutation}
 use Rattle.linked_hash_map.proofs.Names.{keys_of, lookup_entry, Ptr}
-use Rattle.linked_hash_map.proofs.nodes.{Current.IsKept-visited, FoundKeys.IsIndex-index_of, HeldPairs.length-pairs_of}
-use Rattle.linked_hash_map.proofs.nodes.{Kept.IsKept-same, Kept.no_visit, MovedNode.IsKept-permuted}
-use Rattle.linked_hash_map.proofs.nodes.StoredKeys.{HasKey-stored, eq-stored}
-use Rattle.linked_hash_map.proofs.pairs.Places.{count_before-index, to_behind-index}
+use Rattle.linked_hash_map.proofs.nodes.{Current.IsKept-visited, FoundKeys.IsIndex-index_of, HeldPairs.length-pairs_of, Kept.IsKept-same}
+use Rattle.linked_hash_map.proofs.{nodes.Kept.no_visit, nodes.MovedNode.IsKept-permuted, nodes.StoredKeys.HasKey-stored}
+use Rattle.linked_hash_map.proofs.{nodes.StoredKeys.eq-stored, pairs.Places.count_before-index, pairs.Places.to_behind-index}
 
 module _ {X : Type 0} (xs : List X) (i j : ℕ) where
   IsPermutation-to_before_at : IsPermutation xs (to_before_at xs i j)

@@ -3,11 +3,10 @@ use Rattle.linked_hash_map.proofs.Names.{Bool, List, None, Some, ap, arith, drop
 use Rattle.linked_hash_map.proofs.Names.{sym, take, ℕ, ⊎_elim, ◌++◌, ◌+◌, ◌<◌, ◌∙◌, ◌≡◌, ◌⊎◌, IsAt-index_of, IsPermutation-to_front_at}
 use Rattle.linked_hash_map.proofs.Names.{index_of-behind_front, index_of-front, map-to_front_at, slice_get-at, index_of, to_front_at, Held}
 use Rattle.linked_hash_map.proofs.Names.{IsKept, Lies, VisitState, bare, bare_node, bookmark_at, pairs_of, length-remove}
-use Rattle.linked_hash_map.proofs.Names.{length_permutation, IsEquivalence, Ptr}
-use Rattle.linked_hash_map.proofs.lists.Stretches.{take-none}
-use Rattle.linked_hash_map.proofs.nodes.{Current.IsKept-visited, MovedNode.IsKept-permuted, TakenNode.IsKept-out}
-use Rattle.linked_hash_map.proofs.nodes.{HeldPairs.index_of-bare, HeldPairs.length-bare, Kept.IsKept-same, Kept.no_visit}
+use Rattle.linked_hash_map.proofs.nodes.{Current.IsKept-visited, MovedNode.IsKept-permuted, TakenNode.IsKept-out, HeldPairs.index_of-bare}
 use Rattle.linked_hash_map.proofs.nodes.Outside.{IsCurrent, IsElsewhere, to_visit-bare, to_visit-out, to_visit_at, to_visit_of}
+use Rattle.linked_hash_map.proofs.{Names.length_permutation, Names.IsEquivalence, Names.Ptr, lists.Stretches.take-none}
+use Rattle.linked_hash_map.proofs.{nodes.HeldPairs.length-bare, nodes.Kept.IsKept-same, nodes.Kept.no_visit}
 
 -- the nodes with one that is not to be visited moved before the others
 module _ {K : Type 0} {eq : K → K → Bool} {hash : K → ℕ} {us : List (Held K)} {capacity : ℕ} {visit : VisitState}

@@ -47,9 +47,6 @@ module _ {K : Type 0} {eq : K → K → Bool} {hash : K → ℕ} {us : List (Hel
   pub unvisited_some : 0 < visit.unvisited
   unvisited_some = pos_of_ne-zero (λ z. let h : Some p ≡ None = sym is ∙ kept.ended z in cc)
 
-  pub bookmark_lies : index_of p us < length us
-  bookmark_lies = grind (arith, unvisited_some)
-
 -- the nodes, of which the one at an index is none to visit
 module _ {K : Type 0} {eq : K → K → Bool} {hash : K → ℕ} {us : List (Held K)} {capacity : ℕ}
     {visit : VisitState} (kept : IsKept eq hash us capacity visit) (i : ℕ) (within : i < length us)

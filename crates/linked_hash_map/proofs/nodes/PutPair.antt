@@ -3,15 +3,14 @@ use Rattle.linked_hash_map.proofs.Names.{Bool, List, None, Some, [], ap, arith, 
 use Rattle.linked_hash_map.proofs.Names.{slice_get, subst, sym, ℕ, ◌++◌, ◌+◌, ◌<◌, ◌∙◌, ◌∷◌, ◌≡◌, IsAt-index_of, IsAt, index_of, to_back_at}
 use Rattle.linked_hash_map.proofs.Names.{AtHeld, Held, change_at, revalued, HasKey, WritesOnly, IsIndex, set_value_at, IsKept, VisitState}
 use Rattle.linked_hash_map.proofs.Names.{bare, pairs_of, put, value_at, IsTouched, Mode, Keep, Touch, length-remove, IsEquivalence}
-use Rattle.linked_hash_map.proofs.Names.{IsDistinct, keys_of, Ptr}
 use Rattle.linked_hash_map.proofs.nodes.{Current.IsKept-visited, FoundKeys.index_of-HasKey, Kept.IsKept-same, Kept.no_visit}
-use Rattle.linked_hash_map.proofs.nodes.CutNodes.{pairs_of-written, part-at, slice_get-at}
 use Rattle.linked_hash_map.proofs.nodes.HeldPairs.{bare-change, index_of-bare, length-bare, length-pairs_of, length-same}
 use Rattle.linked_hash_map.proofs.nodes.MovedNode.{IsKept-moved, behind-moved, length-moved, pairs-moved, to_visit-moved}
 use Rattle.linked_hash_map.proofs.nodes.Outside.{IsCurrent, IsElsewhere, to_visit-bare, to_visit_at, to_visit_of}
-use Rattle.linked_hash_map.proofs.pairs.Calls.{set_or_push-present}
 use Rattle.linked_hash_map.proofs.pairs.Indexes.{is_some-index, set_value-index, set_value_at-pushed, slice_get-pushed}
-use Rattle.linked_hash_map.proofs.pairs.Indexes.{slice_get-set_value_at, to_back-index, value_at-slice_get}
+use Rattle.linked_hash_map.proofs.{Names.IsDistinct, Names.keys_of, Names.Ptr, nodes.CutNodes.pairs_of-written, nodes.CutNodes.part-at}
+use Rattle.linked_hash_map.proofs.{nodes.CutNodes.slice_get-at, pairs.Calls.set_or_push-present, pairs.Indexes.slice_get-set_value_at}
+use Rattle.linked_hash_map.proofs.{pairs.Indexes.to_back-index, pairs.Indexes.value_at-slice_get}
 
 -- hs are the nodes before, and ks those after
 module _ {K V : Type 0} (hs ks : List (Held (K × V))) (p : Ptr) (lies : index_of p hs < length hs) where

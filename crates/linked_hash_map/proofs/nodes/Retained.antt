@@ -1,14 +1,9 @@
 -- The map once a closure has gone over its pairs and kept some.
 use Rattle.std.proofs.Common.{◌≡◌, ℕ, ◌≤◌, inl, inr, Bool, false, cond, List, [], ◌∷◌, map, length, refl, sym, ap, subst, arith}
-use Rattle.std.specs.List.{IsDistinct, AllByRecursion}
-use Rattle.std.specs.Map.{keys_of}
-use Rattle.std.specs.Map.Calls.{RetainsPairs}
-use Rattle.linked_hash_map.specs.Nodes.{VisitState, pairs_of, bare, IsKept}
-use Rattle.linked_hash_map.proofs.nodes.Kept.{no_visit}
-use Rattle.linked_hash_map.specs.Retains.{IsSublist}
-use Rattle.linked_hash_map.proofs.nodes.HeldPairs.{keys-bare, length-bare, length-pairs_of}
-use Rattle.lhm_ring.specs.Ring.{Held}
-use Rattle.lhm_ring.specs.Table.{RetainsHeld}
+use Rattle.std.specs.{List.IsDistinct, List.AllByRecursion, Map.keys_of, Map.Calls.RetainsPairs}
+use Rattle.linked_hash_map.specs.{Nodes.VisitState, Nodes.pairs_of, Nodes.bare, Nodes.IsKept, Retains.IsSublist}
+use Rattle.linked_hash_map.proofs.nodes.{Kept.no_visit, HeldPairs.keys-bare, HeldPairs.length-bare, HeldPairs.length-pairs_of}
+use Rattle.lhm_ring.specs.{Ring.Held, Table.RetainsHeld}
 
 -- what holds of a list holds of some of its elements
 module _ {X : Type 0} where

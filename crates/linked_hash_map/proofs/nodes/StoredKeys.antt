@@ -3,12 +3,11 @@ use Rattle.linked_hash_map.proofs.Names.{length-append, slice_get, IsAt-index_of
 use Rattle.linked_hash_map.proofs.Names.{Bool, is_some, option_map, remove-at, LinkedMap, pairs_of, to_back, without, UpdatesBy, IsDistinct}
 use Rattle.linked_hash_map.proofs.Names.{IsTrue, List, None, Option, arith, filter, length, subst, AtHeld, HasKey, IsValid, Touch, keys_of}
 use Rattle.linked_hash_map.proofs.Names.{Some, [], ap, cond, map, not, refl, sym, ℕ, ◌++◌, ◌+◌, ◌-◌, ◌∙◌, ◌∷◌, ◌≡◌, Held, find, last, Ptr}
-use Rattle.linked_hash_map.proofs.Callers.Keys.{length-to_back_present, length-without_present}
 use Rattle.linked_hash_map.proofs.Callers.Updates.{Updates-put, Updates-set_value, Updates-without}
 use Rattle.linked_hash_map.proofs.{nodes.CutNodes.slice_get-held, nodes.TakenNode.pairs-removed, pairs.Inserts.distinct-to_back}
-use Rattle.linked_hash_map.proofs.nodes.FoundKeys.{IsIndex-index_of, index_of-HasKey}
 use Rattle.linked_hash_map.proofs.pairs.Indexes.{find-own, set_value-own_at, slice_get-last, without-index}
-use Rattle.linked_hash_map.specs.Pairs.{with_value}
+use Rattle.linked_hash_map.{proofs.Callers.Keys.length-to_back_present, proofs.Callers.Keys.length-without_present}
+use Rattle.linked_hash_map.{proofs.nodes.FoundKeys.IsIndex-index_of, proofs.nodes.FoundKeys.index_of-HasKey, specs.Pairs.with_value}
 
 with_value-found : {K V : Type 0} (as_key : Option K) (pair : K × V) (v : V) → with_value as_key (Some pair) v ≡ (pair.0, v) ∷ []
 with_value-found as_key pair v = grind arith

@@ -1,16 +1,11 @@
 -- Calls on a list of pairs.
 use Rattle.std.proofs.Common.{◌≡◌, suc, ◌+◌, Bool, true, false, cond, not, ◌||◌, List, [], ◌∷◌, ◌++◌, length, filter, Some, None, is_some}
 use Rattle.std.proofs.Common.{refl, sym, ap, ap₂, ◌∙◌, true≢false, arith, length-append}
-use Rattle.std.proofs.lemmas.List.{length-map}
-use Rattle.std.specs.List.{list_any, IsDistinct}
-use Rattle.std.specs.Option.{IsSome}
-use Rattle.std.specs.Map.{lookup_entry, keys_of}
-use Rattle.std.specs.Cmp.{IsEquivalence}
-use Rattle.std.proofs.lemmas.Map.Keys.{IsDistinct-head, IsDistinct-tail}
+use Rattle.std.proofs.lemmas.{List.length-map, Map.Keys.IsDistinct-head, Map.Keys.IsDistinct-tail}
+use Rattle.std.specs.{List.list_any, List.IsDistinct, Option.IsSome, Map.lookup_entry, Map.keys_of, Cmp.IsEquivalence}
 use Rattle.linked_hash_map.specs.declared.map.Mode.{Mode}
 use Rattle.linked_hash_map.specs.Pairs.{key_or, find, value_at, without, to_back, set_key, set_value, set_or_push, put}
-use Rattle.linked_hash_map.proofs.log.LiveKeys.{same_test, none_is}
-use Rattle.linked_hash_map.proofs.lists.Distinct.{none_from_all}
+use Rattle.linked_hash_map.proofs.{log.LiveKeys.same_test, log.LiveKeys.none_is, lists.Distinct.none_from_all}
 
 -- a test that no key passes finds nothing
 pub lookup_entry-none : {K V : Type 0} (test : K → Bool) (pairs : List (K × V))

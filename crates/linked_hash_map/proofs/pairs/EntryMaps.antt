@@ -1,16 +1,11 @@
 -- What an entry makes of its map, once a value is that of its key, and with another pair as the
 -- current one.
 use Rattle.std.proofs.Common.{◌≡◌, ℕ, ◌+◌, ◌≤◌, max, Bool, true, List, length, None, is_some, ap, arith, length-append}
-use Rattle.linked_hash_map.proofs.pairs.RehashCounts.{rechained_raised-same}
 use Rattle.std.proofs.lemmas.List.{map-append, length-map}
-use Rattle.linked_hash_map.specs.LinkedMap.{LinkedMap}
-use Rattle.linked_hash_map.specs.Cursor.{to_visit, without_cursor}
-use Rattle.linked_hash_map.specs.Changes.{pushed, set_or_pushed, Keeps}
-use Rattle.linked_hash_map.specs.Pairs.{find, set_value, set_or_push}
-use Rattle.linked_hash_map.specs.Validity.{IsValid}
-use Rattle.linked_hash_map.proofs.Callers.Keys.{keys_of-set_value}
-use Rattle.linked_hash_map.proofs.lists.Stretches.{stretch-front}
 use Rattle.linked_hash_map.proofs.pairs.Calls.{set_or_push-present, set_or_push-absent, length-set_value}
+use Rattle.linked_hash_map.proofs.{pairs.RehashCounts.rechained_raised-same, Callers.Keys.keys_of-set_value, lists.Stretches.stretch-front}
+use Rattle.linked_hash_map.specs.{LinkedMap.LinkedMap, Cursor.to_visit, Cursor.without_cursor, Changes.pushed, Changes.set_or_pushed}
+use Rattle.linked_hash_map.specs.{Changes.Keeps, Pairs.find, Pairs.set_value, Pairs.set_or_push, Validity.IsValid}
 
 -- the room that this takes
 module _ {K V : Type 0} (eq : K → K → Bool) (pairs : List (K × V)) (k : K) (v : V) where

@@ -1,19 +1,14 @@
 -- Calls by key on a list of pairs with different keys, at the index of the key.
 use Rattle.std.proofs.Common.{◌≡◌, ℕ, zero, suc, ◌<◌, Bool, true, false, cond, not, List, [], ◌∷◌, ◌++◌, length, remove, slice_get, Some}
 use Rattle.std.proofs.Common.{None, is_some, option_to_list, option_map, refl, sym, ap, ap₂, ◌∙◌, subst, true≢false, arith}
-use Rattle.std.specs.Prelude.{slice_set}
+use Rattle.std.proofs.{lemmas.Map.Keys.IsDistinct-head, lemmas.Map.Keys.IsDistinct-tail, Math.Nat.le_of_suc-le-suc}
 use Rattle.std.specs.List.{list_any, IsDistinct, AllByRecursion}
-use Rattle.std.specs.Map.{keys_of, lookup_entry}
-use Rattle.std.specs.Cmp.{IsEquivalence}
-use Rattle.std.proofs.lemmas.Map.Keys.{IsDistinct-head, IsDistinct-tail}
-use Rattle.std.proofs.Math.Nat.{le_of_suc-le-suc}
-use Rattle.lhm_ring.proofs.lists.Options.{Some-injective}
-use Rattle.lhm_ring.specs.Positions.{to_back_at, to_front_at}
+use Rattle.std.specs.{Prelude.slice_set, Map.keys_of, Map.lookup_entry, Cmp.IsEquivalence}
+use Rattle.lhm_ring.{proofs.lists.Options.Some-injective, specs.Positions.to_back_at, specs.Positions.to_front_at}
 use Rattle.linked_hash_map.specs.Pairs.{key_or, find, value_at, without, to_back, to_back_as_is, to_front, set_key, set_value}
 use Rattle.linked_hash_map.specs.Indexes.{IsIndex, pair_at, set_value_at}
-use Rattle.linked_hash_map.proofs.log.LiveKeys.{same_test}
-use Rattle.linked_hash_map.proofs.lists.Distinct.{none_from_all}
 use Rattle.linked_hash_map.proofs.pairs.Calls.{lookup_entry-none, filter-none, set_key-absent, set_value-none}
+use Rattle.linked_hash_map.proofs.{log.LiveKeys.same_test, lists.Distinct.none_from_all}
 
 -- an index that has something lies within
 pub slice_get-within : {X : Type 0} (xs : List X) (i : ℕ) (x : X) → slice_get xs i ≡ Some x → i < length xs

@@ -1,27 +1,14 @@
 -- Insertions one after another.
-use Rattle.std.proofs.Common.{◌≡◌, ℕ, ◌+◌, ◌-◌, ◌≤◌, max, Bool, true, false, cond, filter, List, [], ◌∷◌, ◌++◌, length, Some}
-use Rattle.std.proofs.Common.{refl, ap, ◌∙◌, subst, arith, length-append}
-use Rattle.std.specs.List.{IsDistinct}
-use Rattle.std.specs.Map.{keys_of}
+use Rattle.std.proofs.Common.{◌≡◌, ℕ, ◌+◌, ◌-◌, ◌≤◌, max, Bool, true, false, cond, filter, List, [], ◌∷◌, ◌++◌, length, Some, refl, ap, ◌∙◌}
+use Rattle.std.proofs.{Common.subst, Common.arith, Common.length-append, lemmas.List.length-map}
 use Rattle.std.specs.Iterator.{Count, IsFinite, size, MakesProgress}
-use Rattle.std.specs.Cmp.{IsEquivalence}
-use Rattle.std.proofs.lemmas.List.{length-map}
-use Rattle.linked_hash_map.specs.Changes.{KeepsSettings}
-use Rattle.linked_hash_map.specs.LinkedMap.{LinkedMap}
-use Rattle.linked_hash_map.specs.Counts.{rechained_raised, rechained_each}
-use Rattle.linked_hash_map.specs.Log.{Put}
-use Rattle.linked_hash_map.specs.declared.map.Mode.{Mode}
-use Rattle.linked_hash_map.specs.declared.map.Mode.TheVariants.{Touch}
-use Rattle.linked_hash_map.specs.Pairs.{to_back, put}
-use Rattle.linked_hash_map.specs.Run.{first_log}
-use Rattle.linked_hash_map.specs.Inserts.{insert_each}
-use Rattle.linked_hash_map.specs.Validity.{IsValid}
-use Rattle.linked_hash_map.proofs.log.Bridge.{pairs-put}
-use Rattle.linked_hash_map.proofs.pairs.RehashCounts.{rechained_each-put}
-use Rattle.linked_hash_map.proofs.log.Distinct.{distinct-pairs}
-use Rattle.linked_hash_map.proofs.lists.Elements.{by_last}
-use Rattle.linked_hash_map.proofs.pairs.Calls.{length-put}
+use Rattle.std.specs.{List.IsDistinct, Map.keys_of, Cmp.IsEquivalence}
+use Rattle.linked_hash_map.specs.{Changes.KeepsSettings, LinkedMap.LinkedMap, Counts.rechained_raised, Counts.rechained_each, Log.Put}
+use Rattle.linked_hash_map.specs.{declared.map.Mode.Mode, declared.map.Mode.TheVariants.Touch, Pairs.to_back, Pairs.put, Run.first_log}
+use Rattle.linked_hash_map.specs.{Inserts.insert_each, Validity.IsValid}
 use Rattle.linked_hash_map.proofs.runs.Steps.{put_last, last_differs, mode-first_log, pairs-first_log}
+use Rattle.linked_hash_map.proofs.{log.Bridge.pairs-put, pairs.RehashCounts.rechained_each-put, log.Distinct.distinct-pairs}
+use Rattle.linked_hash_map.proofs.{lists.Elements.by_last, pairs.Calls.length-put}
 
 length-filter : {A : Type 0} (test : A → Bool) (xs : List A) → length (filter test xs) ≤ length xs
 length-filter test [] = omega arith

@@ -1,13 +1,10 @@
 -- The laws of the iterators, for the proofs of callers.
-use Rattle.std.proofs.Common.{List, [], ◌∷◌, length, refl, ap, ◌∙◌}
-use Rattle.std.specs.Map.{values_of}
+use Rattle.std.proofs.{Common.List, Common.[], Common.◌∷◌, Common.length, Common.refl, Common.ap, Common.◌∙◌, lemmas.List.map-append}
+use Rattle.std.proofs.{iter.runs.Sources.from_front, iter.runs.Sources.from_back, iter.runs.Sources.as_is, iter.runs.Sources.as_is_back}
 use Rattle.std.specs.Map.Iter.{TakesFirst, TakesLast, ShowsInOrder, ShowsInReverse, GivesInOrder, GivesInReverse, LendsFirst, LendsLast}
 use Rattle.std.specs.Map.Iter.{LendsValuesInOrder, LendsValuesInReverse}
-use Rattle.std.proofs.lemmas.List.{map-append}
-use Rattle.std.proofs.iter.runs.Sources.{from_front, from_back, as_is, as_is_back}
-use Rattle.std.specs.Iterator.Runs.{YieldsMutRefsInOrder, YieldsMutRefsInReverse}
-use Rattle.linked_hash_map.specs.MutableValues.{values_left, LendsFirstValue, LendsLastValue}
-use Rattle.linked_hash_map.specs.Pairs.{KeysStand}
+use Rattle.std.specs.{Map.values_of, Iterator.Runs.YieldsMutRefsInOrder, Iterator.Runs.YieldsMutRefsInReverse}
+use Rattle.linked_hash_map.specs.{MutableValues.values_left, MutableValues.LendsFirstValue, MutableValues.LendsLastValue, Pairs.KeysStand}
 
 -- an iterator that is seen as the list of what it has left
 module _ {A X : Type 0} (shows : A → X) where

@@ -1,27 +1,18 @@
 -- The pair that an occupied entry stands for.
 use Rattle.std.proofs.Common.{◌≡◌, ◌<◌, Bool, true, List, length, slice_get, Some, is_some, option_map, refl, sym, ap, ◌∙◌, subst, arith}
-use Rattle.std.proofs.Math.Bridge.{le_prop}
-use Rattle.std.proofs.lemmas.Option.{slice_get-map}
-use Rattle.std.specs.Cmp.{IsEquivalence}
+use Rattle.std.{proofs.Math.Bridge.le_prop, proofs.lemmas.Option.slice_get-map, specs.Cmp.IsEquivalence}
 use Rattle.std.specs.declared.cmp.PartialEq as eq
 use Rattle.std.specs.declared.hash.Hash as hash
 use Rattle.std.specs.declared.hash.Hasher as hasher
 use Rattle.std.specs.declared.hash.BuildHasher as builder
-use Rattle.std.specs.List.{IsDistinct}
-use Rattle.std.specs.Map.{keys_of}
+use Rattle.std.specs.{List.IsDistinct, Map.keys_of}
 use Rattle.lhm_ring.proofs.lists.Options.{Some-injective}
 use Rattle.linked_hash_map.specs.Pairs.{find, value_at, set_value}
-use Rattle.linked_hash_map.specs.Indexes.{IsIndex, set_value_at}
-use Rattle.linked_hash_map.specs.Changes.{MovesCurrent}
-use Rattle.linked_hash_map.specs.LinkedMap.{LinkedMap}
-use Rattle.linked_hash_map.specs.Cursor.{IsOutside, IsOutside-prop}
 use Rattle.linked_hash_map.specs.Entry.{occupied_pair, occupied_key, with_occupied_value, occupied_value}
-use Rattle.linked_hash_map.specs.Updates.{Updates}
-use Rattle.linked_hash_map.specs.declared.entry.OccupiedEntry.{OccupiedEntry}
-use Rattle.linked_hash_map.proofs.Callers.Updates.{Updates-set_value}
-use Rattle.linked_hash_map.proofs.pairs.EntryMaps.{IsValid-current}
+use Rattle.linked_hash_map.specs.{Indexes.IsIndex, Indexes.set_value_at, Changes.MovesCurrent, LinkedMap.LinkedMap, Cursor.IsOutside}
+use Rattle.linked_hash_map.specs.{Cursor.IsOutside-prop, Updates.Updates, declared.entry.OccupiedEntry.OccupiedEntry}
 use Rattle.linked_hash_map.proofs.pairs.Indexes.{slice_get-within, slice_get-pair_at, slice_get-set_value_at, is_some-at}
-use Rattle.linked_hash_map.proofs.pairs.Indexes.{value_at-slice_get}
+use Rattle.linked_hash_map.proofs.{Callers.Updates.Updates-set_value, pairs.EntryMaps.IsValid-current, pairs.Indexes.value_at-slice_get}
 
 module _ {K V S H : Type 0} {g : eq.Ghosts K} {h : hash.Ghosts K} {b : builder.Ghosts S H}
     {w : hasher.Ghosts H} (o : OccupiedEntry K V S H g h b w) where

@@ -1,25 +1,15 @@
 -- What the map's calls return and leave, on a log that defines the map.
 use Rattle.std.proofs.Common.{◌≡◌, ℕ, zero, suc, ◌+◌, ◌-◌, ◌<◌, max, Bool, take, drop, remove, slice_get, subst, arith, drop_of_length-le}
 use Rattle.std.proofs.Common.{List, [], ◌∷◌, ◌++◌, length, Option, Some, None, is_some, option_map, refl, sym, ap, ◌∙◌, true≢false}
-use Rattle.std.proofs.Common.{append-nil}
-use Rattle.std.specs.Option.{option_zip}
-use Rattle.std.specs.List.{IsDistinct}
-use Rattle.std.specs.Map.{keys_of}
-use Rattle.std.specs.Cmp.{IsEquivalence}
-use Rattle.linked_hash_map.specs.declared.map.Mode.{Mode}
-use Rattle.linked_hash_map.specs.Log.{Log, Put, Write, Refresh, Remove, RemoveAll, Need, Fit, SetMode, mode, live}
-use Rattle.linked_hash_map.specs.Log.{pair_of, pairs, size, high, IsFull, Defines}
-use Rattle.linked_hash_map.specs.Pairs.{find, value_at, without, to_back, set_value, put}
-use Rattle.linked_hash_map.specs.AllowedAnswers.{IsAbsent, HasValue}
-use Rattle.linked_hash_map.proofs.log.LiveKeys.{pair_of-live}
-use Rattle.linked_hash_map.proofs.pairs.Calls.{is_some-value_at}
+use Rattle.std.{proofs.Common.append-nil, specs.Option.option_zip, specs.List.IsDistinct, specs.Map.keys_of, specs.Cmp.IsEquivalence}
+use Rattle.linked_hash_map.specs.Log.{Log, Put, Write, Refresh, Remove, RemoveAll, Need, Fit, SetMode, mode, live, pair_of, pairs, size}
+use Rattle.linked_hash_map.specs.{declared.map.Mode.Mode, Log.high, Log.IsFull, Log.Defines, Pairs.find, Pairs.value_at, Pairs.without}
+use Rattle.linked_hash_map.specs.{Pairs.to_back, Pairs.set_value, Pairs.put, AllowedAnswers.IsAbsent, AllowedAnswers.HasValue}
 use Rattle.linked_hash_map.proofs.log.Bridge.{find-pairs, pairs-put, pairs-write, pairs-refresh, pairs-remove, pairs-remove_all, pairs-need}
-use Rattle.linked_hash_map.proofs.log.Bridge.{pairs-fit, pairs-set_mode}
 use Rattle.linked_hash_map.proofs.log.HighWater.{size-pairs, high-put, high-write, high-refresh, high-remove, high-remove_all, high-need}
-use Rattle.linked_hash_map.proofs.log.HighWater.{high-fit, high-set_mode}
-use Rattle.linked_hash_map.proofs.log.Standing.{mode-snoc}
-use Rattle.linked_hash_map.proofs.log.Distinct.{distinct-pairs}
-use Rattle.linked_hash_map.proofs.pairs.Indexes.{without-own}
+use Rattle.linked_hash_map.proofs.log.{LiveKeys.pair_of-live, Bridge.pairs-fit, Bridge.pairs-set_mode, HighWater.high-fit}
+use Rattle.linked_hash_map.proofs.log.{HighWater.high-set_mode, Standing.mode-snoc, Distinct.distinct-pairs}
+use Rattle.linked_hash_map.proofs.pairs.{Calls.is_some-value_at, Indexes.without-own}
 
 value_of_zip : {K V : Type 0} (s : Option K) (w : Option V) (v : V) → option_map (λ pair. pair.1) (option_zip s w) ≡ Some v → w ≡ Some v
 value_of_zip s w v h = grind arith

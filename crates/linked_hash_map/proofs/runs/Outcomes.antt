@@ -2,31 +2,24 @@
 -- the words of single calls.
 use Rattle.std.proofs.Common.{◌≡◌, ℕ, ◌+◌, ◌-◌, ◌<◌, ◌≤◌, max, Bool, true, false, cond, nat_lt, List, [], ◌∷◌, ◌++◌, length, take, drop}
 use Rattle.std.proofs.Common.{slice_get, append_assoc, Option, Some, None, is_some, option_map, refl, sym, ap, ap₂, ◌∙◌, subst, true≢false}
-use Rattle.std.proofs.Common.{arith}
-use Rattle.std.proofs.lemmas.Bool.{ltb-true, lt-ltb}
-use Rattle.std.specs.Option.{IsSome, option_zip}
-use Rattle.std.specs.Cmp.{IsEquivalence}
-use Rattle.linked_hash_map.specs.declared.map.TheConstants.{LIMIT}
+use Rattle.std.proofs.{Common.arith, lemmas.Bool.ltb-true, lemmas.Bool.lt-ltb}
+use Rattle.std.specs.{Option.IsSome, Option.option_zip, Cmp.IsEquivalence}
 use Rattle.linked_hash_map.specs.Log.{Log, Put, put_each, stored, value, pair_of, pairs, Defines}
-use Rattle.linked_hash_map.specs.declared.map.Mode.{Mode}
 use Rattle.linked_hash_map.specs.Pairs.{find, value_at, to_back, put}
-use Rattle.linked_hash_map.specs.Inserts.{insert_each}
 use Rattle.linked_hash_map.specs.AllowedAnswers.{log_after, IsLive, IsAbsent, HasValue, Answers}
-use Rattle.linked_hash_map.specs.Commands.{is_refusal, old_or, pair_or_empty, to_back_if_some}
-use Rattle.linked_hash_map.specs.Commands.{answer_to, pairs_after, capacity_after, mode_after}
-use Rattle.linked_hash_map.specs.declared.replay.Command.{Command}
+use Rattle.linked_hash_map.specs.Commands.{is_refusal, old_or, pair_or_empty, to_back_if_some, answer_to, pairs_after, capacity_after}
 use Rattle.linked_hash_map.specs.declared.replay.Command.TheVariants.{Insert, Write, Refresh, Remove, PopFront, PopBack, Clear, Drain}
 use Rattle.linked_hash_map.specs.declared.replay.Command.TheVariants.{Extend, OrInsert, EntryInsert, EntryRemove, Reserve, Shrink, SetMode}
-use Rattle.linked_hash_map.specs.declared.replay.Answer.{Answer}
 use Rattle.linked_hash_map.specs.declared.replay.Answer.TheVariants.{New, Old, Found, Missing, Absent, Refused, Pair, Empty, Pairs, Stopped}
 use Rattle.linked_hash_map.specs.declared.replay.Answer.TheVariants.{Done, TooLarge, NoRoom}
-use Rattle.linked_hash_map.proofs.log.LiveKeys.{none_is, stored-live}
+use Rattle.linked_hash_map.specs.{declared.map.TheConstants.LIMIT, declared.map.Mode.Mode, Inserts.insert_each, Commands.mode_after}
+use Rattle.linked_hash_map.specs.{declared.replay.Command.Command, declared.replay.Answer.Answer}
+use Rattle.linked_hash_map.proofs.log.{LiveKeys.none_is, LiveKeys.stored-live, HighWater.size-high}
 use Rattle.linked_hash_map.proofs.pairs.Calls.{is_some-value_at, set_value-none, without-absent, to_back-absent, put-absent}
-use Rattle.linked_hash_map.proofs.log.HighWater.{size-high}
+use Rattle.linked_hash_map.proofs.pairs.Inserts.{length-insert_each_least}
 use Rattle.linked_hash_map.proofs.runs.Effects.{size-contents, the_pair, live-found, Defines-nothing, Defines-put, Defines-remove}
 use Rattle.linked_hash_map.proofs.runs.Effects.{Defines-write, Defines-refresh, Defines-remove_all, Defines-reserve, Defines-shrink}
 use Rattle.linked_hash_map.proofs.runs.Effects.{Defines-pop_front, Defines-pop_back, Defines-set_mode, distinct-contents}
-use Rattle.linked_hash_map.proofs.pairs.Inserts.{length-insert_each_least}
 
 value_of_zip : {K V : Type 0} (s : Option K) (w : Option V) (v : V) → is_some s ≡ true → w ≡ Some v
     → option_map (λ pair. pair.1) (option_zip s w) ≡ Some v

@@ -1,8 +1,7 @@
 -- What a pop takes out: the key of the first pair, or of the last.
 use Rattle.linked_hash_map.proofs.Names.{Bool, List, None, Some, drop, length, slice_get, sym, take, ◌-◌, ◌∙◌, ◌≡◌, without, Updates}
-use Rattle.linked_hash_map.proofs.Names.{IsEquivalence, IsDistinct, keys_of}
-use Rattle.linked_hash_map.proofs.Callers.{Lookups.drop-first, Updates.Updates-without}
-use Rattle.linked_hash_map.proofs.{pairs.Indexes.without-own, runs.Effects.remove-last}
+use Rattle.linked_hash_map.{proofs.Names.IsEquivalence, proofs.Names.IsDistinct, proofs.Names.keys_of, proofs.Callers.Lookups.drop-first}
+use Rattle.linked_hash_map.{proofs.Callers.Updates.Updates-without, proofs.pairs.Indexes.without-own, proofs.runs.Effects.remove-last}
 
 module _ {K V : Type 0} {eq : K → K → Bool} (laws : IsEquivalence eq) (before after : List (K × V))
     (pair : K × V) (distinct : IsDistinct eq (keys_of before)) where

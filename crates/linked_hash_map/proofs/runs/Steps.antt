@@ -1,29 +1,17 @@
 -- Runs that go on by one command, and the log that a map begins with.
-use Rattle.std.proofs.Common.{◌≡◌, ℕ, ◌≤◌, max, Bool, false, List, [], ◌∷◌, ◌++◌, length, inr, refl, sym}
-use Rattle.std.proofs.Common.{ap, ◌∙◌, subst, arith, length-append, append_assoc, append-nil}
-use Rattle.std.specs.List.{list_any, IsDistinct}
-use Rattle.std.specs.Map.{keys_of}
-use Rattle.std.specs.Cmp.{IsEquivalence}
-use Rattle.std.proofs.lemmas.List.{map-append}
-use Rattle.linked_hash_map.specs.declared.map.Mode.{Mode}
+use Rattle.std.proofs.Common.{◌≡◌, ℕ, ◌≤◌, max, Bool, false, List, [], ◌∷◌, ◌++◌, length, inr, refl, sym, ap, ◌∙◌, subst, arith}
+use Rattle.std.proofs.{Common.length-append, Common.append_assoc, Common.append-nil, lemmas.List.map-append}
+use Rattle.std.specs.{List.list_any, List.IsDistinct, Map.keys_of, Cmp.IsEquivalence}
 use Rattle.linked_hash_map.specs.Log.{Log, Put, SetMode, put_each, mode, pairs, size, high, standing, standing_in, Defines}
-use Rattle.linked_hash_map.specs.Pairs.{put}
 use Rattle.linked_hash_map.specs.AllowedAnswers.{Answers, log_after}
-use Rattle.linked_hash_map.specs.Changes.{Keeps}
-use Rattle.linked_hash_map.specs.Rehashes.{rechained_after}
 use Rattle.linked_hash_map.specs.Run.{first_log, last_log, MayEndVisit, Serves, IsReply, IsRun}
-use Rattle.linked_hash_map.specs.LinkedMap.{LinkedMap}
-use Rattle.linked_hash_map.specs.declared.replay.Command.{Command}
-use Rattle.linked_hash_map.specs.declared.replay.Answer.{Answer}
-use Rattle.linked_hash_map.specs.declared.replay.Reply.{Reply}
-use Rattle.linked_hash_map.proofs.lists.Elements.{by_last}
-use Rattle.linked_hash_map.proofs.lists.Distinct.{distinct_last}
-use Rattle.linked_hash_map.proofs.pairs.Calls.{lookup_entry-none, put-absent}
-use Rattle.linked_hash_map.proofs.log.Bridge.{pairs-put, pairs-set_mode}
+use Rattle.linked_hash_map.specs.{declared.map.Mode.Mode, Pairs.put, Changes.Keeps, Rehashes.rechained_after, LinkedMap.LinkedMap}
+use Rattle.linked_hash_map.specs.{declared.replay.Command.Command, declared.replay.Answer.Answer, declared.replay.Reply.Reply}
 use Rattle.linked_hash_map.proofs.log.HighWater.{size-pairs, high-put, high-set_mode}
-use Rattle.linked_hash_map.proofs.log.Standing.{mode-snoc}
 use Rattle.linked_hash_map.proofs.pairs.RehashCounts.{rechained_raised-same, rechained_fitted-same, rechained_each-same}
-use Rattle.linked_hash_map.proofs.runs.Effects.{Defines-nothing}
+use Rattle.linked_hash_map.proofs.{lists.Elements.by_last, lists.Distinct.distinct_last, pairs.Calls.lookup_entry-none}
+use Rattle.linked_hash_map.proofs.{pairs.Calls.put-absent, log.Bridge.pairs-put, log.Bridge.pairs-set_mode, log.Standing.mode-snoc}
+use Rattle.linked_hash_map.proofs.{runs.Effects.Defines-nothing}
 
 module _ {K V : Type 0} (eq : K → K → Bool) (start : ℕ) (command : Command K V) (reply : Reply K V) where
   -- a run and one more reply are a run

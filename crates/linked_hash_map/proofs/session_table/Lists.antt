@@ -1,14 +1,11 @@
 -- Lists of sessions: sums of weights, and the longest end that fits.
 use Rattle.std.proofs.Common.{◌≡◌, ℕ, ◌+◌, ◌-◌, ◌<◌, ◌≤◌, Bool, true, false, cond, not, List, [], ◌∷◌, ◌++◌, length, drop, nat_eq, Some}
 use Rattle.std.proofs.Common.{None, option_map, eq-eqb, refl, sym, ap, ◌∙◌, subst, arith, length-append}
-use Rattle.std.specs.Prelude.{nat_le, if◌then◌else◌, unwrap_or}
-use Rattle.std.specs.List.{IsDistinct, AllByRecursion}
 use Rattle.std.proofs.lemmas.Bool.{eqb-true, le-leb, lt-leb, leb-true, leb-false}
-use Rattle.std.proofs.lemmas.List.Folds.{find-append}
-use Rattle.std.proofs.lemmas.List.Sums.{sum_by-cons, sum_by-append}
-use Rattle.linked_hash_map.specs.Pairs.{last}
+use Rattle.std.proofs.lemmas.List.{Folds.find-append, Sums.sum_by-cons, Sums.sum_by-append}
+use Rattle.std.specs.{Prelude.nat_le, Prelude.if◌then◌else◌, Prelude.unwrap_or, List.IsDistinct, List.AllByRecursion}
 use Rattle.linked_hash_map.specs.SessionTables.{Session, ids_of, total_weight, session_of, weight_of, without, with_last, fit, IsEnd}
-use Rattle.linked_hash_map.specs.SessionTables.{IsLongestEnd}
+use Rattle.linked_hash_map.specs.{Pairs.last, SessionTables.IsLongestEnd}
 
 module _ {T : Type 0} where
   pub total_weight-cons : (session : Session T) (sessions : List (Session T))
@@ -78,12 +75,6 @@ module _ {T : Type 0} where
   pub total_weight-fit : (limit : ℕ) (sessions : List (Session T)) → total_weight (fit limit sessions) ≤ limit
   total_weight-fit limit [] = omega arith
   total_weight-fit limit (session ∷ sessions) = grind (arith, total_weight-fit limit sessions)
-    where
-      by_test : (b : Bool) → nat_le (total_weight (session ∷ sessions)) limit ≡ b
-          → total_weight (fit limit sessions) ≤ limit
-          → total_weight (if b then session ∷ sessions else fit limit sessions) ≤ limit
-      by_test true within rest = leb-true (total_weight (session ∷ sessions)) limit within
-      by_test false above rest = rest
 
   -- an end that is shorter than all of the list is an end of what is behind the first
   end_behind : (session : Session T) (sessions end before : List (Session T))

@@ -6,10 +6,9 @@ use Rattle.linked_hash_map.proofs.Names.{total_weight, with_last, sessions_of, W
 use Rattle.linked_hash_map.proofs.Names.{IsDistinct-tail, IsEquivalence, nat_eq_equiv, IsDistinct, keys_of}
 use Rattle.linked_hash_map.proofs.Callers.Keys.{distinct-to_back, find-drop, length-to_back_present, without-absent}
 use Rattle.linked_hash_map.proofs.Callers.{Lookups.find-without_here, Lookups.value_at-to_back_apart, Turns.find-others}
-use Rattle.linked_hash_map.proofs.{log.LiveKeys.none_is, session_table.Pairs.sessions_of-without}
 use Rattle.linked_hash_map.proofs.session_table.Lists.{fit-append, session_of-append, total_weight-append, total_weight-last}
 use Rattle.linked_hash_map.proofs.session_table.Pairs.{is_some-session_of, length-sessions_of, payload_of-sessions_of, sessions_of-to_back}
-use Rattle.linked_hash_map.specs.SessionTables.{without}
+use Rattle.linked_hash_map.{proofs.log.LiveKeys.none_is, proofs.session_table.Pairs.sessions_of-without, specs.SessionTables.without}
 use Rattle.linked_hash_map.specs.Pairs as pairs
 
 -- a key that is found among the last pairs has there the pair that it has among all

@@ -1,16 +1,11 @@
 -- For callers: which items are in a union, an intersection, a difference or a symmetric difference
 -- of two sets, and in a set after a loop of insertions or removals.
-use Rattle.std.proofs.Common.{◌≡◌, Bool, true, false, cond, not, ◌||◌, ◌&&◌, List, [], ◌∷◌, ◌++◌, filter, fold, map}
-use Rattle.std.proofs.Common.{refl, sym, ap, ap₂, ◌∙◌, arith}
-use Rattle.std.specs.Cmp.{IsEquivalence}
-use Rattle.std.specs.List.{list_any}
-use Rattle.std.specs.Map.{keys_of}
-use Rattle.std.proofs.lemmas.List.Folds.{list_any-append}
-use Rattle.std.proofs.lemmas.Map.Views.{any-filter_same}
+use Rattle.std.proofs.Common.{◌≡◌, Bool, true, false, cond, not, ◌||◌, ◌&&◌, List, [], ◌∷◌, ◌++◌, filter, fold, map, refl, sym, ap, ap₂}
+use Rattle.std.proofs.{Common.◌∙◌, Common.arith, lemmas.List.Folds.list_any-append, lemmas.Map.Views.any-filter_same}
+use Rattle.std.specs.{Cmp.IsEquivalence, List.list_any, Map.keys_of}
 use Rattle.linked_hash_map.specs.declared.map.Mode.TheVariants.{Touch}
-use Rattle.linked_hash_set.specs.Inserts.{insert_each}
-use Rattle.linked_hash_set.specs.Items.{contains, push_if_absent}
 use Rattle.linked_hash_set.specs.Operations.{difference, intersection, union, symmetric_difference}
+use Rattle.linked_hash_set.specs.{Inserts.insert_each, Items.contains, Items.push_if_absent}
 use Rattle.linked_hash_set.proofs.Kept as kept
 use Rattle.linked_hash_set.proofs.Callers.Removals.{without_each}
 

@@ -1,9 +1,6 @@
 -- For callers: the items of a set without each of a list, removed one after another.
-use Rattle.std.proofs.Common.{◌≡◌, ℕ, ◌+◌, ◌<◌, Bool, not, List, [], ◌∷◌, ◌++◌, filter, fold, length, take, get_or, refl}
-use Rattle.std.proofs.Common.{sym, ap, ◌∙◌, arith}
-use Rattle.std.specs.List.{list_any}
-use Rattle.std.proofs.lemmas.List.{take_more}
-use Rattle.std.proofs.lemmas.List.Folds.{list_any-append}
+use Rattle.std.proofs.Common.{◌≡◌, ℕ, ◌+◌, ◌<◌, Bool, not, List, [], ◌∷◌, ◌++◌, filter, fold, length, take, get_or, refl, sym, ap, ◌∙◌}
+use Rattle.std.{proofs.Common.arith, specs.List.list_any, proofs.lemmas.List.take_more, proofs.lemmas.List.Folds.list_any-append}
 use Rattle.linked_hash_set.specs.Items.{without}
 
 -- the items except those that are the same as one of the list

@@ -6,9 +6,8 @@ use Rattle.std.specs.Cmp.{nat_eq_equiv}
 use Rattle.linked_hash_set.specs.Items.{contains}
 use Rattle.linked_hash_set.specs.Operations.{difference, intersection, union, symmetric_difference}
 use Rattle.linked_hash_set.proofs.Callers.Operations.{contains-difference, contains-intersection, contains-union}
-use Rattle.linked_hash_set.proofs.Callers.Operations.{contains-symmetric_difference}
-use Rattle.linked_hash_set.proofs.Callers.Texts.{contains-by_item}
 use Rattle.linked_hash_set.proofs.Callers.Unions.{IsUniting, IsUniting-start, IsUniting-end, IsUniting-contains}
+use Rattle.linked_hash_set.proofs.Callers.{Operations.contains-symmetric_difference, Texts.contains-by_item}
 
 module _ (xs ys : List ℕ) (q : ℕ) where
   pub contains-difference_number : (contains nat_eq (difference nat_eq xs ys) q ≡ contains nat_eq (difference nat_eq xs ys) q)

@@ -1,12 +1,8 @@
 -- For callers: what each text finds after a change, in a set of `String` items. The first part of a
 -- conclusion shows `grind` the call.
 use Rattle.std.proofs.Common.{◌≡◌, ◌⊎◌, inl, inr, Bool, true, false, ℕ, List, [], ◌∷◌, ◌++◌, refl, sym, ap, arith}
-use Rattle.std.specs.Cmp.Lexicographic.{bytes_decides}
-use Rattle.std.specs.Prelude.{String, string_eq}
-use Rattle.std.specs.String.{string_bytes}
-use Rattle.std.specs.declared.alloc.Global.{Global}
-use Rattle.std.proofs.lemmas.List.Elements.{filter-append}
-use Rattle.std.proofs.lemmas.List.Folds.{Any-from_list_any}
+use Rattle.std.proofs.lemmas.List.{Elements.filter-append, Folds.Any-from_list_any}
+use Rattle.std.specs.{Cmp.Lexicographic.bytes_decides, Prelude.String, Prelude.string_eq, String.string_bytes, declared.alloc.Global.Global}
 use Rattle.linked_hash_map.proofs.Callers.TextLookups.{names}
 use Rattle.linked_hash_set.specs.Items.{contains, without}
 

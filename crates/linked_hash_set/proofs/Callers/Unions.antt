@@ -1,11 +1,8 @@
 -- For callers: a union that is made an item at a time, by insertions of what is not there.
-use Rattle.std.proofs.Common.{◌≡◌, Bool, true, false, cond, not, ◌||◌, List, [], ◌∷◌, ◌++◌, fold, append-nil, append_assoc}
-use Rattle.std.proofs.Common.{refl, sym, ap, subst, ◌∙◌, arith}
-use Rattle.std.specs.Cmp.{IsEquivalence}
-use Rattle.std.specs.List.{AllByRecursion, IsDistinct}
-use Rattle.std.proofs.lemmas.List.Folds.{list_any-append}
-use Rattle.linked_hash_set.specs.Items.{contains, push_if_absent}
-use Rattle.linked_hash_set.specs.Operations.{difference, union}
+use Rattle.std.proofs.Common.{◌≡◌, Bool, true, false, cond, not, ◌||◌, List, [], ◌∷◌, ◌++◌, fold, append-nil, append_assoc, refl, sym, ap}
+use Rattle.std.proofs.{Common.subst, Common.◌∙◌, Common.arith, lemmas.List.Folds.list_any-append}
+use Rattle.std.specs.{Cmp.IsEquivalence, List.AllByRecursion, List.IsDistinct}
+use Rattle.linked_hash_set.specs.{Items.contains, Items.push_if_absent, Operations.difference, Operations.union}
 use Rattle.linked_hash_set.proofs.Callers.Operations.{contains-union}
 
 -- how far the union of `old` and `other` has come: with the items that are left it is whole, and no

@@ -1,13 +1,9 @@
 -- For callers: what is true of each pair of a cache still is after an insertion and a new limit.
 use Rattle.std.proofs.Common.{◌≡◌, ℕ, ◌-◌, Bool, true, List, length, Result, Ok, Err, OnOk, OnErr, sym, ap, subst}
-use Rattle.std.specs.Cmp.{IsEquivalence}
-use Rattle.std.specs.List.{All}
-use Rattle.std.specs.Prelude.{String, string_eq}
-use Rattle.std.specs.String.{string_bytes, string_eq_equiv}
 use Rattle.std.proofs.lemmas.List.Elements.{All-drop}
+use Rattle.std.specs.{Cmp.IsEquivalence, List.All, Prelude.String, Prelude.string_eq, String.string_bytes, String.string_eq_equiv}
 use Rattle.linked_hash_map.specs.Pairs.{to_back}
-use Rattle.linked_hash_map.proofs.Callers.EachPair.{All-to_back}
-use Rattle.linked_hash_map.proofs.Callers.EachText.{AllTexts, right-string_eq}
+use Rattle.linked_hash_map.proofs.Callers.{EachPair.All-to_back, EachText.AllTexts, EachText.right-string_eq}
 use Rattle.lru_cache.specs.Cache.{Cache, newest, inserted}
 
 module _ {K V : Type 0} (P : K × V → Type 0) where

@@ -1,18 +1,12 @@
 -- For callers: the keys of a cache after each call, the one used least recently first.
-use Rattle.std.proofs.Common.{◌≡◌, ℕ, ◌-◌, ◌+◌, ◌<◌, ◌≤◌, Bool, true, not, IsTrue, List, [], ◌∷◌, ◌++◌, filter, length, drop}
-use Rattle.std.proofs.Common.{Option, Some, None, is_some, option_to_list, refl, sym, ap, ap₂, ◌∙◌, true≢false, arith}
-use Rattle.std.proofs.Common.{length-append}
-use Rattle.std.specs.Cmp.{IsEquivalence}
-use Rattle.std.specs.List.{IsDistinct}
-use Rattle.std.specs.Map.{keys_of}
-use Rattle.std.specs.Option.{IsSome}
+use Rattle.std.proofs.Common.{◌≡◌, ℕ, ◌-◌, ◌+◌, ◌<◌, ◌≤◌, Bool, true, not, IsTrue, List, [], ◌∷◌, ◌++◌, filter, length, drop, Option, Some}
+use Rattle.std.proofs.Common.{None, is_some, option_to_list, refl, sym, ap, ap₂, ◌∙◌, true≢false, arith, length-append}
 use Rattle.std.proofs.lemmas.List.{drop-map, length-map, map-append}
+use Rattle.std.specs.{Cmp.IsEquivalence, List.IsDistinct, Map.keys_of, Option.IsSome}
 use Rattle.linked_hash_map.specs.Pairs.{without_first, key_or, find, without, to_back, to_back_as_is, to_back_by, with_value}
-use Rattle.linked_hash_map.proofs.Callers.Keys.{keys_of-to_back, keys_of-to_back_own, keys_of-without}
-use Rattle.linked_hash_map.proofs.Callers.Keys.{length-to_back_present, to_back-absent}
-use Rattle.linked_hash_map.proofs.Callers.Lookups.{eq-find}
-use Rattle.lru_cache.specs.Cache.{newest, inserted}
-use Rattle.lru_cache.proofs.Callers.Newest.{newest-all}
+use Rattle.linked_hash_map.proofs.Callers.Keys.{keys_of-to_back, keys_of-to_back_own, keys_of-without, length-to_back_present}
+use Rattle.linked_hash_map.proofs.Callers.{Keys.to_back-absent, Lookups.eq-find}
+use Rattle.lru_cache.{specs.Cache.newest, specs.Cache.inserted, proofs.Callers.Newest.newest-all}
 
 -- the keys of the last n pairs are the last n keys, as after a lower limit
 pub keys_of-newest : {K V : Type 0} (n : ℕ) (pairs : List (K × V)) → keys_of (newest n pairs) ≡ newest n (keys_of pairs)

@@ -1,17 +1,12 @@
 -- For callers: sets of lemmas that an attribute names, as #[tactic(auto,
 -- using(lru_cache::proofs::Callers::Rules::each_pair))].
 use Rattle.std.proofs.Common.{◌≡◌, ◌⊎◌, ℕ, ◌<◌, not, List, [], ◌∷◌, ◌++◌, filter, length, get_or, refl, inl, inr, ap, sym, nat_eq}
-use Rattle.std.specs.Map.{keys_of}
-use Rattle.std.specs.Cmp.{nat_eq_equiv}
-use Rattle.std.specs.List.{Contains}
-use Rattle.std.proofs.lemmas.Bool.{eqb-true}
-use Rattle.std.proofs.lemmas.List.Elements.{All-weaker, All-contains_itself}
+use Rattle.std.proofs.lemmas.{Bool.eqb-true, List.Elements.All-weaker, List.Elements.All-contains_itself}
+use Rattle.std.specs.{Map.keys_of, Cmp.nat_eq_equiv, List.Contains}
 use Rattle.linked_hash_map.proofs.Callers.Keys.{keys_of-without_first}
 use Rattle.linked_hash_map.proofs.Callers.Rules as pairs
 use Rattle.lru_cache.specs.Cache.{newest, inserted}
-use Rattle.lru_cache.proofs.Callers.EachPair.{All-inserted}
-use Rattle.lru_cache.proofs.Callers.Keys.{keys_of-newest, keys_of-inserted_own}
-use Rattle.lru_cache.proofs.Callers.Newest.{newest-all}
+use Rattle.lru_cache.proofs.Callers.{EachPair.All-inserted, Keys.keys_of-newest, Keys.keys_of-inserted_own, Newest.newest-all}
 
 -- each pair after an insertion of a number is the one that was put in, or was there
 pub in-inserted_number : {V : Type 0} (n : ℕ) (ps : List (ℕ × V)) (k : ℕ) (v : V) (i : ℕ) (d : ℕ × V)

@@ -1,6 +1,5 @@
 use Rattle.std.proofs.Common.{◌≡◌, true, ◌∙◌, None, rules}
-use Rattle.dedup_lines.specs.Recent.{recent_lines}
-use Rattle.dedup_lines.proofs.Passes.{IsFiltered-push}
+use Rattle.dedup_lines.{specs.Recent.recent_lines, proofs.Passes.IsFiltered-push}
 use Rattle.dedup_lines.proofs.filter.read_lines.Goals as goal
 
 pub loop-preserved : goal.loop-preserved

@@ -1,6 +1,5 @@
 use Rattle.std.proofs.Common.{◌≡◌, None}
-use Rattle.dedup_lines.specs.Recent.{recent_lines, recent_size}
-use Rattle.dedup_lines.proofs.Passes.{IsFiltered}
+use Rattle.dedup_lines.{specs.Recent.recent_lines, specs.Recent.recent_size, proofs.Passes.IsFiltered}
 use Rattle.dedup_lines.proofs.filter.read_lines.Given as goal
 
 abbrev pub invariant-loop : goal.invariant-loop

@@ -1,7 +1,5 @@
-use Rattle.std.proofs.Common.{Option, List, ℕ}
-use Rattle.std.specs.Io.KnownBytes.{Appends}
-use Rattle.dedup_lines.specs.Lines.{text_of}
-use Rattle.dedup_lines.specs.Push.{bytes_of}
+use Rattle.std.{proofs.Common.Option, proofs.Common.List, proofs.Common.ℕ, specs.Io.KnownBytes.Appends}
+use Rattle.dedup_lines.specs.{Lines.text_of, Push.bytes_of}
 use Rattle.dedup_lines.proofs.filter.write_lines.Given as goal
 
 -- what is written, and then the lines that are left, is the whole

@@ -1,4 +1,4 @@
-use Rattle.std.proofs.Common.{◌≡◌, true, false, [], ◌∷◌, ◌∙◌, rules}
+use Rattle.std.proofs.Common.{◌≡◌, true, false, ◌∙◌, rules}
 use Rattle.dedup_lines.specs.Recent.{recent_lines}
 use Rattle.dedup_lines.proofs.Passes.{IsFiltered-start, IsFiltered-push, IsFiltered-written}
 use Rattle.dedup_lines.proofs.filter.write_new.Goals as goal

@@ -1,7 +1,6 @@
 use Rattle.std.proofs.Common.{[], ◌∷◌}
 use Rattle.dedup_lines.specs.Help.{about, about_last, about_window, help_text}
-use Rattle.dedup_lines.proofs.Passes.{Appends-cons}
-use Rattle.dedup_lines.proofs.Told.{OnOk-kept}
+use Rattle.dedup_lines.proofs.{Passes.Appends-cons, Told.OnOk-kept}
 use Rattle.dedup_lines.proofs.help.write_help.Goals as goal
 
 pub returns-clause-written : goal.returns-clause-written

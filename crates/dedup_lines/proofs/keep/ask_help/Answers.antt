@@ -1,8 +1,6 @@
 use Rattle.std.proofs.Common.{ℕ, ◌≡◌, List, [], ◌∷◌, get_or, ◌∙◌, sym, ap}
-use Rattle.std.specs.Prelude.{codes, string_bytes}
-use Rattle.std.specs.Cmp.Lexicographic.{bytes_decides}
-use Rattle.dedup_lines.specs.Arguments.{texts}
-use Rattle.dedup_lines.proofs.Said.{texts-one}
+use Rattle.std.specs.{Prelude.codes, Prelude.string_bytes, Cmp.Lexicographic.bytes_decides}
+use Rattle.dedup_lines.{specs.Arguments.texts, proofs.Said.texts-one}
 use Rattle.dedup_lines.proofs.keep.ask_help.Goals as goal
 
 pub returns-in-len1 : goal.returns-in-len1

@@ -1,9 +1,7 @@
 use Rattle.std.proofs.Common.{ℕ, ◌<◌, ◌≤◌, ◌≡◌, ◌+◌, ◌*◌, ◌^◌, length, get_or, arith, rules, ◌∙◌}
-use Rattle.std.specs.Int.{IsInRange}
-use Rattle.std.specs.Str.Parse.{digits_value}
-use borrow.Author.Count.{below_more}
-use Rattle.std.proofs.lemmas.Grind.{common_steps}
+use Rattle.std.{specs.Int.IsInRange, specs.Str.Parse.digits_value, proofs.lemmas.Grind.common_steps}
 use Rattle.lhm_commands.proofs.Numbers.{no_digit, one_more, too_large, whole}
+use borrow.Author.Count.{below_more}
 use Rattle.lhm_commands.proofs.grammar.number.Goals as goal
 
 pub returns-then-not-is_ascii_digit : goal.returns-then-not-is_ascii_digit

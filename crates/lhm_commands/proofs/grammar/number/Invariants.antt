@@ -1,6 +1,5 @@
 use Rattle.std.proofs.Common.{ℕ, ◌≡◌, ◌<◌, ◌^◌, List, take, get_or}
-use Rattle.std.specs.Int.{IsInRange}
-use Rattle.std.specs.Str.Parse.{digits_value}
+use Rattle.std.specs.{Int.IsInRange, Str.Parse.digits_value}
 use Rattle.lhm_commands.proofs.grammar.number.Given as goal
 
 -- the bytes so far are digits, and the value is theirs

@@ -1,5 +1,4 @@
-use Rattle.std.proofs.Common.{ℕ, ◌<◌, length, arith}
-use Rattle.std.proofs.lemmas.List.{take_rest}
+use Rattle.std.proofs.{Common.ℕ, Common.◌<◌, Common.length, Common.arith, lemmas.List.take_rest}
 use Rattle.lhm_commands.proofs.Cuts.{separators_skip}
 use Rattle.lhm_commands.proofs.grammar.skip_spaces.Goals as goal
 

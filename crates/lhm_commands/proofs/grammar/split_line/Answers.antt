@@ -1,6 +1,5 @@
 use Rattle.std.proofs.Common.{ℕ, ◌<◌, ◌≡◌, ◌==◌, true, get_or, length, arith, rules, add-one}
-use Rattle.std.proofs.lemmas.List.{take_rest}
-use Rattle.std.proofs.Math.Seq.{drop-length}
+use Rattle.std.proofs.{lemmas.List.take_rest, Math.Seq.drop-length}
 use Rattle.lhm_commands.proofs.Cuts.{line_cut, line_whole}
 use Rattle.lhm_commands.proofs.grammar.split_line.Goals as goal
 

@@ -1,8 +1,6 @@
 use Rattle.std.proofs.Common.{ℕ, ◌<◌, ◌≡◌, true, get_or, length, arith, rules, ◌∙◌}
-use Rattle.std.proofs.lemmas.List.{take_rest}
-use Rattle.std.proofs.Math.Seq.{drop-length}
-use Rattle.lhm_commands.specs.Grammar.{is_separator}
-use Rattle.lhm_commands.proofs.Cuts.{word_cut, word_whole}
+use Rattle.std.proofs.{lemmas.List.take_rest, Math.Seq.drop-length}
+use Rattle.lhm_commands.{specs.Grammar.is_separator, proofs.Cuts.word_cut, proofs.Cuts.word_whole}
 use Rattle.lhm_commands.proofs.grammar.split_word.Goals as goal
 
 pub returns-then-is_space : goal.returns-then-is_space

@@ -1,8 +1,7 @@
 use Rattle.std.proofs.Common.{ℕ, ◌≡◌, ◌+◌, List, [], ◌∷◌, rules, arith, append_assoc, add_assoc, ap, Err, inl, inr}
 use Rattle.std.proofs.lemmas.List.{append-nil, nil_from_length}
 use Rattle.linked_hash_map.specs.declared.replay.Command.{Command}
-use Rattle.lhm_commands.specs.Grammar.{lines_of, words_of}
-use Rattle.lhm_commands.specs.Commands.{IsSaidBy, AreCommandsOf, IsFirstInvalid}
+use Rattle.lhm_commands.specs.{Grammar.lines_of, Grammar.words_of, Commands.IsSaidBy, Commands.AreCommandsOf, Commands.IsFirstInvalid}
 use Rattle.lhm_commands.proofs.Lines.{AreCommandsOf-blank, AreCommandsOf-said, IsFirstInvalid-one, IsFirstInvalid-add}
 use Rattle.lhm_commands.proofs.parser.commands.Goals as goal
 

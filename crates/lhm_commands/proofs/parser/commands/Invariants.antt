@@ -1,7 +1,6 @@
 use Rattle.std.proofs.Common.{ℕ, List, ◌+◌, ◌≤◌, ◌++◌, length}
 use Rattle.linked_hash_map.specs.declared.replay.Command.{Command}
-use Rattle.lhm_commands.specs.Grammar.{lines_of}
-use Rattle.lhm_commands.specs.Commands.{AreCommandsOf, IsFirstInvalid}
+use Rattle.lhm_commands.specs.{Grammar.lines_of, Commands.AreCommandsOf, Commands.IsFirstInvalid}
 use Rattle.lhm_commands.proofs.parser.commands.Given as goal
 
 -- whatever the rest says, the whole says these commands and then that; and the lines so far are

@@ -1,7 +1,5 @@
-use Rattle.std.proofs.Common.{ℕ, List, ◌∷◌, [], append_assoc, arith}
-use Rattle.std.proofs.lemmas.List.{append-nil}
-use Rattle.lhm_commands.specs.Grammar.{words_of}
-use Rattle.lhm_commands.specs.Commands.{SpellNumbers, numbers_of}
+use Rattle.std.proofs.{Common.ℕ, Common.List, Common.◌∷◌, Common.[], Common.append_assoc, Common.arith, lemmas.List.append-nil}
+use Rattle.lhm_commands.specs.{Grammar.words_of, Commands.SpellNumbers, Commands.numbers_of}
 use Rattle.lhm_commands.proofs.Words.{words-some, StartWithNumber-split, SpellsNumber-split, StartWithNumber-pairs, StartWithNumber-second}
 use Rattle.lhm_commands.proofs.Words.{SpellNumbers-cons, numbers_of-left, length-after}
 use Rattle.lhm_commands.proofs.parser.pairs.Goals as goal

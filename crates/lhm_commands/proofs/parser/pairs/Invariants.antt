@@ -1,6 +1,5 @@
 use Rattle.std.proofs.Common.{ℕ, List, ◌++◌, length}
-use Rattle.lhm_commands.specs.Grammar.{words_of}
-use Rattle.lhm_commands.specs.Commands.{SpellNumbers, numbers_of}
+use Rattle.lhm_commands.specs.{Grammar.words_of, Commands.SpellNumbers, Commands.numbers_of}
 use Rattle.lhm_commands.proofs.parser.pairs.Given as goal
 
 -- whatever pairs the rest spells, the whole spells these and then those; and if the whole spells

@@ -1,7 +1,5 @@
-use Rattle.std.proofs.Common.{ℕ, [], ◌∷◌}
-use Rattle.std.proofs.lemmas.Result.{err_from_is_err_and}
-use Rattle.lhm_commands.specs.Grammar.{words_of}
-use Rattle.lhm_commands.specs.Commands.{SpellNumbers}
+use Rattle.std.proofs.{Common.ℕ, Common.[], Common.◌∷◌, lemmas.Result.err_from_is_err_and}
+use Rattle.lhm_commands.specs.{Grammar.words_of, Commands.SpellNumbers}
 use Rattle.lhm_commands.proofs.Words.{SpellNumbers-cons, SpellNumbers-rest, StartWithNumber-first}
 use Rattle.lhm_commands.proofs.parser.two_numbers.Goals as goal
 

@@ -1,5 +1,4 @@
-use Rattle.std.proofs.Common.{◌≡◌, ◌++◌, string_bytes}
-use Rattle.std.specs.Prelude.{flat_map}
+use Rattle.std.{proofs.Common.◌≡◌, proofs.Common.◌++◌, proofs.Common.string_bytes, specs.Prelude.flat_map}
 use Rattle.lhm_commands.specs.Text.{pair_text}
 use Rattle.lhm_commands.proofs.text.push_list.Given as goal
 

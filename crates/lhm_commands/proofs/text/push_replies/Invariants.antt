@@ -1,5 +1,4 @@
-use Rattle.std.proofs.Common.{◌≡◌, ◌++◌, take, string_bytes}
-use Rattle.std.specs.Prelude.{flat_map}
+use Rattle.std.{proofs.Common.◌≡◌, proofs.Common.◌++◌, proofs.Common.take, proofs.Common.string_bytes, specs.Prelude.flat_map}
 use Rattle.lhm_commands.specs.Text.{reply_text}
 use Rattle.lhm_commands.proofs.text.push_replies.Given as goal
 

@@ -5,11 +5,10 @@ use Rattle.lhm_ring.proofs.Names.{yes, param, RattleType, owns, Ptr, RawPtr, ptr
 use Rattle.lhm_ring.proofs.Names.{Clauses, alive, Goes-dropped, Stays, stay_dropped, walk_of, Val, vnil, vstruct, Memory, Routine, Calls}
 use Rattle.lhm_ring.proofs.Names.{Loops, WpFn, Ura, alloc_all, free_all, get, look_at, pass_all, sets, !, by, fjoin, flt_i, flt_l, fsplit}
 use Rattle.lhm_ring.proofs.Names.{fsplit3, keep, move, qed, raw, rewrite, split, use0, use1, use2, ‵, ◌$◌, ◌∵◌, ◌⊛◌, Logic, sem, agg}
-use Rattle.lhm_ring.proofs.Names.{and_then, no_more, returns}
 use Rattle.lhm_ring.proofs.{bucket_block.join_block.Statement.statement, memory.NodeFields.marker}
 use Rattle.lhm_ring.proofs.memory.BlockValues.{BlockFields, BlockType, block_Good, block_made, block_val}
-use Rattle.lhm_ring.proofs.memory.ElementsOwned.{Owner, elements_known}
 use Rattle.lhm_ring.proofs.memory.{Lodging.none_had, Lodging.room_of_vector, Steps.all_spent, Steps.runs_with, Steps.states}
+use Rattle.lhm_ring.proofs.{Names.and_then, Names.no_more, Names.returns, memory.ElementsOwned.Owner, memory.ElementsOwned.elements_known}
 use Rattle.lhm_ring.specs.contracts.bucket_block.{Dealloc.the_row as dealloc, Head.the_row as head, Word.the_row as word}
 use Rattle.lhm_ring.specs.contracts.bucket_block.join_block.{clauses, ended, Key.name as #self}
 use Rattle.std.specs.contracts.impls.GlobalAllocator.TheImpl.{ghosts}

@@ -1,5 +1,4 @@
-use Rattle.lhm_ring.proofs.Names.{arith}
-use Rattle.lhm_ring.proofs.indexes.BucketHeads.{get_or-cleared}
+use Rattle.lhm_ring.proofs.{Names.arith, indexes.BucketHeads.get_or-cleared}
 use Rattle.lhm_ring.proofs.bucket_parts.clear_heads.Goals as goal
 
 pub heads-preserved : goal.heads-preserved

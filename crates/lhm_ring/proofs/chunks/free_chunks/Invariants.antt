@@ -1,5 +1,4 @@
-use Rattle.lhm_ring.proofs.Names.{[], length, ◌≡◌}
-use Rattle.lhm_ring.specs.Links.{IsChain}
+use Rattle.lhm_ring.{proofs.Names.[], proofs.Names.length, proofs.Names.◌≡◌, specs.Links.IsChain}
 use Rattle.lhm_ring.proofs.chunks.free_chunks.Given as goal
 
 abbrev pub invariant-each : goal.invariant-each

@@ -1,5 +1,4 @@
-use Rattle.lhm_ring.proofs.Names.{arith}
-use Rattle.lhm_ring.proofs.memory.ChunkSizes.{all-units, few-units}
+use Rattle.lhm_ring.proofs.{Names.arith, memory.ChunkSizes.all-units, memory.ChunkSizes.few-units}
 use Rattle.lhm_ring.proofs.chunks.units.Goals as goal
 
 pub overflow_mul-result : goal.overflow_mul-result

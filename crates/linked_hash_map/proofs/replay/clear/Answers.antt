@@ -1,5 +1,4 @@
-use Rattle.linked_hash_map.proofs.Names.{inl}
-use Rattle.linked_hash_map.proofs.runs.{Effects.Defines-remove_all, Steps.Serves-keeps}
+use Rattle.linked_hash_map.proofs.{Names.inl, runs.Effects.Defines-remove_all, runs.Steps.Serves-keeps}
 use Rattle.linked_hash_map.proofs.replay.clear.Goals as goal
 
 pub returns : goal.returns

@@ -1,7 +1,6 @@
 use Rattle.linked_hash_map.proofs.Names.{Some, ap, ap₂, inr, subst, sym, take, ◌++◌, ◌-◌, ◌∙◌, HasNoRoom, rechained_each, to_visit}
-use Rattle.linked_hash_map.proofs.Names.{put_each}
 use Rattle.linked_hash_map.proofs.runs.Extends.{Defines-taken, HasExtended-put, HasNoRoom-next, next-there}
-use Rattle.linked_hash_map.proofs.runs.VisitEnds.{MayEndVisit-insert, MayEndVisit-trans}
+use Rattle.linked_hash_map.proofs.{Names.put_each, runs.VisitEnds.MayEndVisit-insert, runs.VisitEnds.MayEndVisit-trans}
 use Rattle.linked_hash_map.proofs.replay.extend.Goals as goal
 
 pub loop-key-preserved : goal.loop-key-preserved

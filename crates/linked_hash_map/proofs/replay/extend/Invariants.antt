@@ -1,5 +1,4 @@
-use Rattle.linked_hash_map.proofs.Names.{MayEndVisit, into_iter_items}
-use Rattle.linked_hash_map.proofs.runs.Extends.{HasExtended}
+use Rattle.linked_hash_map.proofs.{Names.MayEndVisit, Names.into_iter_items, runs.Extends.HasExtended}
 use Rattle.linked_hash_map.proofs.replay.extend.Given as goal
 
 abbrev pub invariant-loop-key : goal.invariant-loop-key

@@ -1,5 +1,4 @@
-use Rattle.linked_hash_map.proofs.Names.{inl}
-use Rattle.linked_hash_map.proofs.runs.{Effects.Defines-pop_front, Effects.slice_get-contents, Steps.Serves-keeps}
+use Rattle.linked_hash_map.proofs.{Names.inl, runs.Effects.Defines-pop_front, runs.Effects.slice_get-contents, runs.Steps.Serves-keeps}
 use Rattle.linked_hash_map.proofs.replay.pop_front.Goals as goal
 
 pub returns-in-Some : goal.returns-in-Some

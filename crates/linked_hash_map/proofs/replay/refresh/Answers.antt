@@ -1,6 +1,5 @@
-use Rattle.linked_hash_map.proofs.Names.{inl, refl, sym}
-use Rattle.linked_hash_map.proofs.runs.Effects.{Defines-refresh, HasValue-value, IsAbsent-value}
-use Rattle.linked_hash_map.proofs.runs.Steps.{Serves-keeps, Serves-unchanged}
+use Rattle.linked_hash_map.proofs.{Names.inl, Names.refl, Names.sym, runs.Effects.Defines-refresh, runs.Effects.HasValue-value}
+use Rattle.linked_hash_map.proofs.{runs.Effects.IsAbsent-value, runs.Steps.Serves-keeps, runs.Steps.Serves-unchanged}
 use Rattle.linked_hash_map.proofs.replay.refresh.Goals as goal
 
 pub returns-in-Some : goal.returns-in-Some

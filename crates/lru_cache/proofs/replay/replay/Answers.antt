@@ -1,9 +1,6 @@
 use Rattle.std.proofs.Common.{◌∷◌, [], ◌∙◌, sym, subst, map-id, arith, length-append}
-use Rattle.std.proofs.lemmas.Iterator.Adapters.{YieldsList-from_vec}
-use Rattle.std.proofs.lemmas.Iterator.Consumers.{YieldsList-end}
-use Rattle.lru_cache.specs.Runs.{Runs}
-use Rattle.lru_cache.proofs.Runs.{Runs-snoc}
-use Rattle.lru_cache.proofs.Unlimited.{HasNewest-run}
+use Rattle.std.proofs.lemmas.Iterator.{Adapters.YieldsList-from_vec, Consumers.YieldsList-end}
+use Rattle.lru_cache.{specs.Runs.Runs, proofs.Runs.Runs-snoc, proofs.Unlimited.HasNewest-run}
 use Rattle.lru_cache.proofs.replay.replay.Goals as goal
 
 pub loop-command-preserved : goal.loop-command-preserved

@@ -1,5 +1,4 @@
-use Rattle.std.proofs.Common.{nat_eq, take}
-use Rattle.std.specs.Prelude.{slice_get}
+use Rattle.std.{proofs.Common.nat_eq, proofs.Common.take, specs.Prelude.slice_get}
 use Rattle.linked_hash_map.proofs.Callers.Groups.{GroupsItems}
 use Rattle.uses.specs.Groups.{Word}
 use Rattle.uses.proofs.groups.by_letter.Given as goal

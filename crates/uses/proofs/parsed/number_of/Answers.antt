@@ -1,5 +1,4 @@
-use Rattle.std.proofs.Common.{ap, subst, sym}
-use Rattle.std.proofs.lemmas.List.Elements.{All-same}
+use Rattle.std.proofs.{Common.ap, Common.subst, Common.sym, lemmas.List.Elements.All-same}
 use Rattle.linked_hash_map.proofs.Callers.EachText.{AllTexts-value_at, AllTexts-to_back_as_is}
 use Rattle.lru_cache.proofs.Callers.EachPair.{AllTexts-insert}
 use Rattle.uses.specs.Numbers.{Says, PairSays}

@@ -1,7 +1,6 @@
-use Rattle.std.proofs.Common.{ℕ, ◌≡◌, ◌<◌, ◌^◌, List, [], ◌∷◌, refl, ◌∙◌, sym, ap, subst}
-use Rattle.std.specs.Prelude.{codes, string_bytes}
-use Rattle.std.specs.Cmp.Lexicographic.{bytes_decides}
-use Rattle.dedup_lines.specs.Arguments.{SayNothing, SpellsNumber, texts}
+use Rattle.std.proofs.Common.{ℕ, ◌≡◌, ◌<◌, ◌^◌, List, [], ◌∷◌, ◌∙◌, sym, ap, subst}
+use Rattle.std.specs.{Prelude.codes, Prelude.string_bytes, Cmp.Lexicographic.bytes_decides}
+use Rattle.dedup_lines.specs.Arguments.{SayNothing, SpellsNumber}
 use Rattle.dedup_lines.proofs.Said.{texts-one, texts-two, SayNothing-number}
 use Rattle.dedup_lines.proofs.keep.Keep.from_arguments.Goals as goal
 

@@ -1,8 +1,6 @@
-use Rattle.std.proofs.Common.{ℕ, ◌≡◌, ◌≤◌, Bool, true, false, not, List, length, refl, sym, ap, ap₂, ◌∙◌, arith, Some}
+use Rattle.std.proofs.Common.{ℕ, ◌≡◌, ◌≤◌, true, false, not, List, length, refl, sym, ap, ap₂, ◌∙◌, arith, Some}
 use Rattle.std.specs.Option.{ForSome}
-use Rattle.dedup_lines.specs.Kept.{has_line}
-use Rattle.dedup_lines.specs.Push.{bytes_of, to_back, trimmed}
-use Rattle.dedup_lines.specs.Recent.{recent_lines, recent_size}
+use Rattle.dedup_lines.specs.{Kept.has_line, Push.bytes_of, Push.to_back, Push.trimmed, Recent.recent_lines}
 use Rattle.dedup_lines.proofs.Remembered.{has_line-bytes_of, bytes_of-to_back_as_is, bytes_of-to_back, trimmed-all}
 use Rattle.dedup_lines.proofs.recent.Recent.push.Goals as goal
 

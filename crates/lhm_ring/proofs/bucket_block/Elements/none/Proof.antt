@@ -3,9 +3,8 @@ use Rattle.lhm_ring.proofs.Names.{[], arith, refl, ◌*◌, ◌^◌, ◌∷◌, 
 use Rattle.lhm_ring.proofs.Names.{RattleType, block_ptr, nothing, Stays, walk_of, inst_fn, Args, a_type, Val, alloc_all, free_all, get}
 use Rattle.lhm_ring.proofs.Names.{look_at, pass_all, sets, !, by, fjoin, flt_i, keep, qed, raw, split, use0, ‵, ◌$◌, ◌∵◌, ◌⊛◌, agg}
 use Rattle.lhm_ring.proofs.Names.{and_then, enter, no_more, returns}
-use Rattle.lhm_ring.proofs.bucket_block.Elements.none.Statement.{statement}
-use Rattle.lhm_ring.proofs.memory.ElementsOwned.{Field, Owner, elements_made}
-use Rattle.lhm_ring.proofs.memory.{NodeFields.marker, Steps.states, Steps.tokens}
+use Rattle.lhm_ring.proofs.{bucket_block.Elements.none.Statement.statement, memory.ElementsOwned.Field, memory.ElementsOwned.Owner}
+use Rattle.lhm_ring.proofs.{memory.ElementsOwned.elements_made, memory.NodeFields.marker, memory.Steps.states, memory.Steps.tokens}
 use Rattle.lhm_ring.specs.contracts.bucket_block.Elements.none.{clauses, ended, Key.name as #self}
 use Rattle.lhm_ring.proofs.bucket_block.Elements.none.Code as code
 

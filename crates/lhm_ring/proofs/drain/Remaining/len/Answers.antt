@@ -1,5 +1,4 @@
-use Rattle.lhm_ring.proofs.Names.{ap, length, ◌∙◌}
-use Rattle.lhm_ring.proofs.rings.Spans.{length-span_triples}
+use Rattle.lhm_ring.proofs.{Names.ap, Names.length, Names.◌∙◌, rings.Spans.length-span_triples}
 use Rattle.lhm_ring.proofs.drain.Remaining.len.Goals as goal
 
 pub returns : goal.returns

@@ -1,6 +1,5 @@
 use Rattle.lhm_ring.proofs.Names.{ap, arith, length, subst, sym, ℕ, ◌%◌, ◌-◌, ◌∙◌, ◌≡◌, bit_and, BucketState, IsBucketCount, leads_to}
-use Rattle.lhm_ring.proofs.Names.{length-map, and_mask}
-use Rattle.lhm_ring.proofs.indexes.BucketCounts.{IsPowerOfTwo-count}
+use Rattle.lhm_ring.proofs.{Names.length-map, Names.and_mask, indexes.BucketCounts.IsPowerOfTwo-count}
 use Rattle.lhm_ring.proofs.index.Index.bucket_of.Goals as goal
 
 pub returns-clause-of_hash : goal.returns-clause-of_hash

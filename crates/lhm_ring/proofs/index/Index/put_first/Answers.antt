@@ -1,6 +1,5 @@
 use Rattle.lhm_ring.proofs.Names.{List, ap, arith, map, refl, set, subst, ◌%◌, ◌/◌, ◌<◌, ◌^◌, ◌∙◌, BucketState, leads_to, target, Head}
-use Rattle.lhm_ring.proofs.Names.{map-set}
-use Rattle.lhm_ring.proofs.indexes.{BucketHeads.length-words, Filters.SetsBit-written}
+use Rattle.lhm_ring.proofs.{Names.map-set, indexes.BucketHeads.length-words, indexes.Filters.SetsBit-written}
 use Rattle.lhm_ring.proofs.index.Index.put_first.Goals as goal
 
 pub returns-clause-heads : goal.returns-clause-heads

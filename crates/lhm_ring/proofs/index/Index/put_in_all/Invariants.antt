@@ -1,5 +1,4 @@
-use Rattle.lhm_ring.proofs.Names.{length, ◌-◌, ◌≡◌, pointer_of_some}
-use Rattle.lhm_ring.proofs.indexes.IndexPuts.{IsRehashing}
+use Rattle.lhm_ring.proofs.{Names.length, Names.◌-◌, Names.◌≡◌, Names.pointer_of_some, indexes.IndexPuts.IsRehashing}
 use Rattle.lhm_ring.proofs.index.Index.put_in_all.Given as goal
 
 abbrev pub invariant-loop-pointer : goal.invariant-loop-pointer

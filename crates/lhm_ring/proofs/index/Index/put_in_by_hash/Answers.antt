@@ -1,6 +1,5 @@
 use Rattle.lhm_ring.proofs.Names.{None, Some, ap, get_or, length, set, subst, sym, ℕ, ◌%◌, ◌++◌, ◌∙◌, ◌∷◌, ◌≡◌, SetsBit, pointer_of, target}
-use Rattle.lhm_ring.proofs.Names.{linked_to}
-use Rattle.lhm_ring.proofs.indexes.IndexPuts.{Indexes-put_first}
+use Rattle.lhm_ring.proofs.{Names.linked_to, indexes.IndexPuts.Indexes-put_first}
 use Rattle.lhm_ring.proofs.index.Index.put_in_by_hash.Goals as goal
 
 pub returns-clause-first : goal.returns-clause-first

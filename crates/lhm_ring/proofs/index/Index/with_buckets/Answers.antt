@@ -1,5 +1,4 @@
-use Rattle.lhm_ring.proofs.Names.{arith}
-use Rattle.lhm_ring.proofs.indexes.BucketCounts.{buckets-most}
+use Rattle.lhm_ring.proofs.{Names.arith, indexes.BucketCounts.buckets-most}
 use Rattle.lhm_ring.proofs.index.Index.with_buckets.Goals as goal
 
 pub block_heads-requires : goal.block_heads-requires

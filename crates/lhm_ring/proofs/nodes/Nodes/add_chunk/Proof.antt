@@ -9,18 +9,16 @@ use Rattle.lhm_ring.proofs.Names.{a_type, ty_array, ty_int, w64, Val, vcons, vin
 use Rattle.lhm_ring.proofs.Names.{get, get_in, is, look_at, pass_all, sets, sets_last, through, !, at_ret, by, feq_i, feq_l, fjoin, fjoin3}
 use Rattle.lhm_ring.proofs.Names.{flt_l, fpack, fsplit, fsplit3, join, keep, move, qed, raw, rewrite, split, use0, use1, use2, ‵, ◌$◌, ◌∵◌}
 use Rattle.lhm_ring.proofs.Names.{◌⊛◌, sem, agg, sub, whole, and_then, assigns_last, bin, blocks, exec, first, fld, init, lit, no_more}
-use Rattle.lhm_ring.proofs.Names.{of_opd, returns, stop}
 use Rattle.lhm_ring.proofs.{lists.ForAll.AllByRecursion-append, memory.PlaceCut.written, nodes.Nodes.add_chunk.Statement.statement}
 use Rattle.lhm_ring.proofs.memory.BlockValues.{BlockType, block_Good, block_known, block_val, pointer_made}
-use Rattle.lhm_ring.proofs.memory.ChunkParts.{chunk-bytes, chunk_parts}
 use Rattle.lhm_ring.proofs.memory.ChunkPlaces.{Places, array_cut, land_cut, land_glue, places_glue}
 use Rattle.lhm_ring.proofs.memory.NodeFields.{Cells, Land, Nr, Pl, RK, RL, RV, Three, three_rows, two_made, word-pointer}
-use Rattle.lhm_ring.proofs.memory.Places.{AreBlocks-row, nat_lt-near, row-more}
 use Rattle.lhm_ring.proofs.memory.Steps.{knows, runs_with, self_left, states, states_also, tokens}
+use Rattle.lhm_ring.proofs.{Names.of_opd, Names.returns, Names.stop, memory.ChunkParts.chunk-bytes, memory.ChunkParts.chunk_parts}
+use Rattle.lhm_ring.proofs.{memory.Places.AreBlocks-row, memory.Places.nat_lt-near, memory.Places.row-more}
 use Rattle.lhm_ring.specs.{Nodes.parts_own, contracts.nodes.ChunkUnit.the_row as unit, contracts.nodes.Node.the_row as node}
 use Rattle.lhm_ring.specs.contracts.nodes.Nodes.add_chunk.{clauses, ended, Key.name as #self}
-use Rattle.std.proofs.GlobalToken.{dealloc_token_start}
-use Rattle.std.specs.contracts.impls.GlobalAllocator.TheImpl.{ghosts}
+use Rattle.std.{proofs.GlobalToken.dealloc_token_start, specs.contracts.impls.GlobalAllocator.TheImpl.ghosts}
 use Rattle.std.specs.contracts.alloc.Global as heap
 use Rattle.lhm_ring.proofs.nodes.Nodes.add_chunk.Code as code
 

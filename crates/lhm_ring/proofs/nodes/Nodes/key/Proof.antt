@@ -1,8 +1,7 @@
 -- `key` shows the key of one node. Assumes `Logic`.
-use Rattle.lhm_ring.proofs.Names.{refl, Holds, IsKey, body_at}
-use Rattle.lhm_ring.proofs.memory.FieldSeen.{Field, field_seen, key_lent}
-use Rattle.lhm_ring.proofs.memory.NodeFields.{Three, ko, three_rows}
 use Rattle.lhm_ring.proofs.{nodes.Nodes.key.Statement.statement, rings.Lookup.Cut-held, rings.Lookup.held_here}
+use Rattle.lhm_ring.proofs.{Names.refl, Names.Holds, Names.IsKey, Names.body_at, memory.FieldSeen.Field, memory.FieldSeen.field_seen}
+use Rattle.lhm_ring.proofs.{memory.FieldSeen.key_lent, memory.NodeFields.Three, memory.NodeFields.ko, memory.NodeFields.three_rows}
 use Rattle.lhm_ring.specs.contracts.nodes.Nodes.key.Key.{name as #self}
 use Rattle.lhm_ring.proofs.nodes.Nodes.key.Code as code
 

@@ -1,8 +1,7 @@
 -- `value` shows the value of one node. Assumes `Logic`.
-use Rattle.lhm_ring.proofs.Names.{refl, Holds, IsValue, body_at}
-use Rattle.lhm_ring.proofs.memory.FieldSeen.{Field, field_seen, value_lent}
-use Rattle.lhm_ring.proofs.memory.NodeFields.{Three, three_rows, vo}
 use Rattle.lhm_ring.proofs.{nodes.Nodes.value.Statement.statement, rings.Lookup.Cut-held, rings.Lookup.held_here}
+use Rattle.lhm_ring.proofs.{Names.refl, Names.Holds, Names.IsValue, Names.body_at, memory.FieldSeen.Field, memory.FieldSeen.field_seen}
+use Rattle.lhm_ring.proofs.{memory.FieldSeen.value_lent, memory.NodeFields.Three, memory.NodeFields.three_rows, memory.NodeFields.vo}
 use Rattle.lhm_ring.specs.contracts.nodes.Nodes.value.Key.{name as #self}
 use Rattle.lhm_ring.proofs.nodes.Nodes.value.Code as code
 

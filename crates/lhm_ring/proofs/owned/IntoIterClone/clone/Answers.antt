@@ -1,6 +1,5 @@
 use Rattle.lhm_ring.proofs.Names.{List, [], ap, append-nil, append_assoc, arith, length, refl, subst, sym, ℕ, ◌++◌, ◌∙◌, ◌∷◌, ◌≡◌, Held}
-use Rattle.lhm_ring.proofs.Names.{IsTripleClone, triples, AllZip}
-use Rattle.lhm_ring.proofs.rings.Ends.{AllZip-last, triples-pushed}
+use Rattle.lhm_ring.proofs.{Names.IsTripleClone, Names.triples, Names.AllZip, rings.Ends.AllZip-last, rings.Ends.triples-pushed}
 use Rattle.std.proofs.lemmas.Result.{MatchResult-from_err}
 use Rattle.lhm_ring.proofs.owned.IntoIterClone.clone.Goals as goal
 

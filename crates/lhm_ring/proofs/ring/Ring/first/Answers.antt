@@ -1,5 +1,4 @@
-use Rattle.lhm_ring.proofs.Names.{ap, sym, ◌∙◌, led_to}
-use Rattle.lhm_ring.proofs.rings.{FirstAndLast.led_to-first, RingCells.next_at-null}
+use Rattle.lhm_ring.proofs.{Names.ap, Names.sym, Names.◌∙◌, Names.led_to, rings.FirstAndLast.led_to-first, rings.RingCells.next_at-null}
 use Rattle.lhm_ring.proofs.ring.Ring.first.Goals as goal
 
 pub returns : goal.returns

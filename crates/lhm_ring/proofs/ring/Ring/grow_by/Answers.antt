@@ -1,8 +1,7 @@
 use Rattle.lhm_ring.proofs.Names.{ap, arith, length, max, refl, subst, sym, ◌+◌, ◌<◌, ◌∙◌, ◌≡◌, IsOwned, ring_cells, ring_list, Chunk}
-use Rattle.lhm_ring.proofs.Names.{chunk}
-use Rattle.lhm_ring.proofs.memory.Places.{IsLaid-grown, length-made}
-use Rattle.lhm_ring.proofs.rings.{Insides.counts-seen, NodesGrown.nodes_grown-fewer}
 use Rattle.lhm_ring.proofs.rings.Stacking.{IsOwned-raised, IsOwned-stacked, ring_list-stacked}
+use Rattle.lhm_ring.proofs.{Names.chunk, memory.Places.IsLaid-grown, memory.Places.length-made, rings.Insides.counts-seen}
+use Rattle.lhm_ring.proofs.{rings.NodesGrown.nodes_grown-fewer}
 use Rattle.lhm_ring.proofs.ring.Ring.grow_by.Goals as goal
 
 pub overflow_sub-missing : goal.overflow_sub-missing

@@ -1,5 +1,4 @@
-use Rattle.lhm_ring.proofs.Names.{ap, ◌∙◌, State}
-use Rattle.lhm_ring.proofs.rings.RingSpans.{IsSpan-ring, listed-ring}
+use Rattle.lhm_ring.proofs.{Names.ap, Names.◌∙◌, Names.State, rings.RingSpans.IsSpan-ring, rings.RingSpans.listed-ring}
 use Rattle.lhm_ring.proofs.ring.Ring.iter.Goals as goal
 
 pub invariant_of-result : goal.invariant_of-result

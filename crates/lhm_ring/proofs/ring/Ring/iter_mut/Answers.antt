@@ -1,5 +1,4 @@
-use Rattle.lhm_ring.proofs.Names.{refl}
-use Rattle.lhm_ring.proofs.memory.ValuesInOrder.{unvalued-set_held_values}
+use Rattle.lhm_ring.proofs.{Names.refl, memory.ValuesInOrder.unvalued-set_held_values}
 use Rattle.lhm_ring.proofs.ring.Ring.iter_mut.Goals as goal
 
 pub returns : goal.returns

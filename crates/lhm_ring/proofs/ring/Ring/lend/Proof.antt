@@ -14,9 +14,8 @@ use Rattle.lhm_ring.proofs.memory.Steps.{all_spent, runs_with, states, tokens}
 use Rattle.lhm_ring.proofs.memory.ValuesSplitOff.{AreLent-entries, As, Fields, Full, Inside, LoanMarker, Sharable-unvalued, Thinned, Vals}
 use Rattle.lhm_ring.proofs.memory.ValuesSplitOff.{at_pointers, back, entries, good, kept_by, loan_made, named as listed_as, ordered_back}
 use Rattle.lhm_ring.proofs.memory.ValuesSplitOff.{parts, placed, placed-own, ring_cut, thin_shape, thinned, vals, view}
-use Rattle.lhm_ring.proofs.ring.Ring.lend.Statement.{statement}
 use Rattle.lhm_ring.specs.contracts.ring.Ring.lend.{clauses, ended, Key.name as #self}
-use Rattle.lhm_ring.specs.declared.value_loan.LentValues.{LentValues}
+use Rattle.lhm_ring.{proofs.ring.Ring.lend.Statement.statement, specs.declared.value_loan.LentValues.LentValues}
 use denote.{Laws.Is, Laws.shows, Param.Laws.param_laws, Triple.Spec.triple_of}
 use types.Follow.{after as afterwards}
 use mathlib.Core.Option as maybe

@@ -1,6 +1,5 @@
-use Rattle.lhm_ring.proofs.Names.{◌∙◌}
 use Rattle.lhm_ring.proofs.rings.ReadAtPosition.{IsAt-held, hash-held, link_of-held}
-use Rattle.lhm_ring.proofs.rings.RingCells.{IsAt-in_nodes, links_at-ring_cells}
+use Rattle.lhm_ring.proofs.{Names.◌∙◌, rings.RingCells.IsAt-in_nodes, rings.RingCells.links_at-ring_cells}
 use Rattle.lhm_ring.proofs.ring.Ring.links.Goals as goal
 
 pub links-requires : goal.links-requires

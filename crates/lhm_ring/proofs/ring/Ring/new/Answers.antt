@@ -1,6 +1,5 @@
-use Rattle.lhm_ring.proofs.Names.{refl, ◌∙◌}
-use Rattle.lhm_ring.proofs.memory.Places.{IsLaid-none, led_to-nowhere}
-use Rattle.lhm_ring.proofs.rings.{RingCells.IsOwned-bare, RingNodes.ring_list-none}
+use Rattle.lhm_ring.proofs.{Names.refl, Names.◌∙◌, memory.Places.IsLaid-none, memory.Places.led_to-nowhere, rings.RingCells.IsOwned-bare}
+use Rattle.lhm_ring.proofs.{rings.RingNodes.ring_list-none}
 use Rattle.lhm_ring.proofs.ring.Ring.new.Goals as goal
 
 pub invariant_of-result : goal.invariant_of-result

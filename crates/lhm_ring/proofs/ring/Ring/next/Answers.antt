@@ -1,6 +1,5 @@
-use Rattle.lhm_ring.proofs.Names.{◌∙◌}
 use Rattle.lhm_ring.proofs.rings.{HeldPointers.IsApart-held, Neighbours.AtHeld-next, ReadAtPosition.IsAt-held}
-use Rattle.lhm_ring.proofs.rings.RingCells.{IsAt-in_nodes, links_at-ring_cells}
+use Rattle.lhm_ring.proofs.{Names.◌∙◌, rings.RingCells.IsAt-in_nodes, rings.RingCells.links_at-ring_cells}
 use Rattle.lhm_ring.proofs.ring.Ring.next.Goals as goal
 
 pub links-requires : goal.links-requires

@@ -1,8 +1,7 @@
 use Rattle.lhm_ring.proofs.Names.{ap, refl, subst, sym, ◌∙◌, IsOwned, ring_cells, ring_list, Held, linked_to}
-use Rattle.lhm_ring.proofs.memory.{BlockPointers.AreBlocks-held, Places.IsLaid-same}
 use Rattle.lhm_ring.proofs.rings.ContentChange.{ChangesAt-with_links, ChangesOnly-held, IsOwned-changed, ring_list-changed}
-use Rattle.lhm_ring.proofs.rings.ReadAtPosition.{IsAt-held, content_at-held}
-use Rattle.lhm_ring.proofs.rings.RingCells.{ChainsTo-ring_cells, IsAt-in_nodes}
+use Rattle.lhm_ring.proofs.{memory.BlockPointers.AreBlocks-held, memory.Places.IsLaid-same, rings.ReadAtPosition.IsAt-held}
+use Rattle.lhm_ring.proofs.{rings.ReadAtPosition.content_at-held, rings.RingCells.ChainsTo-ring_cells, rings.RingCells.IsAt-in_nodes}
 use Rattle.lhm_ring.proofs.ring.Ring.set_link.Goals as goal
 
 pub set_chain-requires : goal.set_chain-requires

@@ -1,5 +1,4 @@
-use Rattle.lhm_ring.proofs.Names.{ap, suc}
-use Rattle.lhm_ring.proofs.rings.{Insides.length-cells, RingNodes.length-bounded, RingNodes.length-within}
+use Rattle.lhm_ring.proofs.{Names.ap, Names.suc, rings.Insides.length-cells, rings.RingNodes.length-bounded, rings.RingNodes.length-within}
 use Rattle.lhm_ring.proofs.ring.Ring.spares.Goals as goal
 
 pub returns-clause-bounded : goal.returns-clause-bounded

@@ -1,5 +1,4 @@
-use Rattle.lhm_ring.proofs.Names.{ap}
-use Rattle.lhm_ring.proofs.rings.Insides.{Holds-inside, pair-inside}
+use Rattle.lhm_ring.proofs.{Names.ap, rings.Insides.Holds-inside, rings.Insides.pair-inside}
 use Rattle.lhm_ring.proofs.ring.Ring.value.Goals as goal
 
 pub value-requires : goal.value-requires

@@ -1,5 +1,4 @@
-use Rattle.lhm_ring.proofs.Names.{arith, length, ◌+◌}
-use Rattle.lhm_ring.proofs.indexes.BucketCounts.{most_nodes-buckets}
+use Rattle.lhm_ring.proofs.{Names.arith, Names.length, Names.◌+◌, indexes.BucketCounts.most_nodes-buckets}
 use Rattle.lhm_ring.proofs.table.Table.capacity.Goals as goal
 
 pub returns-clause-made_within : goal.returns-clause-made_within

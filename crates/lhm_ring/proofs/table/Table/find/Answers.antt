@@ -1,6 +1,5 @@
-use Rattle.lhm_ring.proofs.Names.{pointer_of, IfSome_then}
 use Rattle.lhm_ring.proofs.indexes.Entries.{CountsAll-entries, CountsSome-entries, HasKey-entries, LacksKey-entries}
-use Rattle.lhm_ring.proofs.lists.Options.{IfNone-then, OnSome-then}
+use Rattle.lhm_ring.proofs.{Names.pointer_of, Names.IfSome_then, lists.Options.IfNone-then, lists.Options.OnSome-then}
 use Rattle.lhm_ring.proofs.table.Table.find.Goals as goal
 
 pub returns-clause-found : goal.returns-clause-found

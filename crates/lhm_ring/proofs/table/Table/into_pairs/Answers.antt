@@ -1,5 +1,4 @@
-use Rattle.lhm_ring.proofs.Names.{ap, sym, ◌∙◌, triples, TableState}
-use Rattle.lhm_ring.proofs.indexes.Entries.{triples-entries}
+use Rattle.lhm_ring.proofs.{Names.ap, Names.sym, Names.◌∙◌, Names.triples, Names.TableState, indexes.Entries.triples-entries}
 use Rattle.lhm_ring.proofs.table.Table.into_pairs.Goals as goal
 
 pub returns : goal.returns

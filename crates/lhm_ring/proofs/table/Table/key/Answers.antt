@@ -1,5 +1,4 @@
-use Rattle.lhm_ring.proofs.Names.{◌≡◌, pointer_of}
-use Rattle.lhm_ring.proofs.tables.Tables.{AtHeld-table, IsHeld-table}
+use Rattle.lhm_ring.proofs.{Names.◌≡◌, Names.pointer_of, tables.Tables.AtHeld-table, tables.Tables.IsHeld-table}
 use Rattle.lhm_ring.proofs.table.Table.key.Goals as goal
 
 pub key-requires : goal.key-requires

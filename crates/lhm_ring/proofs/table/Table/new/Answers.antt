@@ -1,5 +1,4 @@
-use Rattle.lhm_ring.proofs.Names.{ap, arith, length}
-use Rattle.lhm_ring.proofs.tables.IndexedRing.{IsIndexed-new}
+use Rattle.lhm_ring.proofs.{Names.ap, Names.arith, Names.length, tables.IndexedRing.IsIndexed-new}
 use Rattle.lhm_ring.proofs.table.Table.new.Goals as goal
 
 pub invariant_of-result : goal.invariant_of-result

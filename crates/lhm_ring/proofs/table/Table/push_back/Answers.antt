@@ -1,7 +1,6 @@
 use Rattle.lhm_ring.proofs.Names.{None, [], ap, arith, length, length-append, refl, sym, ◌+◌, ◌∙◌, ◌∷◌, ◌≡◌, buckets, pointer_of, IsHeld}
-use Rattle.lhm_ring.proofs.Names.{held, pair}
-use Rattle.lhm_ring.proofs.indexes.{Entries.length-same_entries, IndexPuts.HoldsOthers-last}
 use Rattle.lhm_ring.proofs.{rings.HeldPointers.AtHeld-alone, tables.IndexedRing.length-indexed, tables.Tables.spares-table}
+use Rattle.lhm_ring.proofs.{Names.held, Names.pair, indexes.Entries.length-same_entries, indexes.IndexPuts.HoldsOthers-last}
 use Rattle.lhm_ring.proofs.table.Table.push_back.Goals as goal
 
 pub put_in_by_hash-requires-clause-some : goal.put_in_by_hash-requires-clause-some

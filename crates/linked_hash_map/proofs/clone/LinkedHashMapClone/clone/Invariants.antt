@@ -1,5 +1,4 @@
-use Rattle.linked_hash_map.proofs.Names.{IsValid}
-use Rattle.linked_hash_map.proofs.pairs.Clones.{HasCloned}
+use Rattle.linked_hash_map.proofs.{Names.IsValid, pairs.Clones.HasCloned}
 use Rattle.linked_hash_map.proofs.clone.LinkedHashMapClone.clone.Given as goal
 
 abbrev pub invariant-loop-key : goal.invariant-loop-key

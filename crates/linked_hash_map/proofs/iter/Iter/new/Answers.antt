@@ -1,5 +1,4 @@
-use Rattle.linked_hash_map.proofs.Names.{ap, sym, ◌∙◌, pairs_of}
-use Rattle.linked_hash_map.proofs.nodes.HeldPairs.{pairs_of-of-entries}
+use Rattle.linked_hash_map.proofs.{Names.ap, Names.sym, Names.◌∙◌, Names.pairs_of, nodes.HeldPairs.pairs_of-of-entries}
 use Rattle.linked_hash_map.proofs.iter.Iter.new.Goals as goal
 
 pub returns : goal.returns

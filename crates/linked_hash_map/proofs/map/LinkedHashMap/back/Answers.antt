@@ -1,6 +1,5 @@
-use Rattle.linked_hash_map.proofs.Names.{length, sym, ◌-◌, pairs_of}
-use Rattle.linked_hash_map.proofs.nodes.{CutNodes.held-at, CutNodes.pair-at, FirstAndLast.IsAt-last, Kept.distinct_keys}
-use Rattle.linked_hash_map.proofs.pairs.Indexes.{find-own}
+use Rattle.linked_hash_map.proofs.{Names.length, Names.sym, Names.◌-◌, Names.pairs_of, nodes.CutNodes.held-at, nodes.CutNodes.pair-at}
+use Rattle.linked_hash_map.proofs.{nodes.FirstAndLast.IsAt-last, nodes.Kept.distinct_keys, pairs.Indexes.find-own}
 use Rattle.linked_hash_map.proofs.map.LinkedHashMap.back.Goals as goal
 
 pub key-requires : goal.key-requires

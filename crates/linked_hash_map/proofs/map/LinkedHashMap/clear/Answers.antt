@@ -1,5 +1,4 @@
-use Rattle.linked_hash_map.proofs.Names.{[], refl}
-use Rattle.linked_hash_map.proofs.nodes.{EmptyMap.IsKept-none, Kept.IsValid-kept}
+use Rattle.linked_hash_map.proofs.{Names.[], Names.refl, nodes.EmptyMap.IsKept-none, nodes.Kept.IsValid-kept}
 use Rattle.linked_hash_map.proofs.map.LinkedHashMap.clear.Goals as goal
 
 pub invariant_of-self : goal.invariant_of-self

@@ -1,6 +1,5 @@
-use Rattle.linked_hash_map.proofs.Names.{ap, rules, ◌∙◌, find}
 use Rattle.linked_hash_map.proofs.pairs.ExtendSteps.{InsertsUntil-IsExtended, IsExtended-none, IsExtended-put, find-IsExtended_absent}
-use Rattle.linked_hash_map.proofs.pairs.ExtendSteps.{room-IsExtended}
+use Rattle.linked_hash_map.proofs.{Names.ap, Names.rules, Names.◌∙◌, Names.find, pairs.ExtendSteps.room-IsExtended}
 use Rattle.linked_hash_map.proofs.map.LinkedHashMap.extend.Goals as goal
 
 pub loop-key-preserved : goal.loop-key-preserved

@@ -1,5 +1,4 @@
-use Rattle.linked_hash_map.proofs.Names.{deref_pair}
-use Rattle.linked_hash_map.proofs.pairs.ExtendSteps.{IsExtended}
+use Rattle.linked_hash_map.proofs.{Names.deref_pair, pairs.ExtendSteps.IsExtended}
 use Rattle.linked_hash_map.proofs.map.LinkedHashMap.extend_refs.Given as goal
 
 abbrev pub invariant-loop-key : goal.invariant-loop-key

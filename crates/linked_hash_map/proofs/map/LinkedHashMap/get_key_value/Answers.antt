@@ -1,5 +1,4 @@
-use Rattle.linked_hash_map.proofs.Names.{Some, ap₂, sym, ◌∙◌}
-use Rattle.linked_hash_map.proofs.lists.Options.{of-None, of-Some}
+use Rattle.linked_hash_map.proofs.{Names.Some, Names.ap₂, Names.sym, Names.◌∙◌, lists.Options.of-None, lists.Options.of-Some}
 use Rattle.linked_hash_map.proofs.map.LinkedHashMap.get_key_value.Goals as goal
 
 pub returns : goal.returns

@@ -1,10 +1,8 @@
 use Rattle.linked_hash_map.proofs.Names.{Some, ap, inl, option_map, refl, sym, ◌∙◌, pointer_of, change_at, revalued, beside, pairs_of}
-use Rattle.linked_hash_map.proofs.Names.{value_at}
 use Rattle.linked_hash_map.proofs.{Callers.Keys.keys_of-set_value, nodes.CutNodes.pairs_of-change_at, nodes.HeldPairs.bare-change}
-use Rattle.linked_hash_map.proofs.lists.Options.{of-None, of-Some}
 use Rattle.linked_hash_map.proofs.nodes.Kept.{IsKept-same, IsValid-view, distinct_keys, map_of-revalued}
-use Rattle.linked_hash_map.proofs.nodes.StoredKeys.{UpdatesBy-set_value, set_value-stored}
-use Rattle.linked_hash_map.proofs.pairs.{Calls.set_value-none, Written.IsValid-set_value}
+use Rattle.linked_hash_map.proofs.{Names.value_at, lists.Options.of-None, lists.Options.of-Some, nodes.StoredKeys.UpdatesBy-set_value}
+use Rattle.linked_hash_map.proofs.{nodes.StoredKeys.set_value-stored, pairs.Calls.set_value-none, pairs.Written.IsValid-set_value}
 use Rattle.linked_hash_map.proofs.map.LinkedHashMap.get_mut.Goals as goal
 
 pub invariant_of-self-lent : goal.invariant_of-self-lent

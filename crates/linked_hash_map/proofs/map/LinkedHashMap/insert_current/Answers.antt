@@ -1,9 +1,8 @@
 use Rattle.linked_hash_map.proofs.Names.{Some, ap, option_map, slice_get, subst, sym, ◌∙◌, pointer_of, change_at, revalued, IsIndex, beside}
-use Rattle.linked_hash_map.proofs.Names.{pairs_of, visit_of, put}
 use Rattle.linked_hash_map.proofs.nodes.Current.{IsAt-current, IsCurrent-outside, MovesCurrent-nodes, current_at-Some, current_of-Some}
 use Rattle.linked_hash_map.proofs.nodes.{Current.index_of-current, CutNodes.held-at, Kept.distinct_keys, Outside.IsCurrent}
 use Rattle.linked_hash_map.proofs.nodes.PutPair.{IsKept-put_current, IsTouchedAt, elsewhere-put, pair-touched, pairs-put, to_visit-put}
-use Rattle.linked_hash_map.proofs.nodes.PutPair.{touched_at, value-touched}
+use Rattle.linked_hash_map.proofs.{Names.pairs_of, Names.visit_of, Names.put, nodes.PutPair.touched_at, nodes.PutPair.value-touched}
 use Rattle.linked_hash_map.proofs.map.LinkedHashMap.insert_current.Goals as goal
 
 pub touch-requires : goal.touch-requires

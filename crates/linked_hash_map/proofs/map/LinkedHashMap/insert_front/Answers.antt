@@ -1,6 +1,5 @@
-use Rattle.linked_hash_map.proofs.Names.{ap, is_some, sym, ◌∙◌}
-use Rattle.linked_hash_map.proofs.Callers.Fronts.{Updates-reordered, first-put_front, put_front-put}
-use Rattle.linked_hash_map.proofs.pairs.Calls.{is_some-value_at}
+use Rattle.linked_hash_map.proofs.{Names.ap, Names.is_some, Names.sym, Names.◌∙◌, Callers.Fronts.Updates-reordered}
+use Rattle.linked_hash_map.proofs.{Callers.Fronts.first-put_front, Callers.Fronts.put_front-put, pairs.Calls.is_some-value_at}
 use Rattle.linked_hash_map.proofs.map.LinkedHashMap.insert_front.Goals as goal
 
 pub returns-in-Ok-Some-clause-pairs : goal.returns-in-Ok-Some-clause-pairs

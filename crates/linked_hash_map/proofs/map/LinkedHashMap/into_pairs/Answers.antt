@@ -1,5 +1,4 @@
-use Rattle.linked_hash_map.proofs.Names.{ap, map, ◌∙◌, LinkedMap}
-use Rattle.linked_hash_map.proofs.nodes.HeldPairs.{pairs-triples}
+use Rattle.linked_hash_map.proofs.{Names.ap, Names.map, Names.◌∙◌, Names.LinkedMap, nodes.HeldPairs.pairs-triples}
 use Rattle.linked_hash_map.proofs.map.LinkedHashMap.into_pairs.Goals as goal
 
 pub returns-clause-pairs : goal.returns-clause-pairs

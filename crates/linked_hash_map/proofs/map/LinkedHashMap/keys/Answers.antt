@@ -1,5 +1,4 @@
-use Rattle.linked_hash_map.proofs.Names.{deref}
-use Rattle.linked_hash_map.proofs.pairs.IteratorLaws.{shows_in_order, shows_in_reverse}
+use Rattle.linked_hash_map.proofs.{Names.deref, pairs.IteratorLaws.shows_in_order, pairs.IteratorLaws.shows_in_reverse}
 use Rattle.linked_hash_map.proofs.map.LinkedHashMap.keys.Goals as goal
 
 pub returns-clause-runs : goal.returns-clause-runs

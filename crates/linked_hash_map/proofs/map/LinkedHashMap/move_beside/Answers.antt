@@ -1,10 +1,9 @@
 use Rattle.linked_hash_map.proofs.Names.{ap, ap₂, cond, drop, filter, is_some, not, option_to_list, refl, sym, take, ◌&&◌, ◌++◌, ◌+◌, ◌∙◌}
 use Rattle.linked_hash_map.proofs.Names.{◌≡◌, IsAt-index_of, pointer_of, index_of, to_before_at, HasKey, pairs_of, find, lookup_entry}
-use Rattle.linked_hash_map.proofs.{Callers.Beside.find-to_behind, pairs.Places.to_behind-index}
-use Rattle.linked_hash_map.proofs.lists.Options.{of-None, of-Some}
-use Rattle.linked_hash_map.proofs.nodes.FoundKeys.{IsIndex-index_of, index_of-HasKey}
 use Rattle.linked_hash_map.proofs.nodes.{Kept.IsValid-kept, Kept.distinct_keys, StoredKeys.HasKey-stored}
 use Rattle.linked_hash_map.proofs.nodes.MovedBeside.{IsKept-beside, count_before-stored, length-beside, pairs-beside, to_behind-stored}
+use Rattle.linked_hash_map.{proofs.Callers.Beside.find-to_behind, proofs.pairs.Places.to_behind-index, proofs.lists.Options.of-None}
+use Rattle.linked_hash_map.{proofs.lists.Options.of-Some, proofs.nodes.FoundKeys.IsIndex-index_of, proofs.nodes.FoundKeys.index_of-HasKey}
 use Rattle.linked_hash_map.proofs.map.LinkedHashMap.move_beside.Goals as goal
 
 -- the positions that are found are those of the two keys

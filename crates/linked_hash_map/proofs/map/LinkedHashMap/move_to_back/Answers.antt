@@ -2,10 +2,9 @@ use Rattle.linked_hash_map.proofs.Names.{Bool, ap, filter, is_some, not, option_
 use Rattle.linked_hash_map.proofs.Names.{pointer_of, index_of, to_back_at, HasKey, pairs_of, find, last, to_back_as_is, lookup_entry}
 use Rattle.linked_hash_map.proofs.Callers.{Ends.last-to_back_as_is, Moves.find-to_back_as_is, Moves.to_back_as_is-absent}
 use Rattle.linked_hash_map.proofs.{lists.Options.of-None, lists.Options.of-Some, nodes.StoredKeys.HasKey-stored, nodes.StoredKeys.eq-stored}
-use Rattle.linked_hash_map.proofs.nodes.FoundKeys.{IsIndex-index_of, index_of-HasKey}
 use Rattle.linked_hash_map.proofs.{nodes.HeldPairs.length-pairs_of, pairs.Indexes.to_back_as_is-index}
-use Rattle.linked_hash_map.proofs.nodes.Kept.{IsValid-kept, IsValid-view, distinct_keys}
-use Rattle.linked_hash_map.proofs.nodes.MovedNode.{IsKept-back, length-moved, pairs-moved}
+use Rattle.linked_hash_map.proofs.nodes.{FoundKeys.IsIndex-index_of, FoundKeys.index_of-HasKey, Kept.IsValid-kept, Kept.IsValid-view}
+use Rattle.linked_hash_map.proofs.nodes.{Kept.distinct_keys, MovedNode.IsKept-back, MovedNode.length-moved, MovedNode.pairs-moved}
 use Rattle.linked_hash_map.proofs.map.LinkedHashMap.move_to_back.Goals as goal
 
 -- a position that is found is that of the key

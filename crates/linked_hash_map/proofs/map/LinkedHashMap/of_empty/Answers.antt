@@ -1,5 +1,4 @@
-use Rattle.linked_hash_map.proofs.Names.{ap, refl, bare}
-use Rattle.linked_hash_map.proofs.nodes.{EmptyMap.IsKept-none, Kept.IsValid-kept}
+use Rattle.linked_hash_map.proofs.{Names.ap, Names.refl, Names.bare, nodes.EmptyMap.IsKept-none, nodes.Kept.IsValid-kept}
 use Rattle.linked_hash_map.proofs.map.LinkedHashMap.of_empty.Goals as goal
 
 pub invariant_of-result : goal.invariant_of-result

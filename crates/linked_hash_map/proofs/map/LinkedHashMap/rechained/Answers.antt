@@ -1,6 +1,5 @@
-use Rattle.linked_hash_map.proofs.Names.{arith, subst, ◌≤◌}
+use Rattle.linked_hash_map.proofs.{Names.arith, Names.subst, Names.◌≤◌, pairs.RehashCounts.buckets-table}
 use Rattle.lhm_ring.proofs.indexes.BucketCounts.{buckets-below}
-use Rattle.linked_hash_map.proofs.pairs.RehashCounts.{buckets-table}
 use Rattle.linked_hash_map.proofs.map.LinkedHashMap.rechained.Goals as goal
 
 pub returns-clause-few : goal.returns-clause-few

@@ -1,10 +1,9 @@
 use Rattle.linked_hash_map.proofs.Names.{None, Some, ap, drop, length, map, option_map, refl, rules, sym, take, ◌∙◌, ◌≡◌, pointer_of}
 use Rattle.linked_hash_map.proofs.Names.{HasKey, bare, bookmark_at, pairs_of, visit_of, find, replaced, set_key, value_at, drop-map}
-use Rattle.linked_hash_map.proofs.Names.{take-map, keys_of}
 use Rattle.linked_hash_map.proofs.Callers.ReplacedKeys.{keys_of-set_key, length-set_key, set_key-absent, value_at-set_key}
-use Rattle.linked_hash_map.proofs.lists.Options.{of-None, of-Some}
 use Rattle.linked_hash_map.proofs.nodes.{AbsentKeys.hash_by-respects, Kept.IsValid-kept, Kept.IsValid-view, Kept.distinct_keys}
 use Rattle.linked_hash_map.proofs.nodes.ReplacedKey.{IsKept-rekeyed, cursor_at-rekeyed, set_key-rekeyed}
+use Rattle.linked_hash_map.proofs.{Names.take-map, Names.keys_of, lists.Options.of-None, lists.Options.of-Some}
 use Rattle.linked_hash_map.proofs.map.LinkedHashMap.replace_key.Goals as goal
 
 -- a position that is found is that of the key

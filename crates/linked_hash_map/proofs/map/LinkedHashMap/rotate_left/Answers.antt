@@ -1,7 +1,6 @@
-use Rattle.linked_hash_map.proofs.Names.{ap, arith, length, refl, ◌∙◌, find}
-use Rattle.linked_hash_map.proofs.Callers.Moves.{find-rotated}
-use Rattle.linked_hash_map.proofs.nodes.{HeldPairs.length-pairs_of, Kept.IsValid-kept, Kept.IsValid-view}
-use Rattle.linked_hash_map.proofs.nodes.Rotated.{IsKept-rotated, length-rotated, pairs-rotated}
+use Rattle.linked_hash_map.proofs.{Names.ap, Names.arith, Names.length, Names.refl, Names.◌∙◌, Names.find, Callers.Moves.find-rotated}
+use Rattle.linked_hash_map.proofs.{nodes.HeldPairs.length-pairs_of, nodes.Kept.IsValid-kept, nodes.Kept.IsValid-view}
+use Rattle.linked_hash_map.proofs.{nodes.Rotated.IsKept-rotated, nodes.Rotated.length-rotated, nodes.Rotated.pairs-rotated}
 use Rattle.linked_hash_map.proofs.map.LinkedHashMap.rotate_left.Goals as goal
 
 pub rotate_left-requires : goal.rotate_left-requires

@@ -1,5 +1,4 @@
-use Rattle.linked_hash_map.proofs.Names.{ap, arith, unwrap_or, ◌∙◌}
-use Rattle.linked_hash_map.proofs.session_table.Pairs.{total_weight-others}
+use Rattle.linked_hash_map.proofs.{Names.ap, Names.arith, Names.unwrap_or, Names.◌∙◌, session_table.Pairs.total_weight-others}
 use Rattle.linked_hash_map.proofs.sessions.Sessions.plan_put.Goals as goal
 
 pub overflow_sub-others : goal.overflow_sub-others

@@ -1,6 +1,5 @@
-use Rattle.linked_hash_map.proofs.Names.{arith, subst, sessions_of}
 use Rattle.linked_hash_map.proofs.session_table.Leaving.{AreLeaving-past, IsPast, IsPast-more, few-past}
-use Rattle.linked_hash_map.proofs.session_table.Pairs.{length-sessions_of}
+use Rattle.linked_hash_map.proofs.{Names.arith, Names.subst, Names.sessions_of, session_table.Pairs.length-sessions_of}
 use Rattle.linked_hash_map.proofs.sessions.storage.find_leaving.Goals as goal
 
 pub returns-then-staying-weight_left : goal.returns-then-staying-weight_left

@@ -1,5 +1,4 @@
-use Rattle.linked_hash_map.proofs.Names.{sessions_of}
-use Rattle.linked_hash_map.proofs.session_table.Leaving.{IsPast}
+use Rattle.linked_hash_map.proofs.{Names.sessions_of, session_table.Leaving.IsPast}
 use Rattle.linked_hash_map.proofs.sessions.storage.find_leaving.Given as goal
 
 -- as many have been passed as count says

@@ -1,5 +1,4 @@
-use Rattle.linked_hash_map.proofs.Names.{arith}
-use Rattle.linked_hash_map.proofs.session_table.Retained.{total_weight-next}
+use Rattle.linked_hash_map.proofs.{Names.arith, session_table.Retained.total_weight-next}
 use Rattle.linked_hash_map.proofs.sessions.storage.total_of.Goals as goal
 
 pub overflow_add-total : goal.overflow_add-total

@@ -1,5 +1,4 @@
-use Rattle.linked_hash_map.proofs.Names.{ap, option_map, sym, ◌∙◌}
-use Rattle.linked_hash_map.proofs.session_table.Pairs.{weight-sessions_of}
+use Rattle.linked_hash_map.proofs.{Names.ap, Names.option_map, Names.sym, Names.◌∙◌, session_table.Pairs.weight-sessions_of}
 use Rattle.linked_hash_map.proofs.sessions.storage.weight_at.Goals as goal
 
 pub returns-in-Some : goal.returns-in-Some

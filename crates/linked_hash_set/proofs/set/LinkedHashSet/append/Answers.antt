@@ -1,9 +1,7 @@
-use Rattle.std.proofs.Common.{◌≡◌, ◌||◌, ap, ◌∙◌}
+use Rattle.std.proofs.{Common.◌≡◌, Common.◌||◌, Common.ap, Common.◌∙◌, lemmas.Result.IfOk-weaker}
 use Rattle.std.specs.Map.{keys_of}
-use Rattle.std.proofs.lemmas.Result.{IfOk-weaker}
 use Rattle.linked_hash_map.specs.Inserts as inserts
-use Rattle.linked_hash_set.specs.Inserts.{insert_each}
-use Rattle.linked_hash_set.specs.Items.{contains}
+use Rattle.linked_hash_set.specs.{Inserts.insert_each, Items.contains}
 use Rattle.linked_hash_set.proofs.Kept.{keys_of-insert_each, contains-insert_each, length-insert_each}
 use Rattle.linked_hash_set.proofs.set.LinkedHashSet.append.Goals as goal
 

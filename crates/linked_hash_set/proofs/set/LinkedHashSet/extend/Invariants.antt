@@ -1,6 +1,5 @@
 use Rattle.std.proofs.Common.{◌≡◌, length, max}
-use Rattle.linked_hash_set.specs.Inserts.{insert_each}
-use Rattle.linked_hash_set.specs.Validity.{IsValid}
+use Rattle.linked_hash_set.specs.{Inserts.insert_each, Validity.IsValid}
 use Rattle.linked_hash_set.proofs.set.LinkedHashSet.extend.Given as goal
 
 abbrev pub invariant-loop-item : goal.invariant-loop-item

@@ -1,7 +1,5 @@
 use Rattle.std.proofs.Common.{sym, ap, ◌∙◌, []}
-use Rattle.linked_hash_set.specs.Inserts.{insert_each}
-use Rattle.linked_hash_set.specs.Items.{contains}
-use Rattle.linked_hash_set.proofs.Callers.Operations.{contains-insert_each}
+use Rattle.linked_hash_set.{specs.Inserts.insert_each, specs.Items.contains, proofs.Callers.Operations.contains-insert_each}
 use Rattle.linked_hash_set.proofs.set.LinkedHashSet.from_iter.Goals as goal
 
 pub returns-in-Err-clause-stopped : goal.returns-in-Err-clause-stopped

@@ -1,7 +1,6 @@
 -- `get_or_insert` inserts by `put`, and hands on what `back_or` returns. By hand, since the borrow
 -- checker proves no loan whose result may own memory.
-use mathlib.Core.Path.{subst}
-use mathlib.Core.List.{◌++◌}
+use mathlib.Core.{Path.subst, List.◌++◌}
 use base.Fml.{Incl-trans, ftrue, flft, fres}
 use base.Logic.{ent, emp, id⊢}
 use contract.BorrowLft.{◌⊑◌, meet_⊑_left, meet_⊑_right}
@@ -13,41 +12,31 @@ use mir.Syntax.{Args, Fn, a_type, dcons, dnil, named}
 use mir.Val.{Val, has_ty, WT}
 use lib.Dec.{T}
 use prog.Wp.{WpFn}
-use types.Kit.{‵, raw, ◌⊛◌, some, later, ◌$◌, ◌∵◌, !, qed, move, keep, drop, use0, use1, use2, use3, split, fsplit, fjoin}
-use types.Kit.{join, pick, await, suffices, frame, group, by}
+use types.Kit.{‵, raw, ◌⊛◌, some, later, ◌$◌, ◌∵◌, !, qed, move, keep, drop, use0, use1, use2, use3, split, fsplit, fjoin, join, pick}
+use types.Kit.{await, suffices, frame, group, by}
 use types.Run.{enter, addr, stop, no_more, and_then, returns, of_opd}
 use types.ByLocal.{alloc_all, pass_all, free_all, look_at, get, through, sets, lands_as}
 use denote.Exit.{no}
 use denote.Laws.{Is, Typed, shows}
 use denote.Param.{bounded, layout, param}
-use denote.Param.Laws.{param_laws, of_field}
-use denote.Param.Shared.{copy_shared}
+use denote.Param.{Laws.param_laws, Laws.of_field, Shared.copy_shared}
 use denote.RattleType.{RattleType}
 use denote.Ref.{Bor, ShrRef, NamedLft, mut_vals, mut_Tells}
 use denote.Shares.{Shares-less}
 use denote.Signature.{mut_ref_to, plain}
 use denote.Steps.{nothing, heard, peeks, only}
-use denote.Struct.Field.{shr_ref_field}
-use denote.Struct.Laws.{shr_ref_laws, shr_ref_copy}
-use denote.Triple.Call.{calls_at}
-use denote.Triple.Clauses.{Ended, Lasts, lasts}
-use denote.Triple.Entry.{on_entry}
-use denote.Triple.Spec.{triple_of}
-use denote.Triple.Table.{framed}
+use denote.Struct.{Field.shr_ref_field, Laws.shr_ref_laws, Laws.shr_ref_copy}
 use denote.Triple.Walked.{Stays, walk_of, stay_dropped, Goes-dropped, Goes-spent_ref, ends_at}
+use denote.Triple.{Call.calls_at, Clauses.Ended, Clauses.Lasts, Clauses.lasts, Entry.on_entry, Spec.triple_of, Table.framed}
 use Rattle.std.proofs.Common.{◌≡◌, List, [], ◌∷◌, refl, sym}
-use Rattle.std.proofs.lemmas.Result.{IfOk-weaker}
-use Rattle.std.proofs.option.Option.TheLaws.{the_row_laws as option_laws}
-use Rattle.std.proofs.result.Result.TheLaws.{the_row_laws as result_laws}
-use Rattle.std.proofs.raw_atomic.Walks.{proved_at}
+use Rattle.std.proofs.{lemmas.Result.IfOk-weaker, option.Option.TheLaws.the_row_laws as option_laws}
+use Rattle.std.proofs.{result.Result.TheLaws.the_row_laws as result_laws, raw_atomic.Walks.proved_at}
 use Rattle.std.specs.Prelude.{false, unwrap_or, Some, None, OnErr, IfNone, IfOk, IfErr, IsSome, MatchResult}
 use Rattle.std.specs.contracts.option.Option as option
 use Rattle.std.specs.contracts.result.Result as result
 use Rattle.std.specs.HashMap.Lent.{HashMembers}
 use Rattle.linked_hash_map.specs.Pairs.{last}
-use Rattle.linked_hash_set.specs.Inserts.{inserted}
-use Rattle.linked_hash_set.specs.Items.{contains, find}
-use Rattle.linked_hash_set.specs.Lends.{ends_inserted}
+use Rattle.linked_hash_set.specs.{Inserts.inserted, Items.contains, Items.find, Lends.ends_inserted}
 use Rattle.linked_hash_set.specs.contracts.set.LinkedHashSet as set
 use Rattle.linked_hash_set.specs.contracts.error.Refused as refused
 use Rattle.linked_hash_set.specs.contracts.set.LinkedHashSet.get_or_insert as f

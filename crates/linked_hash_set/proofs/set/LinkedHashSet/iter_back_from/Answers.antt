@@ -1,6 +1,4 @@
-use Rattle.std.proofs.Common.{ap, ◌∙◌}
-use Rattle.std.specs.Map.{keys_of}
-use Rattle.std.specs.Map.Iter.{deref}
+use Rattle.std.{proofs.Common.ap, proofs.Common.◌∙◌, specs.Map.keys_of, specs.Map.Iter.deref}
 use Rattle.linked_hash_map.proofs.Callers.Iterators.{shows_in_order}
 use Rattle.linked_hash_set.proofs.Kept.{keys_of-from_reverse}
 use Rattle.linked_hash_set.proofs.set.LinkedHashSet.iter_back_from.Goals as goal

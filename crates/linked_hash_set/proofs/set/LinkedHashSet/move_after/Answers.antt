@@ -1,5 +1,4 @@
-use Rattle.std.proofs.Common.{ap, ◌∙◌}
-use Rattle.std.specs.Map.{keys_of}
+use Rattle.std.{proofs.Common.ap, proofs.Common.◌∙◌, specs.Map.keys_of}
 use Rattle.linked_hash_set.proofs.Kept.{keys_of-to_after}
 use Rattle.linked_hash_set.proofs.set.LinkedHashSet.move_after.Goals as goal
 

@@ -1,12 +1,9 @@
 use Rattle.std.proofs.Common.{suc, Bool, List, [], ◌∷◌, Bor, MutBor, refl, sym, ap, subst, ◌∙◌, arith, rules}
-use Rattle.std.specs.Fn.{CalledAt, TakesAt}
-use Rattle.std.specs.List.{FoldsTo}
-use Rattle.std.specs.List.Retain.{IsFiltered}
-use Rattle.std.specs.Map.{keys_of}
-use Rattle.std.specs.Map.Calls.{SomeCallAtPair, CallableOnEachPair, RetainsPairs}
 use Rattle.std.proofs.lemmas.List.{map-append}
-use denote.Param.Members.{Mut}
+use Rattle.std.specs.Map.Calls.{SomeCallAtPair, CallableOnEachPair, RetainsPairs}
+use Rattle.std.specs.{Fn.CalledAt, Fn.TakesAt, List.FoldsTo, List.Retain.IsFiltered, Map.keys_of}
 use Rattle.linked_hash_set.specs.Retains.{SomeCallAt, CallableOnEach}
+use denote.Param.Members.{Mut}
 use Rattle.linked_hash_set.proofs.set.LinkedHashSet.retain.Goals as goal
 
 -- the items that a closure takes and keeps, by what a call of the map's closure says of it

@@ -1,5 +1,4 @@
-use Rattle.std.proofs.Common.{ap, ◌∙◌}
-use Rattle.std.specs.Map.{keys_of}
+use Rattle.std.{proofs.Common.ap, proofs.Common.◌∙◌, specs.Map.keys_of}
 use Rattle.linked_hash_map.proofs.Callers.Permuted.{keys_of-reverse}
 use Rattle.linked_hash_set.proofs.set.LinkedHashSet.reverse.Goals as goal
 

@@ -1,5 +1,4 @@
-use Rattle.std.proofs.Common.{MutBor, rules}
-use Rattle.std.proofs.lemmas.List.Sorted.{IsPermutation-map}
+use Rattle.std.proofs.{Common.MutBor, Common.rules, lemmas.List.Sorted.IsPermutation-map}
 use Rattle.linked_hash_set.proofs.Compared.{callable, compares, by_keys, IsSortedBy-keys_of, IsStableBy-keys_of}
 use Rattle.linked_hash_set.proofs.set.LinkedHashSet.sort_by.Goals as goal
 

@@ -1,7 +1,4 @@
-use Rattle.std.proofs.Common.{rules}
-use Rattle.std.specs.Ordering.{is_lt}
-use Rattle.std.proofs.lemmas.List.Sorted.{IsPermutation-map}
-use Rattle.std.proofs.lemmas.Result.{on_ok_weaker}
+use Rattle.std.{proofs.Common.rules, specs.Ordering.is_lt, proofs.lemmas.List.Sorted.IsPermutation-map, proofs.lemmas.Result.on_ok_weaker}
 use Rattle.linked_hash_set.proofs.Compared.{callable_once, computes, IsSortedBy-keys_of, IsStableBy-keys_of}
 use Rattle.linked_hash_set.proofs.set.LinkedHashSet.sort_by_cached_key.Goals as goal
 

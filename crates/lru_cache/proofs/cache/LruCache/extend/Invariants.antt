@@ -1,6 +1,5 @@
 use Rattle.std.proofs.Common.{◌≡◌, ◌+◌, ◌<◌, ◌≤◌, max}
-use Rattle.lru_cache.specs.Cache.{IsValidCache}
-use Rattle.lru_cache.specs.Extension.{insert_each, IsRoomAfterEach}
+use Rattle.lru_cache.specs.{Cache.IsValidCache, Extension.insert_each, Extension.IsRoomAfterEach}
 use Rattle.lru_cache.proofs.cache.LruCache.extend.Given as goal
 
 abbrev pub invariant-loop-key : goal.invariant-loop-key

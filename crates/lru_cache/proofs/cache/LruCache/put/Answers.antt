@@ -1,6 +1,5 @@
 use Rattle.std.proofs.Common.{◌≡◌, rules, inr}
-use Rattle.lru_cache.specs.Cache.{inserted, IsValidCache}
-use Rattle.lru_cache.proofs.Insertions.{Updates-inserted}
+use Rattle.lru_cache.{specs.Cache.inserted, specs.Cache.IsValidCache, proofs.Insertions.Updates-inserted}
 use Rattle.lru_cache.proofs.cache.LruCache.put.Goals as goal
 
 pub returns-in-Some-clause-others : goal.returns-in-Some-clause-others

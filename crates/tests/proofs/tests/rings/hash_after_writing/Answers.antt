@@ -3,9 +3,7 @@ use mathlib.Core.Option.{Option, none, some}
 use borrow.Follows.Either.{either}
 use Rattle.lhm_ring.proofs.memory.ValuesInOrder.{unvalued-set_held_values, IsHeld-unvalued, AtHeld-unvalued}
 use Rattle.tests.proofs.tests.rings.hash_after_writing.Goals as goal
-use Rattle.lhm_ring.specs.Pointer.{pointer_of}
-use Rattle.lhm_ring.specs.Ring.{State, unvalued}
-use Rattle.lhm_ring.specs.RingAfterLoan.{with_values}
+use Rattle.lhm_ring.specs.{Pointer.pointer_of, Ring.State, Ring.unvalued, RingAfterLoan.with_values}
 
 module _ {K V : Type 0} (s : State (K × V)) where
   same_held : (o : Option (List V)) → map unvalued (either (with_values s) s o).held ≡ map unvalued s.held

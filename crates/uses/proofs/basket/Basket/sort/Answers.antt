@@ -1,6 +1,5 @@
 use Rattle.linked_hash_map.proofs.Callers.Prelude.{rules, ℕ}
-use Rattle.std.proofs.lemmas.List.MinMax.{IsStrictWeakOrder-by_number}
-use Rattle.std.proofs.lemmas.List.Sorted.{IsStrictWeakOrder-flip, answers_always}
+use Rattle.std.proofs.lemmas.List.{MinMax.IsStrictWeakOrder-by_number, Sorted.IsStrictWeakOrder-flip, Sorted.answers_always}
 use Rattle.uses.proofs.basket.Basket.sort.Goals as goal
 
 pub returns-clause-sorted : goal.returns-clause-sorted

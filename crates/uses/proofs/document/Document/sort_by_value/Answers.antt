@@ -1,5 +1,4 @@
-use Rattle.linked_hash_map.proofs.Callers.Prelude.{rules}
-use Rattle.linked_hash_map.proofs.Callers.Sorts.{IsSortedByKey-from_sort_by_pairs}
+use Rattle.linked_hash_map.proofs.Callers.{Prelude.rules, Sorts.IsSortedByKey-from_sort_by_pairs}
 use Rattle.uses.proofs.document.Document.sort_by_value.Goals as goal
 
 pub returns-clause-sorted : goal.returns-clause-sorted

@@ -1,5 +1,4 @@
-use Rattle.linked_hash_map.proofs.Callers.Prelude.{rules}
-use Rattle.linked_hash_map.proofs.Callers.Sorts.{IsNonDecreasingBy-from_sort_by_key_pairs}
+use Rattle.linked_hash_map.proofs.Callers.{Prelude.rules, Sorts.IsNonDecreasingBy-from_sort_by_key_pairs}
 use Rattle.uses.proofs.playlist.Playlist.sort_by_length.Goals as goal
 
 pub returns-clause-sorted : goal.returns-clause-sorted

@@ -1,5 +1,4 @@
-use Rattle.linked_hash_map.proofs.Names.{map-id}
-use Rattle.linked_hash_map.proofs.pairs.ExtendSteps.{ExtendsWith-shown}
+use Rattle.linked_hash_map.proofs.{Names.map-id, pairs.ExtendSteps.ExtendsWith-shown}
 use Rattle.linked_hash_map.proofs.collect.traits.LinkedHashMapExtendTuple2.extend.Goals as goal
 
 pub returns-in-Ok : goal.returns-in-Ok

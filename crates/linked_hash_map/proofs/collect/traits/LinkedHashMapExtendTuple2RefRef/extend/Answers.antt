@@ -1,5 +1,4 @@
-use Rattle.linked_hash_map.proofs.Names.{refl, deref_pair}
-use Rattle.linked_hash_map.proofs.pairs.ExtendSteps.{ExtendsWith-shown}
+use Rattle.linked_hash_map.proofs.{Names.refl, Names.deref_pair, pairs.ExtendSteps.ExtendsWith-shown}
 use Rattle.linked_hash_map.proofs.collect.traits.LinkedHashMapExtendTuple2RefRef.extend.Goals as goal
 
 pub returns-in-Ok : goal.returns-in-Ok

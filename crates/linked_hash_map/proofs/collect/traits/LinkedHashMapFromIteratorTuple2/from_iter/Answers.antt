@@ -1,5 +1,4 @@
-use Rattle.linked_hash_map.proofs.Names.{subst, sym}
-use Rattle.linked_hash_map.proofs.pairs.ExtendSteps.{CollectsInto-ExtendsWith}
+use Rattle.linked_hash_map.proofs.{Names.subst, Names.sym, pairs.ExtendSteps.CollectsInto-ExtendsWith}
 use Rattle.linked_hash_map.proofs.collect.traits.LinkedHashMapFromIteratorTuple2.from_iter.Goals as goal
 
 pub returns : goal.returns

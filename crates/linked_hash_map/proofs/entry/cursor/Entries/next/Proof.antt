@@ -12,8 +12,7 @@ use Rattle.linked_hash_map.proofs.Names.{by, frame, group, join, later, move, pi
 use Rattle.linked_hash_map.proofs.Names.{use2, ‵, ◌$◌, ◌∵◌, ◌⊛◌, addr, and_then, enter, no_more, returns, stop}
 use Rattle.linked_hash_map.proofs.entry.cursor.Entries.next.Statement.{statement}
 use Rattle.linked_hash_map.specs.CursorLends.{lends_map, lends_next_entry, with_cursor_map}
-use Rattle.std.proofs.option.Option.TheLaws.{the_row_laws as option_laws}
-use Rattle.std.specs.HashMap.Lent.{HashMembers}
+use Rattle.std.{proofs.option.Option.TheLaws.the_row_laws as option_laws, specs.HashMap.Lent.HashMembers}
 use contract.Lifetimes.{Lfts}
 use denote.{Laws.Is, Laws.shows, Param.Laws.param_laws}
 use mir.Val.{Val}

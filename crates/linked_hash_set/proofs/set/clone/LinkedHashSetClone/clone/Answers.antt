@@ -1,7 +1,5 @@
 use Rattle.std.proofs.Common.{List, [], ◌∷◌, refl, sym, ap, ◌∙◌, arith}
-use Rattle.std.specs.List.{AllZip}
-use Rattle.std.specs.Map.{keys_of}
-use Rattle.std.proofs.lemmas.Map.Entries.{length-keys_of}
+use Rattle.std.{specs.List.AllZip, specs.Map.keys_of, proofs.lemmas.Map.Entries.length-keys_of}
 use Rattle.linked_hash_map.specs.Clones.{AreClones}
 use Rattle.linked_hash_set.proofs.Kept.{keys_of-insert_each}
 use Rattle.linked_hash_set.proofs.set.clone.LinkedHashSetClone.clone.Goals as goal
