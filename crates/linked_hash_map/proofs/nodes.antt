@@ -12,6 +12,7 @@ pub mod FoundKeys
 pub mod HeldPairs
 pub mod Kept
 pub mod KeyPositions
+pub mod LoansHandedOn
 pub mod LookupCounts
 pub mod MovedBeside
 pub mod MovedNode
