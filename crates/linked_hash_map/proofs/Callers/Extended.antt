@@ -169,8 +169,8 @@ pairs-InsertsUntil_vec {becomes = becomes} {source} vec inserts is =
     (length inserts.given, until.0, until.1)
 
 -- all that is known of an `extend` of a vector: the pairs, and that the capacity stays if there is
--- room for each item; and if it was refused, what went in, what came back, and what is true if there
--- had been room
+-- room for each item; and if it was refused, what went in, what came back, and what is true if
+-- there had been room
 module _ {Z K V : Type 0} {eq : K → K → Bool} {becomes : Vec (K × V) Z → IntoIter (K × V) Z → Type 0}
     {vec : Vec (K × V) Z} {mode : Mode} {old new : List (K × V)} {capacity : ℕ} where
   pub InsertsAll_vec : {grown : ℕ} → IsEquivalence eq

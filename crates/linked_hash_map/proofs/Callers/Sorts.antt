@@ -1,4 +1,5 @@
--- For callers: what ascends after `sort_by` and `sort_by_key`, as std says of a list by `IsNonDecreasingBy-from_sort_by`.
+-- For callers: what ascends after `sort_by` and `sort_by_key`, as std says of a list by
+-- `IsNonDecreasingBy-from_sort_by`.
 use Rattle.std.proofs.Common.{◌≡◌, ℕ, List, Bor, ap}
 use Rattle.std.proofs.lemmas.{Fn.always_returns_same, List.Sorted.ranks_by, List.Sorted.IsNonDecreasingBy-from_sort}
 use Rattle.std.specs.{Cmp.IsTotalOrder, Cmp.nat_cmp_total, Fn.Mut, Fn.Called, List.Sorted.IsNonDecreasingBy, List.Sorted.IsSortedByKey}

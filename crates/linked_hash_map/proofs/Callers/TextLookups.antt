@@ -1,5 +1,5 @@
--- For callers: what each text finds after a change, at `String` keys. The first part of a conclusion
--- shows `grind` the lookup or the call.
+-- For callers: what each text finds after a change, at `String` keys. The first part of a
+-- conclusion shows `grind` the lookup or the call.
 use Rattle.std.proofs.Common.{◌≡◌, ◌⊎◌, inl, inr, ℕ, Bool, List, [], ◌∷◌, Option, Some, None, option_map, cond, true, false, refl, sym, ap}
 use Rattle.std.proofs.{Common.◌∙◌, Common.arith, lemmas.Cmp.nat_list_eq_equiv}
 use Rattle.std.specs.{Cmp.Lexicographic.bytes_decides, Prelude.String, Prelude.string_eq, declared.alloc.Global.Global, Str.bytes_eq}

@@ -105,8 +105,8 @@ module _ {K V : Type 0} {eq : K → K → Bool} (laws : IsEquivalence eq) {keeps
       → to_come_after ≡ left → VisitKeeps keeps start after to_come_after
   VisitKeeps-removed gone removed stays = grind (arith, VisitKeeps-remove, before)
 
--- a step of a visit that only puts pairs behind the others: the key that is next is that of the pair
--- behind the first n
+-- a step of a visit that only puts pairs behind the others: the key that is next is that of the
+-- pair behind the first n
 module _ {K V : Type 0} {eq : K → K → Bool} (laws : IsEquivalence eq) (start behind : List (K × V))
     (n : ℕ) {now : List (K × V)} {to_come left : List K} {k : K} {v : V}
     (now_is : now ≡ start ++ behind) (to_come_is : to_come ≡ drop n (keys_of start))

@@ -1,5 +1,6 @@
--- A function that hands on what a table's own `iter_mut` returns, by a function `of`, as an iterator of another type. By hand,
--- since the borrow checker proves a loan handed on only if the result is handed on as it is.
+-- A function that hands on what a table's own `iter_mut` returns, by a function `of`, as an
+-- iterator of another type. By hand, since the borrow checker proves a loan handed on only if the
+-- result is handed on as it is.
 use Rattle.linked_hash_map.proofs.Names.{[], refl, subst, sym, ◌∷◌, ◌≡◌, List, map, GName, pairs_of, mut_ref_to, mut_Tells, mut_vals}
 use Rattle.linked_hash_map.proofs.Names.{named_lft, param, plain, RattleType, heard, nothing, peeks, proved, calls_at, Ended, Lasts}
 use Rattle.linked_hash_map.proofs.Names.{lasts, framed, triple_of, Goes-spent_ref, ends_at, stay_dropped, fact, fact_i, id⊢, ‵, sep}
@@ -23,7 +24,8 @@ use Rattle.lhm_ring.specs.contracts.table.Table as Table-type
 use Rattle.lhm_ring.specs.contracts.table.Table.iter_mut as g
 use Rattle.linked_hash_map.specs.contracts.iter.iter_mut.IterMut.of as h
 
--- the iterator's type, the name of its loan, and what it has left, as against the pairs that the table's own has left
+-- the iterator's type, the name of its loan, and what it has left by the pairs that the table's own
+-- has left
 module _ {M : Type 1} (𝓤 : Ura M) (𝓛 : Logic 𝓤) (𝓜 : Model 𝓤 𝓛.H) (𝓡 : Running 𝓤 𝓛.H 𝓜) (K V : RattleType) (LK : Laws K)
     (LV : Laws V) (Out : Lfts 3 → RattleType) (loan : (κs : Lfts 3) → (Out κs).Denot → maybe.Option GName)
     (Left : (κs : Lfts 3) → (Out κs).Denot → List (K.Denot × V.Denot) → Type 0) where
@@ -48,7 +50,7 @@ module _ {M : Type 1} (𝓤 : Ura M) (𝓛 : Logic 𝓤) (𝓜 : Model 𝓤 𝓛
     ensures = λ _ r _. sep 𝓤 (sem 𝓛 (lends (loan κs r))) (fact 𝓤 (Left κs r (pairs_of a.0.now.held)));
   }
 
-  -- its code, by the MIR types of the iterator, and of the table behind a reference and not behind one
+  -- its code, by the MIR types of the iterator, and of the table, behind a reference and not
   abbrev function : Ty → Ty → Ty → Callee → Fn
   function o p d of = let n = layout (Nodes-type.the_row (record { mir = erased; lft = [] }) (param 0 K) (param 1 V)) in
       let iter_mut = g.Key.name (layouts (a_type ∷ a_type ∷ []) (K, (V, tt))) in record {
