@@ -115,6 +115,22 @@ pub fn take_out_zeros<K: Eq + Hash + Drop, S: BuildHasher>(
     taken
 }
 
+/// Takes out each pair whose count is zero, and returns by how many the map is shorter then.
+#[tactic(auto, using(linked_hash_map::proofs::Callers::Rules::visits))]
+pub fn shorten<K: Eq + Hash + Drop, S: BuildHasher>(counts: &mut LinkedHashMap<K, u64, S>) -> usize
+    ensures pairs { counts.new.pairs ≡ filter has_count counts.old.pairs }
+    ensures shorter { result + length counts.new.pairs ≡ length counts.old.pairs }
+{
+    let before = counts.len();
+    let entries = counts.visit();
+    while let Some(entry) = entries.next_entry() {
+        if *entry.get() == 0 {
+            entry.remove();
+        }
+    }
+    before - counts.len()
+}
+
 /// Takes out each pair whose value is odd, and doubles the values of the others: a loop over a visit
 /// that writes. They keep their order.
 pub fn double_even<K: Eq + Hash + Drop, S: BuildHasher>(numbers: &mut LinkedHashMap<K, u64, S>)
