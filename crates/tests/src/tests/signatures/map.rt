@@ -14,7 +14,7 @@ use std::process::Abort;
 
 const MAP_LIMIT: usize = LIMIT;
 
-pub fn new<K: Eq + Hash, V>(alloc: Global) -> LinkedHashMap<K, V> {
+pub(super) fn new<K: Eq + Hash, V>(alloc: Global) -> LinkedHashMap<K, V> {
     LinkedHashMap::new(alloc)
 }
 
@@ -58,7 +58,7 @@ fn insert<K: Eq + Hash + Drop, V, S: BuildHasher>(
     map.insert(k, v)
 }
 
-pub fn get<'a, K: Eq + Hash, V, S: BuildHasher>(
+fn get<'a, K: Eq + Hash, V, S: BuildHasher>(
     map: &'a LinkedHashMap<K, V, S>,
     k: &K,
 ) -> Option<&'a V> {
@@ -117,7 +117,7 @@ fn pop_back<K: Eq + Hash, V, S: BuildHasher>(map: &mut LinkedHashMap<K, V, S>) -
     map.pop_back()
 }
 
-pub fn len<K: Eq + Hash, V, S: BuildHasher>(map: &LinkedHashMap<K, V, S>) -> usize {
+pub(super) fn len<K: Eq + Hash, V, S: BuildHasher>(map: &LinkedHashMap<K, V, S>) -> usize {
     map.len()
 }
 
@@ -145,49 +145,57 @@ fn mode<K: Eq + Hash, V, S: BuildHasher>(map: &LinkedHashMap<K, V, S>) -> Mode {
     map.mode()
 }
 
-pub fn entry<K: Eq + Hash + Drop, V, S: BuildHasher>(
+pub(super) fn entry<K: Eq + Hash + Drop, V, S: BuildHasher>(
     map: &mut LinkedHashMap<K, V, S>,
     k: K,
 ) -> Entry<'_, K, V, S> {
     map.entry(k)
 }
 
-pub fn entries<K: Eq + Hash, V, S: BuildHasher>(
+pub(super) fn entries<K: Eq + Hash, V, S: BuildHasher>(
     map: &mut LinkedHashMap<K, V, S>,
 ) -> Entries<'_, K, V, S> {
     map.entries()
 }
 
-pub fn iter<K: Eq + Hash, V, S: BuildHasher>(map: &LinkedHashMap<K, V, S>) -> Iter<'_, K, V> {
+pub(super) fn iter<K: Eq + Hash, V, S: BuildHasher>(
+    map: &LinkedHashMap<K, V, S>,
+) -> Iter<'_, K, V> {
     map.iter()
 }
 
-pub fn iter_mut<K: Eq + Hash, V, S: BuildHasher>(
+pub(super) fn iter_mut<K: Eq + Hash, V, S: BuildHasher>(
     map: &mut LinkedHashMap<K, V, S>,
 ) -> IterMut<'_, K, V> {
     map.iter_mut()
 }
 
-pub fn drain<K: Eq + Hash, V, S: BuildHasher>(map: &mut LinkedHashMap<K, V, S>) -> Drain<'_, K, V> {
+pub(super) fn drain<K: Eq + Hash, V, S: BuildHasher>(
+    map: &mut LinkedHashMap<K, V, S>,
+) -> Drain<'_, K, V> {
     map.drain()
 }
 
-pub fn keys<K: Eq + Hash, V, S: BuildHasher>(map: &LinkedHashMap<K, V, S>) -> Keys<'_, K, V> {
+pub(super) fn keys<K: Eq + Hash, V, S: BuildHasher>(
+    map: &LinkedHashMap<K, V, S>,
+) -> Keys<'_, K, V> {
     map.keys()
 }
 
-pub fn values<K: Eq + Hash, V, S: BuildHasher>(map: &LinkedHashMap<K, V, S>) -> Values<'_, K, V> {
+pub(super) fn values<K: Eq + Hash, V, S: BuildHasher>(
+    map: &LinkedHashMap<K, V, S>,
+) -> Values<'_, K, V> {
     map.values()
 }
 
 // The error of `Clone` stands in the place of `NoRoom`.
-pub fn clone<K: Eq + Hash + Clone, V: Clone, S: BuildHasher + Clone>(
+pub(super) fn clone<K: Eq + Hash + Clone, V: Clone, S: BuildHasher + Clone>(
     map: &LinkedHashMap<K, V, S>,
 ) -> Result<LinkedHashMap<K, V, S>, AllocError> {
     map.clone()
 }
 
-pub fn extend<K: Eq + Hash + Drop, V: Drop, S: BuildHasher>(
+pub(super) fn extend<K: Eq + Hash + Drop, V: Drop, S: BuildHasher>(
     map: &mut LinkedHashMap<K, V, S>,
     items: Vec<(K, V)>,
 ) -> Result<(), Refused<K, V>> {
@@ -271,7 +279,7 @@ fn drop_map<K: Eq + Hash + Drop, V: Drop, S: BuildHasher + Drop>(map: LinkedHash
     drop(map)
 }
 
-pub fn into_iter<K: Eq + Hash + Drop, V: Drop, S: BuildHasher + Drop>(
+pub(super) fn into_iter<K: Eq + Hash + Drop, V: Drop, S: BuildHasher + Drop>(
     map: LinkedHashMap<K, V, S>,
 ) -> IntoIter<K, V> {
     map.into_iter()
