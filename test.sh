@@ -3,10 +3,11 @@
 #
 # usage: ./test.sh [--unproved]
 #
-# First comes all that needs no proof, in minutes: with --unproved that is all. Then `rt ci`, the
-# gate, and the wrong bodies that the prover tries. The parts are the scripts in scripts/, each of
-# which runs by itself too, and their self-tests. A part fails too if no line of it has its words. The
-# reference is left out if there is no rustdoc that was tried.
+# First comes all that needs no proof, in minutes, with the self-tests last: with --unproved that is
+# all. Then `rt ci`, the gate, and the wrong bodies that the prover tries. The parts are the scripts
+# in scripts/, each of which runs by itself too, and their self-tests: at most as many at once as
+# scripts/lanes says. A part fails too if no line of it has its words. The reference is left out if
+# there is no rustdoc that was tried.
 # RT_CI is empty, or `--anew` for a `rt ci` that keeps what passed. The last line is that of the gate,
 # or says what failed, or that nothing is proved yet.
 set -u
@@ -20,7 +21,11 @@ case "$*:${RT_CI:-}" in
 esac
 work=$(mktemp -d) || exit 2
 trap 'rm -rf "$work"' EXIT
-mkdir "$work/built"
+mkfifo "$work/places"
+exec 3<>"$work/places"
+lanes=$(scripts/lanes)
+# A line for each part that may run at once.
+yes | head -n "$lanes" >&3
 passed=0 failed=
 
 # Runs a part, with what it says in a file, and notes how it ended and what it took.
@@ -33,6 +38,15 @@ run_part() (
     times >"$work/$name.times"
     echo "$(date +%H:%M) $name ends"
 )
+
+# Waits for a place, and runs a part beside the others.
+begin_part() {
+    read -r place <&3
+    {
+        run_part "$@"
+        echo "$place" >&3
+    } &
+}
 
 # Prints how many seconds of a processor a part took, with all that it ran.
 seconds_of() {
@@ -78,36 +92,38 @@ run_part clauses scripts/clauses
 show_part clauses ': each as it is kept$'
 run_part calls scripts/model-tests --calls
 show_part calls ' public calls, each with the lines that make it$'
-run_part documents-self-test scripts/documents --self-test
-show_part documents-self-test '^documents finds each planted fault$'
-run_part clauses-self-test scripts/clauses --self-test
-show_part clauses-self-test '^clauses finds each of [1-9][0-9]* changes$'
-run_part model-tests-self-test scripts/model-tests --self-test
-show_part model-tests-self-test "^model-tests: [1-9][0-9]* $ends"
-run_part refused-growths-self-test scripts/refused-growths --self-test
-show_part refused-growths-self-test "^refused-growths: [1-9][0-9]* $ends"
-run_part programs-self-test scripts/programs --self-test
-show_part programs-self-test "^programs: [1-9][0-9]* $ends"
 end_if_failed
 
-run_part refused-growths scripts/refused-growths &
-run_part doc-tests scripts/doc-tests &
-run_part doc-tests-self-test scripts/doc-tests --self-test &
-run_part reference scripts/reference --self-test &
-run_part vendor-self-test scripts/vendor --self-test &
-run_part builds scripts/programs --build "$work/built"
+begin_part builds scripts/programs --build "$work/built"
+builds=$!
+begin_part doc-tests scripts/doc-tests
+begin_part refused-growths scripts/refused-growths
+begin_part reference scripts/reference --self-test
+begin_part vendor-self-test scripts/vendor --self-test
+wait $builds
 show_part builds '^programs: 4 built with no proof$'
-run_part model-tests scripts/model-tests --from "$work/built"
+begin_part model-tests scripts/model-tests --from "$work/built"
+begin_part programs scripts/programs --from "$work/built"
+wait
 show_part model-tests '^model-tests: [1-9].* requests refused: as the model has it$'
-run_part programs scripts/programs --from "$work/built"
 words=': 32 rows .* 5 inputs .* 40 res.* 200000 insertions.* 200002 lines .* 16384 lines'
 show_part programs "$words .* 3 pipes .* 3 arguments .* 44 workloads .* 131072 pairs"
-wait
 show_part refused-growths '^refused-growths: [1-9].* growths; leaks were looked for in each$'
 show_part doc-tests '^doc-tests: [2-9][0-9][0-9] examples of [1-9][0-9]* files passed, '
-show_part doc-tests-self-test '^doc-tests finds each of [1-9][0-9]* planted faults$'
 show_part reference "^reference: [1-9][0-9]* $ends"
 show_part vendor-self-test "^vendor: [1-9][0-9]* $ends"
+end_if_failed
+
+for name in documents clauses doc-tests model-tests refused-growths programs; do
+    begin_part "$name-self-test" "scripts/$name" --self-test
+done
+wait
+show_part documents-self-test '^documents finds each planted fault$'
+show_part clauses-self-test '^clauses finds each of [1-9][0-9]* changes$'
+show_part doc-tests-self-test '^doc-tests finds each of [1-9][0-9]* planted faults$'
+show_part model-tests-self-test "^model-tests: [1-9][0-9]* $ends"
+show_part refused-growths-self-test "^refused-growths: [1-9][0-9]* $ends"
+show_part programs-self-test "^programs: [1-9][0-9]* $ends"
 end_if_failed
 show_table
 echo "$passed passed, 0 failed; nothing is proved yet"
@@ -116,7 +132,7 @@ echo "$passed passed, 0 failed; nothing is proved yet"
 run_part wrong-bodies-self-test nice scripts/wrong-bodies --self-test &
 echo "$(date +%H:%M) gate begins"
 (
-    RT_JOBS=${RT_JOBS:-$(scripts/lanes)} rt ci ${RT_CI:-} 2>&1
+    RT_JOBS=${RT_JOBS:-$lanes} rt ci ${RT_CI:-} 2>&1
     echo $? >"$work/gate.status"
     times >"$work/gate.times"
 ) | tee "$work/gate"

@@ -30,6 +30,12 @@ def run(words, **how):
     return subprocess.run(words, check=False, **{**outputs, "text": True, "errors": "replace", **how})
 
 
+def version_of(changelog):
+    """Returns the newest version, and `and unreleased` behind it while the part above has entries."""
+    above, version = re.match(r"(?s)(.*?)^## \[(\d[^\]]*)\]", changelog, re.M).groups()
+    return version + (" and unreleased" if re.search(r"(?m)^- ", above) else "")
+
+
 def uses_of(text):
     """Returns what each crate uses, as the lines of a crates.txt have it."""
     return {name: used.split() for name, used in re.findall(r"(?m)^(\w+):([^#\n]*)", text)}

@@ -1,7 +1,7 @@
 /* Finds lines that collide: the hashes of the default build hasher, whose seed is fixed, are the
  * same modulo 65,536, so each of the lines is in one bucket of a set of up to 65,536.
  *
- *     cc -O2 -o /tmp/find_lines find_lines.c && /tmp/find_lines > lines.txt
+ *     cc -O2 -o find_lines find_lines.c && ./find_lines > lines.txt
  *
  * It writes 16,384 lines of eight small letters, the first ones in the order of the alphabet. */
 #include <stdint.h>

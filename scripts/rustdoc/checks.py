@@ -9,6 +9,8 @@ import re
 import runpy
 import urllib.parse
 
+from pages import sentence_of
+
 CLAUSES = runpy.run_path(str(pathlib.Path(__file__).resolve().parent.parent / "clauses"))
 read_clauses, name_of_owner = CLAUSES["read_clauses"], CLAUSES["name_of_owner"]
 HREF = re.compile(r'<a [^>]*?href="?([^" >]*)')
@@ -96,7 +98,16 @@ def faults_of_links(pages, files, counts):
                 yield f"{path}: {link}: leads nowhere"
 
 
-def faults_of(root, libraries, site):
+def faults_of_libraries(root, libraries, pages, version):
+    """Yields which libraries are not on the first page, with what each is, or have no version."""
+    for it in libraries:
+        if f"{it}: {sentence_of(root, it)}" not in flat(pages["index.html"]):
+            yield f"index.html: {it}: not there"
+        if version not in flat(pages[f"{it}/index.html"]):
+            yield f"{it}/index.html: no version {version}"
+
+
+def faults_of(root, libraries, site, version):
     """Returns what is wrong on a site, and how much was looked at."""
     crates, counts = [root / "crates" / it for it in libraries], collections.Counter()
     pages = {str(it.relative_to(site)): it.read_text(encoding="utf-8") for it in site.rglob("*.html")}
@@ -107,4 +118,5 @@ def faults_of(root, libraries, site):
     pages.update({it.name: it.read_text(encoding="utf-8").replace('\\"', '"').replace("\\n", " ") for it in site.glob("type.impl/**/*.js")})
     files = {*pages, *(str(it.relative_to(site)) for it in site.rglob("*"))}
     faults = [*faults_of_calls(texts, pages, counts), *faults_of_lemmas(lemmas, pages, names, counts), *faults_of_links(pages, files, counts)]
+    faults += faults_of_libraries(root, libraries, pages, version)
     return faults, f"{', '.join(f'{number} {it}' for it, number in counts.items())} of {' '.join(libraries)}"

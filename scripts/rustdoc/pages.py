@@ -1,8 +1,9 @@
-"""The pages of definitions and lemmas, links to them, and what is put right on pages."""
+"""The pages of definitions, lemmas and documents, links to them, and what is put right on pages."""
 
 import functools
 import html
 import json
+import posixpath
 import re
 
 # The head of an item, above its proof, or of a module; and an import that passes names on.
@@ -18,7 +19,7 @@ WORD = re.compile(
 )
 # What is put right: what is said of Rust alone, a derive, an error without its path, and sources.
 DYN = re.compile(r'<h2 id="dyn-compatibility".*?(?=<h2 )|<h3><a href="#dyn-compatibility">.*?</h3>', re.S)
-RUST = re.compile(r'(<title>[^<]* - |<meta name="description" content="[^"]*\bthe )Rust\b')
+RUST = re.compile(r'(<title>[^<]* - |<meta name="description" content="[^"]*\bfor the )Rust\b')
 DERIVED = re.compile(r'(<h3 class=\\?"code-header\\?">)(?:(?!</h3>).)*(</h3><div class=\\?"docblock\\?"><p>A value is <code>Drop</code> if the type of each field)')
 IO_ERROR = re.compile(r"(?<= for )Error(?=</h3>)|(?<=-&gt; )Error(?=</h4>)")
 CODE = re.compile(r"<code>.*</code>(?=</pre></div></section>)", re.S)
@@ -97,13 +98,59 @@ def modules_of(library, definitions, folder=""):
     return text
 
 
-def put_right(root, site):
-    """Changes the links from contracts, derives, what is Rust's alone, and sources on pages."""
+def documents_of(root, libraries):
+    """Returns the documents of a repository, and the page of the site that each is. Where there are
+    only copies of the libraries, README.md and docs/ are of something else."""
+    names = [f"crates/{it}/README.md" for it in libraries]
+    if not (root / "crates" / "linked_hash_map" / "VENDORED").is_file():
+        names = ["README.md", *sorted(f"docs/{it.name}" for it in (root / "docs").glob("*.md")), *names]
+    pages = {it: it.removeprefix("crates/").replace(".md", ".html") for it in names}
+    return {document: page for document, page in pages.items() if (root / document).is_file()}
+
+
+def sentence_of(root, library):
+    """Returns the first sentence of the documentation of a library."""
+    text = (root / "crates" / library / "src" / "lib.rt").read_text(encoding="utf-8")
+    return re.match(r".*?\.(?= |$)", " ".join(re.findall(r"(?m)^//! (.*)", text)))[0].replace("`", "")
+
+
+def first_page(text, root, documents):
+    """Returns the first page of the site with a sentence behind each library, and the documents."""
+    text = re.sub(r'href="(\w+)/index.html">\1</a>', lambda it: f"{it[0]}: {html.escape(sentence_of(root, it[1]))}", text)
+    links = "".join(f'<li><a href="{page}">{it}</a></li>' for it, page in documents.items())
+    return re.sub(r"</ul>(?=</section>)", f'</ul><h2>Documents</h2><ul class="all-items">{links}</ul>' if links else "</ul>", text)
+
+
+def link_documents(text, path, site, documents):
+    """Returns a page with links to documents. What leads from one to no page is text alone."""
+    document = next((it for it, page in documents.items() if page == path), None)
+
+    def link(target, shown):
+        name, sign, anchor = posixpath.normpath(target).partition("#")
+        page = documents.get(name) or re.sub(r"^crates/(\w+)/src/(.*)", r"src/\1/\2.html", name)
+        to = posixpath.relpath(page, posixpath.dirname(path) or ".") + sign + anchor
+        return f'<a href="{to}">{shown}</a>' if (site / page).is_file() else shown
+
+    def link_of_document(it):
+        target = document + it[1] if it[1][0] == "#" else posixpath.join(posixpath.dirname(document), it[1])
+        return it[0] if it[1].startswith("http") else link(target, it[2])
+
+    if document:
+        return re.sub(r'(?s)<a href="([^"]*)">(.*?)</a>', link_of_document, text)
+    # The README.md of a library is its own.
+    own = f"crates/{path.partition('/')[0]}/"
+    return re.sub(r"<code>((docs/)?[A-Z]+\.md)</code>", lambda it: link(it[1] if it[2] else own + it[1], it[0]), text)
+
+
+def put_right(root, site, documents):
+    """Changes the links from contracts, derives, what is Rust's alone, and sources on pages, and
+    the links of documents."""
     for page in [*site.rglob("*.html"), *site.glob("type.impl/**/*.js")]:
         path, text = str(page.relative_to(site)), page.read_text(encoding="utf-8")
         # A script of impls has links from the root of the site.
         text = re.sub(r'(?<=href=")site:|(?<=href=\\")site:', "../" * path.count("/") if page.suffix == ".html" else "", text)
         text = DERIVED.sub(r"\1#[derive(Drop)]\2", RUST.sub(r"\1Rattle", IO_ERROR.sub("io::Error", DYN.sub("", text))))
+        text = link_documents(first_page(text, root, documents) if path == "index.html" else text, path, site, documents)
         source = re.match(r"src/(\w+)/(.*\.(rt|antt))\.html", path)
         if source:
             file = root / "crates" / source[1] / ("src" if source[3] == "rt" else "") / source[2]
