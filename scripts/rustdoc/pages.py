@@ -24,6 +24,7 @@ DERIVED = re.compile(r'(<h3 class=\\?"code-header\\?">)(?:(?!</h3>).)*(</h3><div
 IO_ERROR = re.compile(r"(?<= for )Error(?=</h3>)|(?<=-&gt; )Error(?=</h4>)")
 CODE = re.compile(r"<code>.*</code>(?=</pre></div></section>)", re.S)
 COMMENT = re.compile(r"(?://|-- ).*")
+NAMED = re.compile(r"<code>((?:docs/)?[A-Z]+\.md)</code>")
 # Returns a text as a literal of Rust, on one line.
 quoted = functools.partial(json.dumps, ensure_ascii=False)
 
@@ -101,11 +102,33 @@ def modules_of(library, definitions, folder=""):
 def documents_of(root, libraries):
     """Returns the documents of a repository, and the page of the site that each is. Where there are
     only copies of the libraries, README.md and docs/ are of something else."""
-    names = [f"crates/{it}/README.md" for it in libraries]
+    names = {f"crates/{it}/README.md": f"{it}/" for it in libraries}
     if not (root / "crates" / "linked_hash_map" / "VENDORED").is_file():
-        names = ["README.md", *sorted(f"docs/{it.name}" for it in (root / "docs").glob("*.md")), *names]
-    pages = {it: it.removeprefix("crates/").replace(".md", ".html") for it in names}
-    return {document: page for document, page in pages.items() if (root / document).is_file()}
+        docs = sorted((root / "docs").glob("*.md"))
+        names = {"README.md": "", **{f"docs/{it.name}": f"{it.stem}/" for it in docs}, **names}
+    return {it: f"documents/{name}index.html" for it, name in names.items() if (root / it).is_file()}
+
+
+def library_of(root, documents, libraries):
+    """Returns the text of the library whose modules stand for the documents. What leads from one to
+    no page of the site is text alone."""
+    def link(document, it):
+        name, sign, anchor = it[2].partition("#")
+        name = posixpath.normpath(posixpath.join(posixpath.dirname(document), name)) if name else document
+        source = re.match(r"crates/(\w+)/src/(.*\.rt)", name)
+        if name in documents:
+            return f"{it[1]}(site:{documents[name]}{sign}{anchor})"
+        if source and source[1] in libraries:
+            return f"{it[1]}(site:src/{source[1]}/{source[2]}.html)"
+        return f"{it[1]}(site:{name})" if it[1][0] == "!" else it[0] if it[2].startswith("http") else it[1][1:-1]
+
+    text = "#![doc(html_no_source)]"
+    for document, page in documents.items():
+        said = (root / document).read_text(encoding="utf-8")
+        said = quoted(re.sub(r"(!?\[[^\]]*\])\(([^()\s]*)\)", functools.partial(link, document), said))
+        name = page.split("/")[1]
+        text += f"\n#![doc = {said}]" if name == "index.html" else f"\n#[doc = {said}] pub mod {name} {{}}"
+    return text + "\n"
 
 
 def sentence_of(root, library):
@@ -116,30 +139,16 @@ def sentence_of(root, library):
 
 def first_page(text, root, documents):
     """Returns the first page of the site with a sentence behind each library, and the documents."""
-    text = re.sub(r'href="(\w+)/index.html">\1</a>', lambda it: f"{it[0]}: {html.escape(sentence_of(root, it[1]))}", text)
+    link = re.compile(r'href="(?!documents/)(\w+)/index.html">\1</a>')
+    text = link.sub(lambda it: f"{it[0]}: {html.escape(sentence_of(root, it[1]))}", text)
     links = "".join(f'<li><a href="{page}">{it}</a></li>' for it, page in documents.items())
     return re.sub(r"</ul>(?=</section>)", f'</ul><h2>Documents</h2><ul class="all-items">{links}</ul>' if links else "</ul>", text)
 
 
-def link_documents(text, path, site, documents):
-    """Returns a page with links to documents. What leads from one to no page is text alone."""
-    document = next((it for it, page in documents.items() if page == path), None)
-
-    def link(target, shown):
-        name, sign, anchor = posixpath.normpath(target).partition("#")
-        page = documents.get(name) or re.sub(r"^crates/(\w+)/src/(.*)", r"src/\1/\2.html", name)
-        to = posixpath.relpath(page, posixpath.dirname(path) or ".") + sign + anchor
-        return f'<a href="{to}">{shown}</a>' if (site / page).is_file() else shown
-
-    def link_of_document(it):
-        target = document + it[1] if it[1][0] == "#" else posixpath.join(posixpath.dirname(document), it[1])
-        return it[0] if it[1].startswith("http") else link(target, it[2])
-
-    if document:
-        return re.sub(r'(?s)<a href="([^"]*)">(.*?)</a>', link_of_document, text)
-    # The README.md of a library is its own.
-    own = f"crates/{path.partition('/')[0]}/"
-    return re.sub(r"<code>((docs/)?[A-Z]+\.md)</code>", lambda it: link(it[1] if it[2] else own + it[1], it[0]), text)
+def link_to(it, path, documents):
+    """Returns the name of a document, on a page, as a link. README.md is that of the page's library."""
+    page = documents.get(it[1] if "/" in it[1] else f"crates/{path.partition('/')[0]}/{it[1]}")
+    return f'<a href="site:{page}">{it[0]}</a>' if page else it[0]
 
 
 def put_right(root, site, documents):
@@ -147,10 +156,13 @@ def put_right(root, site, documents):
     the links of documents."""
     for page in [*site.rglob("*.html"), *site.glob("type.impl/**/*.js")]:
         path, text = str(page.relative_to(site)), page.read_text(encoding="utf-8")
+        if path == "index.html":
+            text = first_page(text, root, documents)
+        elif not path.startswith(("documents/", "src/")):
+            text = NAMED.sub(lambda it, path=path: link_to(it, path, documents), text)
         # A script of impls has links from the root of the site.
-        text = re.sub(r'(?<=href=")site:|(?<=href=\\")site:', "../" * path.count("/") if page.suffix == ".html" else "", text)
+        text = re.sub(r'(?<=href=")site:|(?<=src=")site:|(?<=href=\\")site:', "../" * path.count("/") if page.suffix == ".html" else "", text)
         text = DERIVED.sub(r"\1#[derive(Drop)]\2", RUST.sub(r"\1Rattle", IO_ERROR.sub("io::Error", DYN.sub("", text))))
-        text = link_documents(first_page(text, root, documents) if path == "index.html" else text, path, site, documents)
         source = re.match(r"src/(\w+)/(.*\.(rt|antt))\.html", path)
         if source:
             file = root / "crates" / source[1] / ("src" if source[3] == "rt" else "") / source[2]
