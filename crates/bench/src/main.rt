@@ -11,6 +11,7 @@
 ghost use Rattle.std.specs.Prelude.{◌≡◌, ◌<◌, ◌*◌, ◌/◌, ◌^◌};
 
 mod arguments;
+mod calls;
 mod changes;
 mod documents;
 mod maps;

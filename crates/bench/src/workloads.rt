@@ -1,6 +1,7 @@
 //! The workloads: what is done with a map, a cache or a set of `n` pairs or items, once.
 ghost use Rattle.std.specs.Prelude.{◌<◌};
 
+use super::calls::other_calls;
 use super::changes::{
     Counts, empty_refill, entry_new, entry_present, extend, retain_half, with_capacity,
 };
@@ -109,6 +110,8 @@ pub enum Workload {
     DocumentRead,
     /// Drops the documents.
     DocumentDrop,
+    /// Makes each call that no other workload makes, on a new map, cache and table of sessions.
+    OtherCalls,
 }
 
 /// What the workloads are done on. All maps, caches and sets except one are empty.
@@ -192,7 +195,7 @@ impl Held {
 
 impl Workload {
     /// All workloads, in the order in which they are timed, each with the word that names it.
-    pub const ALL: [(Workload, &'static str); 44] = [
+    pub const ALL: [(Workload, &'static str); 45] = [
         (Workload::SmallFill, "small_fill"),
         (Workload::SmallLookup, "small_lookup"),
         (Workload::SmallIterate, "small_iterate"),
@@ -237,6 +240,7 @@ impl Workload {
         (Workload::DocumentBuild, "document_build"),
         (Workload::DocumentRead, "document_read"),
         (Workload::DocumentDrop, "document_drop"),
+        (Workload::OtherCalls, "other_calls"),
     ];
 
     /// Tells whether it is done with many small maps, and not with one map, cache or set.
@@ -408,6 +412,7 @@ impl Workload {
                 held.documents = Vec::new(alloc);
                 Ok(0)
             }
+            Workload::OtherCalls => other_calls(alloc, n),
         }
     }
 }

@@ -8,13 +8,13 @@
 //! collide.
 #![tactic(auto)]
 
-ghost use Rattle.std.specs.Prelude.{◌≡◌, ◌≢◌, ◌⊎◌, ◌++◌, ◌↔◌, OnOk, IfErr, IfSome};
+ghost use Rattle.std.specs.Prelude.{◌≡◌, ◌≢◌, ◌⊎◌, ◌++◌, ◌↔◌, ℕ, List, OnOk, IfErr, IfSome};
 ghost use Rattle.std.specs.Io.KnownBytes.{Appends, Keeps};
 ghost use Rattle.dedup_lines.specs.Arguments.{AreWrong, AskHelp, SayKeep, texts};
 ghost use Rattle.dedup_lines.specs.Help.{help_text};
 ghost use Rattle.dedup_lines.specs.Kept.{kept_lines};
 ghost use Rattle.dedup_lines.specs.Lines.{lines_of, text_of};
-ghost use Rattle.dedup_lines.specs.Stop.{run_status, StopsOutput, Tells, TellsRun, TellsStatus};
+ghost use Rattle.dedup_lines.specs.Stop.{run_status, StopsOutput, Tells, TellsRun};
 ghost use Rattle.dedup_lines.specs.declared.keep.Keep.{Keep};
 
 #[cfg(test)]
@@ -102,7 +102,7 @@ fn report<F: Write>(faults: &mut F, written: &Result<(), Stop>, word: &[u8]) -> 
 
 /// Writes the lines of `input` that the arguments say to `output`, or the help if they ask for it.
 /// The lines are hashed with a seed of `random`, and the output does not depend on it. Returns the
-/// exit status of the program, and how telling a fault went.
+/// exit status of the program, why the run stopped if it did, and how telling that went.
 ///
 /// The status is 0 for a run, 2 if the arguments are wrong, 3 if memory is refused, and 4 if
 /// reading, writing or the seed fails. A status other than 0 is explained by a line on `faults`,
@@ -114,7 +114,7 @@ pub fn run<N: RandomSource, R: BufRead, W: Write, F: Write>(
     input: &mut R,
     output: &mut W,
     faults: &mut F,
-) -> (u8, io::Result<()>)
+) -> (u8, Result<(), Stop>, io::Result<()>)
     ensures statuses { (result.0 ≡ 0) ⊎ (result.0 ≡ 2) ⊎ (result.0 ≡ 3) ⊎ (result.0 ≡ 4) }
 
     // What is written is the help, if the arguments ask for it, or the lines of the input that they
@@ -126,15 +126,19 @@ pub fn run<N: RandomSource, R: BufRead, W: Write, F: Write>(
         × Appends (W.contents output.old) (W.contents output.new)
         (text_of (kept_lines keep (lines_of bytes))))) }
     ensures no_fault { result.0 ≡ 0 → Keeps (F.contents faults.old) (F.contents faults.new) }
-    ensures explained { result.0 ≢ 0 → OnOk result.1
-        (TellsStatus result.0 (F.contents faults.old) (F.contents faults.new)) }
+
+    // The status and what is told on `faults` are those of why the run stopped.
+    ensures status { result.0 ≡ run_status result.1 }
+    ensures told { (word : List ℕ) × OnOk result.2
+        (TellsRun result.1 word (F.contents faults.old) (F.contents faults.new)) }
 
     // The status is 2 exactly if the arguments are wrong, and then nothing is written.
     ensures wrong { (result.0 ≡ 2) ↔ AreWrong (texts arguments.now) }
     ensures silent { result.0 ≡ 2 → Keeps (W.contents output.old) (W.contents output.new) }
 {
     let written = write_asked(alloc, random, arguments, input, output);
-    report(faults, &written, wrong_word(arguments))
+    let (status, told) = report(faults, &written, wrong_word(arguments));
+    (status, written, told)
 }
 
 /// Writes lines of `input` as [`run`] does, and appends what it writes to `output` and `faults`.
@@ -178,6 +182,15 @@ fn arguments(rt: &HostRuntime) -> Result<Vec<String>, Stop> {
     }
 }
 
+/// Drops the writer of a run. It writes what its buffer still has, unless a write has failed.
+fn drop_output<W: Write + Drop>(output: BufWriter<W>, written: &Result<(), Stop>) {
+    match written {
+        Err(Stop::OutputFailed(_)) => drop(output.into_parts()),
+        Err(Stop::PipeClosed) => drop(output.into_parts()),
+        _ => drop(output),
+    }
+}
+
 /// Runs from standard input to standard output, each with a buffer.
 fn run_buffered(rt: &HostRuntime) -> Result<u8, Stop> {
     let arguments = arguments(rt)?;
@@ -187,17 +200,16 @@ fn run_buffered(rt: &HostRuntime) -> Result<u8, Stop> {
     let Ok(mut output) = BufWriter::with_capacity(rt.alloc(), BUFFER_LEN, rt.stdout()) else {
         return Err(Stop::OutOfMemory);
     };
-    Ok(
-        run(
-            rt.alloc(),
-            rt,
-            arguments.as_slice(),
-            &mut input,
-            &mut output,
-            &mut rt.stderr(),
-        )
-        .0,
-    )
+    let (status, written, _told) = run(
+        rt.alloc(),
+        rt,
+        arguments.as_slice(),
+        &mut input,
+        &mut output,
+        &mut rt.stderr(),
+    );
+    drop_output(output, &written);
+    Ok(status)
 }
 
 fn main(rt: HostRuntime) -> ExitCode {

@@ -28,10 +28,6 @@ Tells (InputFailed kind) word old new = TellsCause (codes "dedup: input failed: 
 Tells (OutputFailed kind) word old new = TellsCause (codes "dedup: output failed: ") old new
 Tells PipeClosed word old new = Keeps old new
 
--- a status other than 0 is told as one of the stops that have it
-abbrev pub TellsStatus : ℕ → Option (List ℕ) → Option (List ℕ) → Type 0
-TellsStatus status old new = (stop : Stop) × (word : List ℕ) × (status_of stop ≡ status) × Tells stop word old new
-
 -- why the output of right arguments is not written
 abbrev pub StopsOutput : Stop → Type 0
 StopsOutput WrongArguments = ⊥

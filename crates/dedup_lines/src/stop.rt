@@ -104,6 +104,14 @@ fn write_parts<F: Write>(faults: &mut F, start: &[u8], middle: &[u8], end: &[u8]
     faults.write_all(end)
 }
 
+/// Writes the text of a cause. An error that has no kind is that of a closed stream, or rare.
+fn write_cause<W: Write>(output: &mut W, kind: ErrorKind) -> io::Result<()> {
+    match kind {
+        ErrorKind::Uncategorized => output.write_all(b"not open, or an unknown error"),
+        _ => write!(output, "{kind}"),
+    }
+}
+
 /// The room for the text of a cause.
 const CAUSE_LEN: usize = 64;
 
@@ -114,7 +122,7 @@ fn tell_cause<F: Write>(faults: &mut F, start: &[u8], kind: ErrorKind) -> io::Re
 {
     let mut buffer = [0; CAUSE_LEN];
     let mut rest = buffer.as_mut_slice();
-    write!(rest, "{kind}")?;
+    write_cause(&mut rest, kind)?;
     let len = CAUSE_LEN.saturating_sub(rest.len());
     write_parts(faults, start, &buffer[..len], b"\n")
 }

@@ -5,9 +5,9 @@ use super::support::checks::{check_eq, given};
 use super::support::numbers::{NUMBERS, Numbers};
 use super::support::streams::{NEVER, Output, Source};
 use super::support::words::arguments;
-use crate::run;
+use crate::{drop_output, run};
 use std::alloc::Global;
-use std::io::{BufReader, ErrorKind};
+use std::io::{BufReader, BufWriter, ErrorKind};
 use std::process::Abort;
 
 /// The input of each run. A reader with a buffer of four bytes gives it in three reads, and the
@@ -30,7 +30,7 @@ fn check_read(
     let mut input = given!(rt; BufReader::with_capacity(alloc, BUFFER_LEN, source));
     let mut output = Output::new(alloc, NEVER, ErrorKind::Other);
     let mut faults = Output::new(alloc, NEVER, ErrorKind::Other);
-    let (status, _told) = run(
+    let (status, _stop, _told) = run(
         alloc,
         &NUMBERS,
         words.as_slice(),
@@ -55,6 +55,17 @@ fn reads_that_fail(rt: HostRuntime) {
         &[],
         (2, ErrorKind::IsADirectory),
         (4, b"a\nb\n", b"dedup: input failed: is a directory\n"),
+    );
+    check_read(
+        &rt,
+        alloc,
+        &[],
+        (1, ErrorKind::Uncategorized),
+        (
+            4,
+            b"",
+            b"dedup: input failed: not open, or an unknown error\n",
+        ),
     );
     check_read(
         &rt,
@@ -137,7 +148,7 @@ fn check_write(
     let mut input = INPUT;
     let mut output = Output::new(alloc, failing.0, failing.1);
     let mut faults = Output::new(alloc, NEVER, ErrorKind::Other);
-    let (status, _told) = run(
+    let (status, _stop, _told) = run(
         alloc,
         &NUMBERS,
         words.as_slice(),
@@ -210,13 +221,38 @@ fn help_that_fails(rt: HostRuntime) {
     );
 }
 
+/// Checks what a writer gets from a buffer with room for all lines, and in how many calls, after a
+/// run whose reader or writer fails at a call.
+fn check_drop(rt: &impl Abort, alloc: Global, read: usize, write: usize, wanted: (&[u8], usize)) {
+    let source = Source::new(INPUT, read, ErrorKind::Other);
+    let mut input = given!(rt; BufReader::with_capacity(alloc, BUFFER_LEN, source));
+    let mut output = Output::new(alloc, write, ErrorKind::Other);
+    let mut buffer = given!(rt; BufWriter::with_capacity(alloc, INPUT.len(), &mut output));
+    let mut faults = Output::new(alloc, NEVER, ErrorKind::Other);
+    let (_status, written, _told) = run(alloc, &NUMBERS, &[], &mut input, &mut buffer, &mut faults);
+    drop_output(buffer, &written);
+    check_eq!(rt; (output.bytes.as_slice(), output.calls.made), wanted);
+}
+
+#[test]
+fn nothing_is_written_after_a_write_that_failed(rt: HostRuntime) {
+    let alloc = rt.alloc();
+    check_drop(&rt, alloc, NEVER, 1, (b"", 1));
+    check_drop(&rt, alloc, NEVER, 2, (b"a\nb\nbc\n", 2));
+}
+
+#[test]
+fn lines_before_a_failed_read_are_written(rt: HostRuntime) {
+    check_drop(&rt, rt.alloc(), 2, NEVER, (b"a\nb\n", 1));
+}
+
 /// Checks that a writer of faults that fails changes no status.
 fn check_fault(rt: &impl Abort, alloc: Global, fails_at: usize) {
     let words = given!(rt; arguments(alloc, &["--first"]));
     let mut input = INPUT;
     let mut output = Output::new(alloc, NEVER, ErrorKind::Other);
     let mut faults = Output::new(alloc, fails_at, ErrorKind::Other);
-    let (status, _told) = run(
+    let (status, _stop, _told) = run(
         alloc,
         &NUMBERS,
         words.as_slice(),
@@ -244,11 +280,14 @@ fn check_seed(
     wanted: (u8, &[u8], &[u8]),
 ) {
     let words = given!(rt; arguments(alloc, words));
-    let random = Numbers { fails: Some(kind) };
+    let random = Numbers {
+        byte: 7,
+        fails: Some(kind),
+    };
     let mut input = INPUT;
     let mut output = Output::new(alloc, NEVER, ErrorKind::Other);
     let mut faults = Output::new(alloc, NEVER, ErrorKind::Other);
-    let (status, _told) = run(
+    let (status, _stop, _told) = run(
         alloc,
         &random,
         words.as_slice(),

@@ -35,7 +35,7 @@ fn check_run(rt: &(impl Abort + Print), alloc: Global) {
     let mut input = b"a\nb\na\n".as_slice();
     let mut output = Sink::new();
     let mut faults = Sink::new();
-    let (status, _told) = run(alloc, &NUMBERS, &[], &mut input, &mut output, &mut faults);
+    let (status, _stop, _told) = run(alloc, &NUMBERS, &[], &mut input, &mut output, &mut faults);
     let given = status == 0 && output.bytes() == b"a\nb\n".as_slice();
     check_eq!(rt;
         (status, output.bytes(), given || is_refused(status, output.bytes(), faults.bytes())),

@@ -1,13 +1,14 @@
 //! Worked examples.
 
-use super::support::checks::{check_eq, given};
+use super::support::checks::{check, check_eq, given};
 use super::support::hashers::BuildCounted;
-use super::support::numbers::NUMBERS;
+use super::support::numbers::{NUMBERS, Numbers};
 use super::support::words::arguments;
-use crate::{run_in_memory, write_output};
+use crate::{run_in_memory, seed, write_output};
 use dedup_lines::keep::Keep;
 use std::alloc::Global;
 use std::cell::Cell;
+use std::hash::BuildHasher;
 use std::process::Abort;
 
 /// Arguments, an input, and the output of the run.
@@ -99,6 +100,17 @@ fn lines_are_hashed_once_and_new_lines_twice(rt: HostRuntime) {
     check_hashers(&rt, rt.alloc(), Keep::First, 7);
     check_hashers(&rt, rt.alloc(), Keep::Last, 7);
     check_hashers(&rt, rt.alloc(), Keep::Window(1), 9);
+}
+
+/// Returns the hash of a line by a seed of random bytes that are all alike.
+fn hash_by(rt: &impl Abort, byte: u8) -> u64 {
+    let random = Numbers { byte, fails: None };
+    given!(rt; seed(&random)).hash_one(b"a".as_slice())
+}
+
+#[test]
+fn seeds_hash_a_line_differently(rt: HostRuntime) {
+    check!(rt; hash_by(&rt, 7) != hash_by(&rt, 8));
 }
 
 /// What `--help` prints.
