@@ -5,9 +5,12 @@ import iterators
 import maps
 from entries import show_refused
 from linked import Linked, Refused
-from memory import Memory
 from maps import write_lent
+from memory import NUMBER, Memory
 from shown import debug_text, equation, list_pairs, pair_text, some, truth
+
+# The bytes of an answer of `replay`.
+ANSWER = 96
 
 
 class Cache:
@@ -193,6 +196,7 @@ def debug(call, cache):
 
 def new(call, _cache):
     """Inserts two numbers into a new cache of one pair. Only the first call is counted."""
+    call.effects.pair = 2 * NUMBER
     if not Memory().has_room(0, call.effects):
         call.show("refused")
     call.show(f"{{{call.number()}: 1}}")
@@ -266,7 +270,7 @@ def replay(call, cache):
         if name in COMMANDS:
             forms, answer = COMMANDS[name]
             commands.append((answer, [readers[form]() for form in forms.split()]))
-    if commands and not call.effects.ask():
+    if commands and not call.effects.ask(ANSWER * len(commands)):
         call.show("refused")
         return
     call.show(f"{len(commands)}/{len(commands)}")

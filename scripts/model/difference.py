@@ -59,9 +59,9 @@ def count_text(wanted):
     return f"{wanted[0]}..{wanted[1]}" if isinstance(wanted, tuple) else wanted
 
 
-def differences(expected, printed, requests):
-    """Returns what differs in a line, each as what is expected and what is found. `requests` is how
-    many requests for memory were seen, if they were counted."""
+def differences(expected, printed, record):
+    """Returns what differs in a line, each as what is expected and what is found. `record` is None
+    without the C library."""
     text, effects = taken_apart(printed)
     found = [] if is_text(expected.text, text) else [(expected.text, text)]
     for name in sorted(expected.effects.keys() | effects.keys()):
@@ -69,8 +69,9 @@ def differences(expected, printed, requests):
         if not is_count(wanted, effects.get(name)):
             shown = effects.get(name, "none")
             found.append((f"{name} {count_text(wanted or 'none')}", f"{name} {shown}"))
-    if requests is not None and requests != expected.requests:
-        found.append((f"requests {expected.requests}", f"requests {requests}"))
+    if record and (record.requests, record.size) != (expected.requests, expected.size):
+        found.append((f"requests {expected.requests}, of {expected.size} bytes",
+                      f"requests {record.requests}, of {record.size} bytes"))
     return found
 
 
@@ -136,7 +137,7 @@ def difference_of_call(machine, line, printed, record):
         return None if printed == line else (line, printed)
     if printed == "unknown":
         return "a call", printed
-    found = differences(wanted, printed, requests)
+    found = differences(wanted, printed, record)
     return found[0] if found else difference_of_order(printed)
 
 

@@ -38,6 +38,9 @@ OF_ONE_BUCKET, MOST_OF_ONE_BUCKET = ("same", "high"), 200
 # How long a run is, and how many there are of few keys and of many in a batch.
 LENGTH = 100
 RUNS_OF_FEW, RUNS_OF_MANY = 20, 10
+# How many calls a run of many keys makes at its end after which little is left, or which print all,
+# and how many numbered pairs are put in before each.
+RARE_OF_MANY, FILL_OF_MANY = 8, 1000
 
 # What is refused, in the batches in turn: each request with a chance, and those behind it too.
 CHANCES = ((0, False), (1 / 8, False), (1 / 50, True), (1 / 2, False),
@@ -73,7 +76,7 @@ FILLING = {
                  "extend_trait", "from_iter", "collect"),
     "cache_fill": ("insert", "put", "extend"),
     "set_fill": ("insert", "insert_if_absent", "replace", "get_or_insert", "get_or_insert_with",
-                 "extend", "from_iter"),
+                 "extend", "from_iter", "collect"),
 }
 
 
@@ -163,7 +166,16 @@ class Drawing(calls.Drawing):
                 lines.insert(2, f"{self.kind.prefix}extend a {taken}")
             # No clone of the next run is refused.
             lines.append(f"{REFUSE_CLONE} a 0")
-        return lines
+        return lines + (list(self.rare_lines()) if self.keys == MANY else [])
+
+    def rare_lines(self):
+        """Draws calls after which little is left, or which print all, each of another name and
+        behind a line that fills what it acts on."""
+        forms = next(forms for name, _, forms in self.kind.own_calls if name == "fill").split()
+        table = self.rare_calls + self.allowed(self.kind.long_calls)
+        for name, _, of_call in self.rng.sample(table, min(RARE_OF_MANY, len(table))):
+            yield f"{self.kind.prefix}fill a {FILL_OF_MANY} {self.word(forms[1])}"
+            yield self.line(name, "a", of_call)
 
 
 def names():

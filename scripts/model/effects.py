@@ -1,5 +1,6 @@
 """What a call does besides its answer, and the closures that it calls and drops."""
 
+from memory import CHUNK, NODE
 from objects import MASK
 
 # The effects in the order in which a line shows them.
@@ -12,24 +13,32 @@ ORDER = (
 
 class Effects:
     """The counts of a line. `requests` counts what asks for memory, of which those of the numbers
-    `refused` are refused."""
+    `refused` are refused, and `size` sums the bytes of all. A stored pair has the bytes `pair`."""
 
-    __slots__ = ("counts", "drops", "least", "most", "requests", "refused", "clones")
+    __slots__ = ("counts", "drops", "least", "most", "sorted", "requests", "size", "pair", "refused", "clones")
 
-    def __init__(self, refused=(), clones=None):
+    def __init__(self, refused=(), clones=None, pair=0):
         self.counts = {}
+        self.pair = pair
         # How many clones are given until one is refused, in a list of one, or 0 for all.
         self.clones = clones or [0]
         self.drops = {}
         # Between these two are the comparisons of keys.
         self.least = self.most = 0
-        self.requests = 0
+        # Between these two are those of values by a sort of a list.
+        self.sorted = 0, 0
+        self.requests = self.size = 0
         self.refused = refused
 
-    def ask(self):
-        """Asks for memory, and returns whether it is given."""
+    def ask(self, size):
+        """Asks for so many bytes, and returns whether they are given."""
         self.requests += 1
+        self.size += size
         return self.requests not in self.refused
+
+    def ask_for_nodes(self, count):
+        """Asks for a chunk of nodes, and returns whether it is given."""
+        return self.ask(CHUNK + (NODE + self.pair) * count)
 
     def add(self, name, count=1):
         """Counts an effect."""
@@ -74,6 +83,10 @@ class Effects:
         self.least += least
         self.most += most
 
+    def compare_values(self, least, most):
+        """Counts comparisons of values, between two numbers."""
+        self.sorted = least, most
+
     def is_cloned(self, name):
         """Counts a clone, and returns whether it is given."""
         self.add(name)
@@ -103,9 +116,9 @@ class Effects:
         found = {name: str(count) for name, count in self.counts.items() if count}
         for name, (count, total) in self.drops.items():
             found[name] = f"{count}:{total & MASK}"
-        if self.most:
-            is_exact = self.least == self.most
-            found["eq-keys"] = str(self.most) if is_exact else (self.least, self.most)
+        for name, least, most in (("eq-keys", self.least, self.most), ("cmp-values", *self.sorted)):
+            if most:
+                found[name] = str(most) if least == most else (least, most)
         return found
 
 

@@ -1,5 +1,6 @@
 """Lines of a map that go by an entry."""
 
+from memory import NUMBER
 from objects import Value
 from shown import equation, pair_text
 
@@ -204,7 +205,7 @@ def or_insert_with_box(call, map_):
     key, value = call.key(), call.value()
     call.effects.drop_closure(call.serial())
     if key.folded not in map_.pairs:
-        call.effects.ask()
+        call.effects.ask(NUMBER)
     insert_if_vacant(call, map_, key, value)
 
 

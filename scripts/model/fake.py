@@ -9,7 +9,7 @@ from listed import List
 from program import NO_REFUSALS, Ran, Record
 
 # The chapters of the self-test. Most faults are planted at the line AT, or at FOUND, whose key
-# shares its hash with three others.
+# shares its hash with three others. FORGETS forgets what owns memory.
 STDIN = """# first
 with_hasher a letter
 insert a x 1
@@ -17,13 +17,16 @@ insert a y 2
 insert a xylem 3
 insert a xerox 4
 get a xerox
+drain a f forget
 # second
 extend b k1 1 k2 2 k3 3
 remove b k2
 len b
 entry b k1 r 0
+# third
+set_insert a x
 """
-AT, FOUND = "remove b k2", "get a xerox"
+AT, FOUND, FORGETS, OF_THIRD = "remove b k2", "get a xerox", "drain a f forget", "set_insert a x"
 CALLS_TXT = """# A comment.
 OccupiedEntry::remove: entry r
 Refused::fmt: none: a text
@@ -47,19 +50,20 @@ def printed_of(wanted):
 
 class Fake:
     """The driver. A fault takes each line with what is printed of it and its record, and returns
-    what is there in their place, or None. The line AT keeps `blocks`, and `status` tells how it
-    ended."""
+    what is there in their place, or None. `blocks` has how many blocks some lines keep, and `status`
+    tells how it ended. `ran` has what was run."""
 
-    def __init__(self, fault=None, blocks=0, status=""):
-        self.fault, self.blocks, self.status = fault, blocks, status
+    def __init__(self, fault=None, blocks=None, status=""):
+        self.fault, self.blocks, self.status, self.ran = fault, blocks or {}, status, []
 
     def run(self, lines, refusals=NO_REFUSALS):
         """Runs some lines, and returns what the driver did. Only named requests are refused."""
+        self.ran.append(lines)
         machine, at, rows, live = model.Model(), dict(refusals.at), [], 1
         for number, line in enumerate(lines, 1):
             wanted = machine.run(line, None, at.get(number))
-            live += self.blocks * (line == AT)
-            record = Record(wanted.requests, (at[number],) if number in at else (), 1, live)
+            live += self.blocks.get(line, 0)
+            record = Record(wanted.requests, wanted.size, (at[number],) if number in at else (), 1, live)
             row = printed_of(wanted), record
             rows.append(self.fault(line, *row) if self.fault else row)
         printed = [it for it, _ in rows if it is not None]
@@ -128,6 +132,10 @@ FAULTS = (
     ("a line with no mark", 1, {"fault": has_no_mark}),
     ("a line of which nothing is printed", 1, {"fault": prints_nothing}),
     ("a line that is no call", 1, {"fault": prints(".+", "unknown")}),
-    ("memory that is kept", 1, {"blocks": 1}),
+    ("other bytes", 1, {"fault": records(size=1)}),
+    ("memory that is kept", 1, {"blocks": {AT: 1}}),
+    ("memory that is given back too often", 1, {"blocks": {AT: -1}}),
+    ("as much given back too often behind", 1, {"blocks": {AT: 1, OF_THIRD: -1}}),
+    ("memory that is forgotten", 0, {"blocks": {FORGETS: 1}}),
     ("another exit status", 1, {"status": "it ended with status 3"}),
 )

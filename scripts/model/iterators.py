@@ -158,8 +158,7 @@ def iterate_to_the_end(call, pairs, show, drop=None):
 def clone_rest(call, steps):
     """Returns a clone of an iterator that owns its pairs, or `None` if it is refused."""
     effects = call.effects
-    # The nodes of the clone: a chunk.
-    if steps.left and not effects.ask():
+    if steps.left and not effects.ask_for_nodes(steps.left):
         return None
     copies = []
     for pair in steps.rest():

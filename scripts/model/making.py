@@ -5,9 +5,12 @@ import entries
 import fills
 from effects import Effects
 from linked import Linked, Pair, collected, is_equal
-from memory import Memory, error_of, made
+from memory import NUMBER, Memory, error_of, made
 from objects import default_hasher
 from shown import debug_text, pair_text, show_error, truth
+
+# The bytes of a key and a value of the driver that are copied.
+COPIED = 32
 
 
 def with_hasher(call, _map):
@@ -137,7 +140,7 @@ def making(make):
 
 def new(call, _map):
     """Inserts a number with itself into a new map of numbers."""
-    number = call.number()
+    number, call.effects.pair = call.number(), 2 * NUMBER
     if Memory().has_room(0, call.effects):
         call.show(f"{{{number}: {number}}}")
     else:
@@ -148,6 +151,7 @@ def new(call, _map):
 def new_with_capacity(call, _map):
     """Does so with a map of a capacity."""
     wanted, number = call.number(), call.number()
+    call.effects.pair = 2 * NUMBER
     memory = made(wanted, call.effects)
     if memory is None:
         show_error(call, error_of(wanted))
@@ -171,7 +175,7 @@ def copied(map_):
 def extend_by_refs(call, map_):
     """Extends a copy by references to the pairs of a copy of the other map. What is `Copy` is not
     dropped."""
-    copy = copied(map_)
+    copy, call.effects.pair = copied(map_), COPIED
     for pair in call.other.pairs.values():
         found = copy.find(pair.key, call.effects)
         if found is not None:

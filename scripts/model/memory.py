@@ -1,4 +1,5 @@
-"""The memory of a map: how many requests each change of its capacity makes, and in which order.
+"""The memory of a map: how many requests each change of its capacity makes, in which order, and for
+how many bytes.
 
 The capacity is the number of pairs that fit. There are as many buckets as the capacity, rounded up
 to a power of two, or none at 0. Each bucket has a head and a word of the filter, and one block has
@@ -24,9 +25,13 @@ LIMIT = 2**59
 FIRST_AHEAD, ENOUGH = 2, 16
 # It has no more nodes beyond those that are missing.
 MOST_AHEAD = 64
-# How many buckets the first block has room for, and the bytes of a bucket: a head and a word.
+# How many buckets the first block has room for.
 FIRST_ROOM = 4
-BUCKET = 10
+# The bytes of a bucket: a head and a word. A node has so many besides its pair, and so has a chunk
+# besides its nodes.
+BUCKET, NODE, CHUNK = 10, 32, 16
+# The bytes of a key and of a value of the driver, of a number, and of a position in a map.
+KEY, VALUE, NUMBER, POSITION = 48, 40, 8, 8
 # A request for so many bytes is refused on any machine.
 NO_MACHINE = 2**47
 
@@ -38,7 +43,8 @@ def buckets_for(capacity):
 
 def is_given_buckets(count, effects):
     """Asks for a block of buckets, and returns whether it is given."""
-    return count == 0 or effects.ask() and count * BUCKET < NO_MACHINE
+    size = max(count, FIRST_ROOM) * BUCKET
+    return count == 0 or effects.ask(size) and size < NO_MACHINE
 
 
 class Memory:
@@ -56,7 +62,7 @@ class Memory:
 
     def is_given_chunk(self, nodes, effects):
         """Asks for a chunk, and returns whether it is given."""
-        if not effects.ask():
+        if not effects.ask_for_nodes(nodes):
             return False
         self.nodes += nodes
         self.chunks += 1

@@ -13,7 +13,8 @@ import sessions
 import sets
 from effects import Effects
 from linked import Linked
-from objects import Hasher, Key, Value, text_of
+from memory import KEY, NUMBER, VALUE
+from objects import MASK, Hasher, Key, Value, text_of
 from shown import list_items, list_pairs
 
 
@@ -22,15 +23,17 @@ class Unexpected(Exception):
 
 
 class Expected:
-    """What has to come out of a line: its text up to the effects, these, and how many requests for
-    memory it makes. A number of the text that is only known to lie between two is `<LOW..HIGH>`."""
+    """What has to come out of a line: its text up to the effects, these, how many requests for memory
+    it makes, and the sum of their bytes. A number of the text that is only known to lie between two
+    is `<LOW..HIGH>`."""
 
-    __slots__ = ("text", "effects", "requests")
+    __slots__ = ("text", "effects", "requests", "size")
 
-    def __init__(self, text, effects=None, requests=0):
+    def __init__(self, text, effects=None, requests=0, size=0):
         self.text = text
         self.effects = effects or {}
         self.requests = requests
+        self.size = size & MASK
 
 
 class Values:
@@ -144,10 +147,12 @@ class Call:
 
 
 class Kind:
-    """The two objects of a kind, which lines call `a` and `b`, and the texts of their lists."""
+    """The two objects of a kind, which lines call `a` and `b`, the bytes of what each stores, and the
+    texts of their lists."""
 
-    def __init__(self, lines, reading, make, tail):
+    def __init__(self, lines, reading, make, tail, pair):
         self.lines = lines
+        self.pair = pair
         self.reading = reading
         self.tail = tail
         self.both = [make(), make()]
@@ -160,6 +165,7 @@ class Kind:
             return None
         at = 1 if call.word() == "b" else 0
         call.other = self.both[1 - at]
+        call.effects.pair = self.pair
         fresh = line(call, self.both[at])
         if fresh is not None:
             self.both[at] = fresh
@@ -189,10 +195,11 @@ class Model:
 
     def begin(self):
         """Makes all anew, as at the begin of a chapter."""
-        self.maps = Kind(maps.LINES, maps.READING, Linked, map_tail)
-        self.caches = Kind(caches.LINES, caches.READING, caches.Cache, caches.tail)
-        self.sets = Kind(sets.LINES, sets.READING, Linked, set_tail)
-        self.sessions = Kind(sessions.LINES, sessions.READING, sessions.Sessions, sessions.tail)
+        self.maps = Kind(maps.LINES, maps.READING, Linked, map_tail, KEY + VALUE)
+        self.caches = Kind(caches.LINES, caches.READING, caches.Cache, caches.tail, KEY + VALUE)
+        self.sets = Kind(sets.LINES, sets.READING, Linked, set_tail, KEY)
+        self.sessions = Kind(sessions.LINES, sessions.READING, sessions.Sessions, sessions.tail,
+                             2 * NUMBER + VALUE)
         self.kinds = {"cache_": self.caches, "set_": self.sets, "sessions_": self.sessions,
                       "": self.maps}
 
@@ -222,4 +229,4 @@ class Model:
         made = call.effects.requests
         if refused and made < max(refused):
             raise Unexpected(f"request {max(refused)} was refused, and {made} are made")
-        return Expected(text, call.effects.table(), made)
+        return Expected(text, call.effects.table(), made, call.effects.size)

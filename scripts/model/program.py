@@ -20,9 +20,9 @@ SECONDS = 300
 Ran = collections.namedtuple("Ran", "lines records live fault")
 
 
-# What a line did: how many requests it made, the numbers of those refused, its windows, and how many
-# blocks of memory there are at its end.
-Record = collections.namedtuple("Record", "requests refused windows live")
+# What a line did: how many requests it made, for how many bytes, the numbers of those refused, its
+# windows, and how many blocks of memory there are at its end.
+Record = collections.namedtuple("Record", "requests size refused windows live")
 # The headings behind the lines. At the first everything is made anew, and the program ends at the
 # other.
 END = ["# end", "# end"]
@@ -72,8 +72,8 @@ def read_log(text):
         if line == "end":
             is_ended = True
         else:
-            windows, live, requests, *refused = map(int, line.split())
-            records.append(Record(requests, tuple(refused), windows, live))
+            windows, live, requests, size, *refused = map(int, line.split())
+            records.append(Record(requests, size, tuple(refused), windows, live))
     return records, is_ended
 
 

@@ -3,6 +3,9 @@
 from linked import Refused
 from shown import WHOLE, list_text, mix_pairs, pair_text, show_pair
 
+# The bytes of a reply.
+REPLY = 120
+
 # The commands by the words of a line: what is made of the words behind each.
 FORMS = {
     "insert": "key value", "write": "key value", "refresh": "key", "remove": "key", "popfront": "",
@@ -79,7 +82,7 @@ def clear(map_, effects):
 
 def drain(map_, effects):
     """The list is asked for first. Returns the pairs."""
-    if map_.pairs and not effects.ask():
+    if map_.pairs and not effects.ask(effects.pair * len(map_)):
         return "NoRoom"
     return map_.take_all()
 
@@ -170,7 +173,7 @@ def show_drained(call, map_, pairs):
 def replay(call, map_):
     """The replies are asked for first. If that is refused, no command is run."""
     commands = read(call)
-    if commands and not call.effects.ask():
+    if commands and not call.effects.ask(REPLY * len(commands)):
         call.show("refused")
         return
     call.show(f"{len(commands)}/{len(commands)}")

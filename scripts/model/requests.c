@@ -5,7 +5,8 @@
  *
  * REQUESTS_LOG=FILE      what is written: for each line how many windows it had, how many blocks
  *                        there were at its end, asked for in a window or not, how many requests it
- *                        made, and the numbers of those refused; and `end` at the end
+ *                        made, for how many bytes in all, modulo 2^64, and the numbers of those
+ *                        refused; and `end` at the end
  * REFUSE_AT=LINE:N,..    refuses the Nth request of a line
  * REFUSE_CHANCE=0.05     refuses each with this chance, drawn from REFUSE_SEED=N
  * REFUSE_NEXT_TOO=1      refuses each behind a refused one in a line with a chance of 1/2
@@ -47,7 +48,7 @@ static int refuses_next_too;
 static int log_file = -1, is_open;
 static u64 line, live;
 /* Of the line. */
-static u64 requests, windows, refused[MOST_OF_LINE], refused_count;
+static u64 requests, bytes_asked, windows, refused[MOST_OF_LINE], refused_count;
 /* Of the requests for few bytes. */
 static u64 most_bytes, small_requests, held, most_held;
 
@@ -55,12 +56,12 @@ static u64 most_bytes, small_requests, held, most_held;
 static void end_line(void)
 {
     if (line) {
-        dprintf(log_file, "%lu %lu %lu", windows, live, requests);
+        dprintf(log_file, "%lu %lu %lu %lu", windows, live, requests, bytes_asked);
         for (u64 place = 0; place < refused_count; place++)
             dprintf(log_file, " %lu", refused[place]);
         dprintf(log_file, "\n");
     }
-    requests = windows = refused_count = 0;
+    requests = bytes_asked = windows = refused_count = 0;
 }
 
 /* Takes note of a mark, and returns whether the number of bytes is one. */
@@ -89,10 +90,11 @@ static int is_named(void)
     return 0;
 }
 
-/* Counts a request, and returns whether it is refused. */
-static int is_refused(void)
+/* Counts a request for so many bytes, and returns whether it is refused. */
+static int is_refused(size_t bytes)
 {
     requests++;
+    bytes_asked += bytes;
     int drawn = chance > 0 && drand48() < chance;
     if (refuses_next_too && refused_count)
         drawn |= drand48() < 0.5;
@@ -118,14 +120,14 @@ static void *block_of(Head *head, size_t bytes)
 
 void *malloc(size_t bytes)
 {
-    if (!is_mark(bytes) && is_open && is_refused())
+    if (!is_mark(bytes) && is_open && is_refused(bytes))
         return 0;
     return block_of(__libc_malloc(sizeof(Head) + bytes), bytes);
 }
 
 void *calloc(size_t count, size_t bytes)
 {
-    if (is_open && is_refused())
+    if (is_open && is_refused(count * bytes))
         return 0;
     return block_of(__libc_calloc(1, sizeof(Head) + count * bytes), count * bytes);
 }
@@ -134,7 +136,7 @@ void *realloc(void *block, size_t bytes)
 {
     if (!block)
         return malloc(bytes);
-    if (!is_mark(bytes) && is_open && is_refused())
+    if (!is_mark(bytes) && is_open && is_refused(bytes))
         return 0;
     Head was = *((Head *)block - 1);
     Head *head = __libc_realloc((Head *)block - 1, sizeof(Head) + bytes);

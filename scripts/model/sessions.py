@@ -71,6 +71,12 @@ class Sessions:
             return True
         return self.memory.reserve(1, len(self.sessions), effects) is None
 
+    def is_given_list(self, id_, gone, effects):
+        """Asks for a list of the sessions that go, or else makes room."""
+        if gone:
+            return effects.ask(effects.pair * len(gone))
+        return self.is_given(id_, gone, effects)
+
 
 def show_session(session):
     return f" {session.id}:{session.weight}:{session.payload.number}"
@@ -112,7 +118,7 @@ def is_put(call, table, session):
     if session.weight > table.limit:
         return False
     gone = table.leaving(session.id, session.weight)
-    given = call.effects.ask() if gone else table.is_given(session.id, gone, call.effects)
+    given = table.is_given_list(session.id, gone, call.effects)
     if given:
         table.put(session, gone)
     return given
@@ -125,7 +131,7 @@ def put(call, table):
         show_refused(call, "TooHeavy", session)
         return
     gone = table.leaving(session.id, session.weight)
-    given = call.effects.ask() if gone else table.is_given(session.id, gone, call.effects)
+    given = table.is_given_list(session.id, gone, call.effects)
     if not given:
         show_refused(call, "NoRoom", session)
         return

@@ -7,7 +7,7 @@ import making
 import maps
 import sorts
 from linked import Linked, Refused
-from memory import Memory, error_of, made
+from memory import NUMBER, Memory, error_of, made
 from objects import UNIT, default_hasher, fold
 from shown import items_text, show_error, some, truth
 
@@ -210,6 +210,7 @@ def extend_refs(call, set_):
 
 
 def new(call, _set):
+    call.effects.pair = NUMBER
     insert_twice(call, Memory(), call.number())
 
 
@@ -224,6 +225,7 @@ def insert_twice(call, memory, number):
 def new_with_capacity(call, _set):
     """Does so with a set of a capacity, which at 0 is then raised."""
     wanted, number = call.number(), call.number()
+    call.effects.pair = NUMBER
     memory = made(wanted, call.effects)
     if memory is None:
         show_error(call, error_of(wanted))
@@ -369,8 +371,8 @@ def is_disjoint(call, set_):
 def fill(call, set_):
     """Puts in numbered items by a call. Returns a set that takes its place, if one is made."""
     count, name = call.number(), call.word()
-    if name == "from_iter":
-        return fill_new(call, count)
+    if name in ("from_iter", "collect"):
+        return fill_new(call, count, drops=name == "collect")
     if name == "extend":
         fills.fill_at_once(call, count, lambda items: set_.extend(units(items), call.effects),
                            call.numbered_key)
@@ -381,15 +383,19 @@ def fill(call, set_):
     return None
 
 
-def fill_new(call, count):
-    """Returns a new set of the items, or `None`."""
+def fill_new(call, count, drops):
+    """Returns a new set of the items, or `None`. An item that is refused may be dropped."""
     fresh = []
 
     def take_in(items):
         fresh.append(collected(items, call.effects))
         return fresh[0] if isinstance(fresh[0], Refused) else None
     fills.fill_at_once(call, count, take_in, call.numbered_key)
-    return None if isinstance(fresh[0], Refused) else fresh[0]
+    if not isinstance(fresh[0], Refused):
+        return fresh[0]
+    if drops:
+        call.effects.drop_key(fresh[0].key)
+    return None
 
 
 def refused_texts(call, _set):

@@ -6,12 +6,10 @@ import subprocess
 import tempfile
 
 from effects import Effects
-from memory import BUCKET, FIRST_ROOM, Memory
+from memory import BUCKET, CHUNK, FIRST_ROOM, NODE, NUMBER, Memory
 from program import SMALL_SIZES
 
 PAGE = "docs/speed.txt"
-# The bytes of a node, and of the head of a chunk.
-NODE, HEAD = 48, 16
 # How many maps bench fills, and the most bytes of a request for one of them.
 MAPS, MOST_BYTES = 4_000, 4_096
 
@@ -29,11 +27,12 @@ def counted(bench, library, pairs):
 
 def by_model(pairs):
     """Returns what such a map asks for by the rules of memory.py."""
-    effects, memory = Effects(), Memory()
+    effects, memory = Effects(pair=2 * NUMBER), Memory()
     for length in range(pairs):
         memory.has_room(length, effects)
     buckets = max(memory.buckets, FIRST_ROOM)
-    return effects.requests, BUCKET * buckets + NODE * memory.nodes + HEAD * memory.chunks
+    node = NODE + effects.pair
+    return effects.requests, BUCKET * buckets + node * memory.nodes + CHUNK * memory.chunks
 
 
 def rows_of(page):

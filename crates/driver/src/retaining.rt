@@ -3,15 +3,17 @@
 use super::Map;
 use super::call::Call;
 use super::counts::{Shared, share};
+use super::key::Key;
 use super::value::Value;
 use std::cell::Cell;
 
-/// How often a closure was called, and how many keys and values the line had dropped at the last
-/// call.
+/// How often a closure was called, how many keys and values the line had dropped at the last call,
+/// and a number that depends on the order of the keys that it was called with.
 #[derive(Drop)]
 pub struct Calls {
     calls: Cell<u64>,
     dropped: Cell<u64>,
+    order: Cell<u64>,
     counts: Shared,
 }
 
@@ -21,6 +23,7 @@ impl Calls {
         Calls {
             calls: Cell::new(0),
             dropped: Cell::new(0),
+            order: Cell::new(0),
             counts: share(counts),
         }
     }
@@ -34,9 +37,21 @@ impl Calls {
         self.calls.get()
     }
 
-    /// Appends both numbers.
+    /// Notes a call with a key.
+    pub fn note_key(&self, key: &Key) {
+        self.note();
+        self.order.set(self.order.get().wrapping_mul(31).wrapping_add(key.number()));
+    }
+
+    /// Appends the first two numbers.
     pub fn show(&self, call: &Call) {
         call.show_two(&self.calls.get(), &self.dropped.get());
+    }
+
+    /// Appends all numbers.
+    pub fn show_with_order(&self, call: &Call) {
+        self.show(call);
+        call.show(&self.order.get());
     }
 }
 

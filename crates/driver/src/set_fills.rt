@@ -5,6 +5,7 @@ use super::counts::{Shared, share};
 use super::fills::{Fillable, fill_one_by_one};
 use super::key::Key;
 use super::sets::Set;
+use std::alloc::AllocError;
 use std::cell::Cell;
 use std::ops::Range;
 
@@ -62,19 +63,18 @@ impl Fillable for Set {
 /// Takes in the items of the numbers below a count by the call of this name, and returns whether
 /// there was memory.
 fn take_in(name: &str, items: NumberedItems<'_>, call: &Call, set: &mut Set) -> bool {
-    if name == "extend" {
-        call.is_given(set.extend(items))
-    } else {
-        call.is_stored(set, Set::from_iter(call.alloc, items))
+    match name {
+        "extend" => call.is_given(set.extend(items)),
+        "collect" => {
+            let made: Result<Set, AllocError> = items.collect(call.alloc);
+            call.is_stored(set, made)
+        }
+        _ => call.is_stored(set, Set::from_iter(call.alloc, items)),
     }
 }
 
-/// Fills a set by a call, up to a refusal.
-pub fn fill(set: &mut Set, call: &Call) {
-    let (count, name) = (call.number(), call.word());
-    if name != "extend" && name != "from_iter" {
-        return fill_one_by_one(set, count, name, call);
-    }
+/// Takes in the items of the numbers below a count, by one call.
+fn fill_at_once(set: &mut Set, count: u64, name: &str, call: &Call) {
     let last = Cell::new(0);
     let items = NumberedItems {
         numbers: 0..count,
@@ -83,4 +83,13 @@ pub fn fill(set: &mut Set, call: &Call) {
     };
     let is_given = take_in(name, items, call, set);
     call.show_filled(is_given, count, last.get());
+}
+
+/// Fills a set by a call, up to a refusal.
+pub fn fill(set: &mut Set, call: &Call) {
+    let (count, name) = (call.number(), call.word());
+    match name {
+        "extend" | "collect" | "from_iter" => fill_at_once(set, count, name, call),
+        _ => fill_one_by_one(set, count, name, call),
+    }
 }

@@ -28,10 +28,10 @@ fn sort_by_cached_key(set: &mut Set, call: &Call) {
     let noted = &calls;
     call.show_refusal(set.sort_by_cached_key(move |item| {
         guard.hold();
-        noted.note();
+        noted.note_key(item);
         item.number() % 7
     }));
-    calls.show(call);
+    calls.show_with_order(call);
 }
 
 /// Sorts a set of the same items that are compared as they are, and appends it.

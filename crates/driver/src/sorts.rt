@@ -42,17 +42,17 @@ fn sort_by_key(map: &mut Map, call: &Call) {
     calls.show(call);
 }
 
-/// Sorts by the numbers of the values, each taken once.
+/// Sorts by copies of the values, each made once, which the call drops.
 fn sort_by_cached_key(map: &mut Map, call: &Call) {
     let guard = call.guard();
     let calls = Calls::new(call.counts());
     let noted = &calls;
-    call.show_refusal(map.sort_by_cached_key(move |_key, value| {
+    call.show_refusal(map.sort_by_cached_key(move |key, value| {
         guard.hold();
-        noted.note();
-        value.number()
+        noted.note_key(key);
+        value.copy()
     }));
-    calls.show(call);
+    calls.show_with_order(call);
 }
 
 /// Sorts a map of the same pairs whose keys are compared as they are, and appends it.

@@ -15,7 +15,7 @@ use std::fmt::{Debug, Display};
 use std::mem;
 
 /// How many bytes of the output are reserved at the begin of a line.
-const LONGEST_LINE: usize = 65_536;
+const LONGEST_LINE: usize = 262_144;
 
 /// Closes the window, and appends a text.
 macro_rules! append {
