@@ -85,7 +85,7 @@ def show_errors(call, text):
 
 def show_other_errors(call):
     """Shows those of the errors that have no pair."""
-    show_errors(call, "no memory for a smaller capacity")
+    show_errors(call, "no memory for the call")
     show_errors(call, "the capacity would be above the limit")
     show_errors(call, "no memory for the capacity")
 
