@@ -81,7 +81,7 @@ impl fmt::Display for ReserveError {
 
 impl fmt::Display for NoRoom {
     fn fmt<W: fmt::Write>(&self, f: &mut fmt::Formatter<W>) -> fmt::Result {
-        f.write_str("no memory for a smaller capacity")
+        f.write_str("no memory for the call")
     }
 }
 

@@ -1,6 +1,6 @@
 -- What a set is once a borrow has ended.
 use Rattle.std.specs.Prelude.{◌≡◌, [], ⊤, Result, MatchResult}
-use Rattle.std.specs.Borrow.{Fml, GName, RattleType, MutBor, Array, u8, follows, follows_so}
+use Rattle.std.specs.Borrow.{Fml, GName, RattleType, MutBor, Array, u8, follows, follows_if, follows_so}
 use mathlib.Core.Option.{none}
 use Rattle.std.specs.HashMap.Lent.{HashMembers}
 use Rattle.std.specs.declared.hash.Hasher as hasher
@@ -30,3 +30,7 @@ module _ (T S H : RattleType) (item : HashMembers T.Denot) (build : builder.Ghos
     -- the set has x at the back, as after an insertion, and at an error it is as it was
     abbrev pub ends_inserted : {R E : Type 0} → T.Denot → Result R E → Fml
     ends_inserted x = ends_so (λ last. last ≡ inserted item.eq s.now x)
+
+    -- the set ends as it is: no clause says so now; kept for the proofs of callers of 1.3
+    abbrev pub rests : Fml
+    rests = follows_if set_row set_row s.ghost_name none (λ w. w) s.now

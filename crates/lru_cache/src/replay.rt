@@ -15,7 +15,6 @@
 //! assert_eq!(rt; answers.next(), Some(Answer::Pair('y', 2)));
 //! ```
 ghost use Rattle.std.specs.Prelude.{◌≡◌, [], IfOk, IfErr, OnErr, IsOk};
-ghost use Rattle.lru_cache.specs.Cache.{IsValidCache};
 ghost use Rattle.lru_cache.specs.Runs.{Steps, Runs};
 ghost use Rattle.lru_cache.specs.Unlimited.{HasNewest};
 

@@ -1,5 +1,5 @@
 //! The bids of an auction.
-ghost use Rattle.std.specs.Prelude.{◌≡◌, ◌+◌, ◌-◌, ◌<◌, ◌≤◌, ◌^◌, ℕ, [], ◌∷◌, ◌++◌, Some, None, IsFalse, IsTrue, filter, is_some, length, map, min, nat_eq, nat_lt, not, sum, if◌then◌else◌, IfErr, OnErr, OnOk};
+ghost use Rattle.std.specs.Prelude.{◌≡◌, ◌+◌, ◌-◌, ◌<◌, ◌^◌, ℕ, [], ◌∷◌, ◌++◌, Some, IsFalse, IsTrue, filter, is_some, length, map, min, nat_eq, nat_lt, sum, if◌then◌else◌, IfErr, OnErr, OnOk};
 ghost use Rattle.std.specs.Map.{values_of};
 ghost use Rattle.linked_hash_map.specs.Pairs.{find, value_at};
 

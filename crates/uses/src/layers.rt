@@ -1,5 +1,5 @@
 //! The layers of a drawing.
-ghost use Rattle.std.specs.Prelude.{◌≡◌, ◌==◌, ◌&&◌, ℕ, List, [], ◌∷◌, ◌++◌, IsTrue, IsFalse, filter, is_some, nat_eq, not, option_map, IfErr, OnErr, OnOk};
+ghost use Rattle.std.specs.Prelude.{◌≡◌, ◌==◌, ◌&&◌, ℕ, List, [], ◌∷◌, ◌++◌, IsFalse, filter, is_some, nat_eq, not, option_map, IfErr, OnErr, OnOk};
 ghost use Rattle.std.specs.Map.{keys_of};
 ghost use Rattle.linked_hash_map.specs.Pairs.{find, last, set_value, to_back_as_is, value_at};
 ghost use Rattle.linked_hash_map.specs.declared.map.Mode.{Mode};

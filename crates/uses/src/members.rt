@@ -1,5 +1,5 @@
 //! The members of a club, by name.
-ghost use Rattle.std.specs.Prelude.{◌≡◌, ◌+◌, ℕ, List, [], ◌∷◌, ◌++◌, IsTrue, IsFalse, false, length, not, string_bytes, string_eq, true, if◌then◌else◌, IfErr, IfOk, OnErr, OnOk};
+ghost use Rattle.std.specs.Prelude.{◌≡◌, ◌+◌, ℕ, List, [], ◌∷◌, ◌++◌, IsTrue, IsFalse, false, not, true, IfErr, IfOk, OnErr, OnOk};
 ghost use Rattle.std.specs.Str.{bytes_eq};
 ghost use Rattle.linked_hash_set.specs.Items.{contains, to_front, without};
 ghost use Rattle.uses.specs.Texts.{names};

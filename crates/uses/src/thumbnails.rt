@@ -1,5 +1,5 @@
 //! Sizes of pictures, of which those asked for last are kept.
-ghost use Rattle.std.specs.Prelude.{◌≡◌, ◌<◌, ℕ, List, [], Some, None, IsSome, IsTrue, false, true, is_some, length, string_bytes, IfErr, OnErr, OnOk};
+ghost use Rattle.std.specs.Prelude.{◌≡◌, ◌<◌, ℕ, List, [], Some, None, IsSome, IsTrue, false, true, is_some, string_bytes, IfErr, OnErr, OnOk};
 ghost use Rattle.std.specs.Str.{bytes_eq};
 ghost use Rattle.linked_hash_map.specs.Pairs.{find, to_back_as_is, value_at, without};
 ghost use Rattle.uses.specs.Texts.{names};

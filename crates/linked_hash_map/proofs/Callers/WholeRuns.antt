@@ -6,6 +6,7 @@ use Rattle.std.specs.{List.list_any, List.list_all, Cmp.IsEquivalence}
 use Rattle.linked_hash_map.specs.Log.{Log, mode, pairs, high, Defines}
 use Rattle.linked_hash_map.specs.Run.{first_log, last_log, IsReply, IsRun}
 use Rattle.linked_hash_map.specs.Commands.{is_refusal, refused_after, refusals, answer_to, replies_to, mode_after, pairs_after}
+use Rattle.linked_hash_map.specs.LastUses.{sets_keep, pairs_by_use}
 use Rattle.linked_hash_map.specs.declared.replay.Command.TheVariants.{Insert, Write, Refresh, Remove, PopFront, PopBack, Clear, Extend}
 use Rattle.linked_hash_map.specs.declared.replay.Command.TheVariants.{OrInsert, EntryInsert, EntryRemove, SetMode}
 use Rattle.linked_hash_map.specs.declared.replay.Answer.TheVariants.{Refused, Stopped, NoRoom}
@@ -274,6 +275,17 @@ module _ {K V S T E : Type 0} {eq : K → K → Bool} (laws : IsEquivalence eq)
         → IsOkAnd run' (λ replies. NoneRefused replies.items)
         → IsOkAnd run (λ replies. IsOkAnd run' (λ replies'. refusals replies.items ≡ refusals replies'.items))
     same_refusals run run' copied replayed replayed' given given' = grind (arith, refusals-given)
+
+-- kept for the proofs of callers of 1.3: `in_touch` says it of a log
+pub pairs-replayed_in_touch : {K V S E : Type 0} (eq : K → K → Bool) (old new : LinkedMap K V S)
+    (commands : List (Command K V)) (run : Result (Vec (Reply K V) Global) E)
+    → IfOk run (λ replies. Replayed eq old commands replies.items new)
+    → IfOk run (λ replies.
+    list_any sets_keep (last_log eq (first_log old.mode old.pairs) commands replies.items) ≡ false
+    → new.pairs ≡ pairs_by_use eq (last_log eq (first_log old.mode old.pairs) commands replies.items))
+pairs-replayed_in_touch eq old new commands (Err refused) replayed = tt
+pairs-replayed_in_touch eq old new commands (Ok replies) replayed = λ touch. replayed.pairs
+    ∙ pairs-in_touch eq (last_log eq (first_log old.mode old.pairs) commands replies.items) touch
 
 -- the pairs after a run whose log never sets the mode to Keep
 pub ruleset in_touch = (pairs-in_touch)

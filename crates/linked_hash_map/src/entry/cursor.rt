@@ -68,10 +68,10 @@ impl<K: Eq + Hash, V, S: BuildHasher> LinkedHashMap<K, V, S> {
     /// by a vacant entry, is not visited, and leaves the visit.
     ///
     /// Another visit, by this call or by `entries`, ends it. So do `shrink_to_fit` and each call
-    /// that may remove or move a pair, except an entry's, and `replay` of such a command. A call by
-    /// keys does so only if they are present, and then also `entry`, and in both modes an insertion.
-    /// `insert_front` and `append` do so with any keys, `truncate` also if it drops nothing,
-    /// `front_entry` and `back_entry` if there is a pair. A clone has no pair to visit.
+    /// that may remove or move a pair, except an entry's. A call by keys does so only if they are
+    /// present, and then also `entry`, and in both modes an insertion. `insert_front` and `append`
+    /// do so with any keys, `truncate` also if it drops nothing, `front_entry` and `back_entry` if
+    /// there is a pair. `replay` leaves a visit as it was, or ends it. A clone has no pair to visit.
     ///
     /// # Examples
     ///

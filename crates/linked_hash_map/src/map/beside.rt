@@ -1,4 +1,4 @@
-//! Moves of a pair beside another, and insertion at the front.
+//! Moves of a pair beside another.
 ghost use Rattle.std.specs.Prelude.{◌≡◌, ℕ, ◌+◌, ◌&&◌, [], cond, length, is_some, IfSome, IsTrue, IsFalse};
 ghost use Rattle.linked_hash_map.specs.Pairs.{find, count_before, to_behind, to_before, to_after};
 ghost use Rattle.linked_hash_map.specs.Cursor.{to_visit};

@@ -74,6 +74,7 @@ impl<K: Eq + Hash, V, S: BuildHasher> LinkedHashMap<K, V, S> {
     /// assert_eq!(rt; map.get(&'x'), Some(&1));
     /// assert_eq!(rt; map.get(&'y'), None);
     /// ```
+    #[inline(always)]
     pub fn get<Q: Equivalent<K>>(&self, key: Q) -> Option<&V>
         ensures { option_copied result ≡ value_at Q.equivalent self.now.pairs key }
     {
@@ -91,6 +92,7 @@ impl<K: Eq + Hash, V, S: BuildHasher> LinkedHashMap<K, V, S> {
     /// assert_eq!(rt; map.get_key_value(&'x'), Some((&'x', &1)));
     /// assert_eq!(rt; map.get_key_value(&'y'), None);
     /// ```
+    #[inline(always)]
     pub fn get_key_value<Q: Equivalent<K>>(&self, key: Q) -> Option<(&K, &V)>
         ensures { option_map deref_pair result ≡ find Q.equivalent self.now.pairs key }
     {
@@ -111,6 +113,7 @@ impl<K: Eq + Hash, V, S: BuildHasher> LinkedHashMap<K, V, S> {
     /// }
     /// assert_eq!(rt; map.get(&'x'), Some(&3));
     /// ```
+    #[inline(always)]
     pub fn get_mut<Q: Equivalent<K>>(&mut self, key: Q) -> Option<&mut V>
         ensures* writes_back { sem 𝓛
             (lends_value K.row V.row S.row S.Hasher.row K.Hash S.BuildHasher S.Hasher.Hasher
@@ -150,7 +153,7 @@ impl<K: Eq + Hash, V, S: BuildHasher> LinkedHashMap<K, V, S> {
     /// }
     /// assert_eq!(rt; map.back(), Some((&'x', &3)));
     /// ```
-    #[inline]
+    #[inline(always)]
     pub fn get_refresh<Q: Equivalent<K>>(&mut self, key: Q) -> Option<&mut V>
         ensures* writes_back { sem 𝓛
             (lends_refreshed K.row V.row S.row S.Hasher.row K.Hash S.BuildHasher S.Hasher.Hasher
@@ -245,6 +248,7 @@ impl<K: Eq + Hash, V, S: BuildHasher> LinkedHashMap<K, V, S> {
     /// assert!(rt; map.contains_key(&'x'));
     /// assert!(rt; !map.contains_key(&'y'));
     /// ```
+    #[inline(always)]
     pub fn contains_key<Q: Equivalent<K>>(&self, key: Q) -> bool
         ensures { result ≡ is_some (find Q.equivalent self.now.pairs key) }
     {
@@ -377,6 +381,7 @@ impl<K: Eq + Hash, V, S: BuildHasher, Q: Equivalent<K>> Index<Q> for LinkedHashM
 
     ghost index_gives = { λ m key value. value_at Q.equivalent m.pairs key ≡ Some value };
 
+    #[inline(always)]
     fn index(&self, key: Q) -> &V {
         self.get(key).unwrap()
     }
@@ -397,6 +402,7 @@ impl<K: Eq + Hash, V, S: BuildHasher, Q: Equivalent<K>> Index<Q> for LinkedHashM
 impl<'q, K: Eq + Hash, V, S: BuildHasher> IndexMut<&'q K> for LinkedHashMap<K, V, S> {
     ghost use Rattle.linked_hash_map.specs.Lends.{lends_present};
 
+    #[inline(always)]
     fn index_mut(&mut self, key: &'q K) -> &mut V
         requires { IsSome (find K.eq self.old.pairs key.now) }
         ensures* writes_back { sem 𝓛

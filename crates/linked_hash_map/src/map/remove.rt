@@ -1,5 +1,5 @@
 //! Removal.
-ghost use Rattle.std.specs.Prelude.{◌≡◌, ◌+◌, ◌≤◌, [], length, min, take, option_map, None, IfNone, IfSome, OnSome};
+ghost use Rattle.std.specs.Prelude.{◌≡◌, ◌+◌, ◌≤◌, [], length, min, take, None, IfNone, IfSome, OnSome};
 ghost use Rattle.std.specs.Borrow.{sem};
 ghost use Rattle.std.specs.Map.{keys_of};
 ghost use Rattle.std.specs.Map.Calls.{CallableOnEachPair, CalledAtPair, TakesPair, RetainsPairs};
@@ -9,7 +9,6 @@ ghost use Rattle.linked_hash_map.specs.Changes.{Keeps, drained};
 ghost use Rattle.linked_hash_map.specs.Retains.{IsSublist};
 ghost use Rattle.linked_hash_map.specs.Updates.{Updates, UpdatesBy};
 ghost use Rattle.linked_hash_map.specs.Validity.{IsValid};
-ghost use Rattle.linked_hash_map.specs.Hashers.{hash_by};
 
 use super::LinkedHashMap;
 use crate::drain::Drain;

@@ -1,4 +1,4 @@
-//! Replacement of a stored key.
+//! Replacement of a stored key. `replace`, which replaces a value, is in `insert`.
 ghost use Rattle.std.specs.Prelude.{◌≡◌, length, map, option_map, Some, None, IfOk, IfErr, OnErr};
 ghost use Rattle.std.specs.Map.{keys_of};
 ghost use Rattle.linked_hash_map.specs.Pairs.{find, value_at, replaced, set_key};

@@ -19,7 +19,7 @@ impl<T: Eq + Hash, S: BuildHasher> LinkedHashSet<T, S> {
     /// assert!(rt; set.contains(&'x'));
     /// assert!(rt; !set.contains(&'y'));
     /// ```
-    #[inline]
+    #[inline(always)]
     pub fn contains<Q: Equivalent<T>>(&self, item: Q) -> bool
         ensures present { result ≡ contains Q.equivalent self.now.items item }
     {
@@ -37,6 +37,7 @@ impl<T: Eq + Hash, S: BuildHasher> LinkedHashSet<T, S> {
     /// assert_eq!(rt; set.get(&'x'), Some(&'x'));
     /// assert_eq!(rt; set.get(&'y'), None);
     /// ```
+    #[inline(always)]
     pub fn get<Q: Equivalent<T>>(&self, item: Q) -> Option<&T>
         ensures stored { option_copied result ≡ find Q.equivalent self.now.items item }
     {

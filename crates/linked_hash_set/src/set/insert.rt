@@ -9,7 +9,7 @@ ghost use Rattle.linked_hash_set.specs.Validity.{IsValid};
 
 use super::LinkedHashSet;
 use crate::error::Refused;
-use linked_hash_map::{Equivalent, Mode};
+use linked_hash_map::Equivalent;
 use std::hash::{BuildHasher, Hash};
 
 impl<T: Eq + Hash, S: BuildHasher> LinkedHashSet<T, S> {
@@ -146,10 +146,7 @@ impl<T: Eq + Hash, S: BuildHasher> LinkedHashSet<T, S> {
         ensures absent { OnErr result (contains T.eq self.old.items item ≡ false) }
         ensures full { OnErr result (length self.old.items ≡ self.old.capacity) }
     {
-        self.map.set_mode(Mode::Keep);
-        let inserted = self.map.insert(item, ());
-        self.map.set_mode(Mode::Touch);
-        match inserted {
+        match self.map.replace(item, ()) {
             Ok(None) => Ok(true),
             Ok(Some(_unit)) => Ok(false),
             Err(refused) => Err(Refused { item: refused.key }),
@@ -262,6 +259,8 @@ impl<T: Eq + Hash, S: BuildHasher> LinkedHashSet<T, S> {
 
         ensures item_back { IfErr result (λ refused. F.post make item refused.item) }
         ensures absent { OnErr result (contains Q.equivalent self.old.items item ≡ false) }
+        ensures item_absent { IfErr result (λ refused.
+            contains T.eq self.old.items refused.item ≡ false) }
         ensures full { OnErr result (length self.old.items ≡ self.old.capacity) }
     {
         let refused = self.put_with(item, make);
@@ -282,8 +281,9 @@ impl<T: Eq + Hash, S: BuildHasher> LinkedHashSet<T, S> {
         ensures made { IfNone result (contains Q.equivalent self.old.items item ≡ false
             → (made : T) × F.post make item made
             × (last self.new.items ≡ Some (unwrap_or (find T.eq self.old.items made) made))) }
-        ensures refused { IfSome result (λ refused. F.post make item refused × (self.new ≡ self.old)
-            × (contains Q.equivalent self.old.items item ≡ false)
+        ensures refused { IfSome result (λ refused.
+            (F.post make item refused × (contains T.eq self.old.items refused ≡ false))
+            × (self.new ≡ self.old) × (contains Q.equivalent self.old.items item ≡ false)
             × (length self.old.items ≡ self.old.capacity)) }
     {
         if self.to_back(item) {

@@ -79,10 +79,10 @@ impl<T: Eq + Hash, S: BuildHasher> LinkedHashSet<T, S> {
     /// back. Items of which it makes equal values keep their order. O(n log n).
     ///
     /// From two items on it allocates an array of what the closure makes and a position for each,
-    /// and, for more than 20 items that neither ascend nor fall, a second one to sort it, and frees
-    /// both. It returns `NoRoom` if an allocation fails: then nothing changes, but the closure may
-    /// have been called. With fewer items it never fails and does not call the closure. It hashes
-    /// no item.
+    /// and, for more than 20 items that neither ascend nor strictly fall, a second one to sort it,
+    /// and frees both. It returns `NoRoom` if an allocation fails: then nothing changes, but the
+    /// closure may have been called. With fewer items it never fails and does not call the closure.
+    /// It hashes no item.
     ///
     /// # Examples
     ///

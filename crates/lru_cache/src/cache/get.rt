@@ -26,7 +26,7 @@ impl<K: Eq + Hash, V, S: BuildHasher> LruCache<K, V, S> {
     /// assert!(rt; cache.contains_key(&'x'));
     /// assert_eq!(rt; cache.remove_lru(), Some(('y', 2)));
     /// ```
-    #[inline]
+    #[inline(always)]
     pub fn contains_key<Q: Equivalent<K>>(&mut self, key: Q) -> bool
         ensures present { result ≡ is_some (find Q.equivalent self.old.pairs key) }
         ensures pairs { self.new.pairs ≡ to_back_as_is Q.equivalent self.old.pairs key }
@@ -52,7 +52,7 @@ impl<K: Eq + Hash, V, S: BuildHasher> LruCache<K, V, S> {
     /// assert_eq!(rt; cache.remove_lru(), Some(('y', 2)));
     /// ```
     #[tactic(auto, using(crate::proofs::Used::used))]
-    #[inline]
+    #[inline(always)]
     pub fn get<Q: Equivalent<K>>(&mut self, key: Q) -> Option<&V>
         ensures* uses { sem 𝓛
             (shows_used K.row V.row S.row S.Hasher.row K.Hash S.BuildHasher S.Hasher.Hasher
@@ -91,7 +91,7 @@ impl<K: Eq + Hash, V, S: BuildHasher> LruCache<K, V, S> {
     /// }
     /// assert_eq!(rt; cache.peek(&'x'), Some(&3));
     /// ```
-    #[inline]
+    #[inline(always)]
     pub fn get_mut<Q: Equivalent<K>>(&mut self, key: Q) -> Option<&mut V>
         ensures* writes_back { sem 𝓛
             (lends_used K.row V.row S.row S.Hasher.row K.Hash S.BuildHasher S.Hasher.Hasher
@@ -130,6 +130,7 @@ impl<K: Eq + Hash, V, S: BuildHasher> LruCache<K, V, S> {
     /// assert_eq!(rt; cache.peek(&'x'), Some(&1));
     /// assert_eq!(rt; cache.remove_lru(), Some(('x', 1)));
     /// ```
+    #[inline(always)]
     pub fn peek<Q: Equivalent<K>>(&self, key: Q) -> Option<&V>
         ensures value { option_copied result ≡ value_at Q.equivalent self.now.pairs key }
     {
@@ -150,6 +151,7 @@ impl<K: Eq + Hash, V, S: BuildHasher> LruCache<K, V, S> {
     /// }
     /// assert_eq!(rt; cache.remove_lru(), Some(('x', 3)));
     /// ```
+    #[inline(always)]
     pub fn peek_mut<Q: Equivalent<K>>(&mut self, key: Q) -> Option<&mut V>
         ensures* writes_back { sem 𝓛
             (lends_value K.row V.row S.row S.Hasher.row K.Hash S.BuildHasher S.Hasher.Hasher

@@ -61,6 +61,13 @@ is_made None (Ok r) new Absent Makes stored said ok =
 is_made (Some k) (Ok r) new Absent Makes stored said ok = search rules
 is_made e (Err r) new Absent Makes stored said ok = tt
 
+-- of an item that is handed back both are true
+both_of : {X Y : Type 0} (x : Result Y (Refused X)) (P Q : X → Type 0)
+    → IfErr x (λ refused. P refused.item × Q refused.item)
+    → IfErr x (λ refused. P refused.item) × IfErr x (λ refused. Q refused.item)
+both_of (Ok r) P Q said = (tt, tt)
+both_of (Err r) P Q said = said
+
 pub get_or_insert_with_spec : {M : Type 1} → statement M
 get_or_insert_with_spec 𝓤 𝓛 𝓜 𝓡 wired X S H Q F LX LS LH LQ LF CQ
     b₀ d₀ b₁ d₁ b₂ d₂ b₃ d₃ b₄ d₄ d₅ b₆ d₆ b₇ d₇ b₈ d₈ b₉ d₉ b₁₀ d₁₀ b₁₁ d₁₁ d₁₂ d₁₃
@@ -104,6 +111,8 @@ get_or_insert_with_spec 𝓤 𝓛 𝓜 𝓡 wired X S H Q F LX LS LH LQ LF CQ
     let eqv = b₆.equivalent in let Makes = λ (made : X.Denot). b₁₁.post make (item, tt) made in
     let Absent : Type 0 = contains eqv s.now.items item ≡ false in let Present : Type 0 = contains eqv s.now.items item ≡ true in
     let needs : Type 0 = Absent → b₁₁.pre make (item, tt) in
+    let New : X.Denot → Type 0 = λ made. contains b₁.eq s.now.items made ≡ false in
+    let Hands : X.Denot → Type 0 = λ made. Makes made × New made in
     let stored = λ (made : X.Denot). unwrap_or (find b₁.eq s.now.items made) made in
     let Now = RefreshedOrMade eqv b₁.eq Makes item s.now in
     let x-lives = κX ⊑ X.lives in let s-lives = κS ⊑ S.lives in let h-lives = κH ⊑ H.lives in
@@ -139,7 +148,7 @@ get_or_insert_with_spec 𝓤 𝓛 𝓜 𝓡 wired X S H Q F LX LS LH LQ LF CQ
     ⊛ (raw (fact 𝓤 (IfNone e (Now ws.0))) ⊛ raw (fact 𝓤 (IfNone e (IsSome (last ws.0.items))))
     ⊛ raw (fact 𝓤 (IfNone e (Present → find eqv s.now.items item ≡ last ws.0.items)))
     ⊛ raw (fact 𝓤 (IfNone e (Absent → (made : X.Denot) × Makes made × (last ws.0.items ≡ Some (stored made)))))
-    ⊛ raw (fact 𝓤 (Back e s.now ws.0 Makes Absent))))))) (id⊢ 𝓤 _) $
+    ⊛ raw (fact 𝓤 (Back e s.now ws.0 Hands Absent))))))) (id⊢ 𝓤 _) $
     await ! tt $ pick ! (λ e. split ! $ split ! $ move ! (1 ∷ []) $ peeks ! Handed (Is Handed) (shows 𝓛 Handed) e (v ∷ []) (λ e-is.
     let tv = (((option_laws P (param_laws 0 X LX)).lawful 𝓛).typed e (v ∷ []) e-is).0 in
     lands_as ! refl refl tv $ move ! (2 ∷ []) $ pick ! (λ ws. split ! $ move ! (1 ∷ []) $ split ! $ heard ! _ (λ did. split ! $
@@ -200,15 +209,16 @@ get_or_insert_with_spec 𝓤 𝓛 𝓜 𝓡 wired X S H Q F LX LS LH LQ LF CQ
     -- [the tokens; nothing; the result; its final value; nothing]
     move ! (3 ∷ []) $ use1 𝓛 (‵ (ends_so P (param 1 S) (param 2 H) members b₃ b₄ s Now x))
     (weaker 𝓛 Whole γ n (λ last. MatchResult x (λ _. Now last) (λ _. last ≡ s.now))
-    (ends_as Now e x s.now n did Makes Absent back ok err)) $
+    (ends_as Now e x s.now n did Hands Absent back ok err)) $
     nothing ! $ nothing ! $ fjoin ! $ nothing ! $ fjoin ! $ nothing ! $ fjoin ! $
     keep ! (2 ∷ 0 ∷ 4 ∷ 1 ∷ []) $ group ! 3 $ frame ! $ frame ! $
-    let kept = is_refused e x s.now n Makes Absent back err in
+    let kept = is_refused e x s.now n Hands Absent back err in let handed = both_of x Makes New kept.0 in
     use0 𝓛 (raw (fact 𝓤 (IfOk x (λ r. Present → find eqv s.now.items item ≡ Some r.now)))) (fact_i 𝓤 _ (emp 𝓤)
     (is_stored (λ o. Present → find eqv s.now.items item ≡ o) e x n said ok)) $ frame ! $
     use0 𝓛 (raw (fact 𝓤 (IfOk x (λ r. Absent → (made : X.Denot) × Makes made × (r.now ≡ stored made))))) (fact_i 𝓤 _ (emp 𝓤)
     (is_made e x n Absent Makes stored makes ok)) $ frame ! $
-    use0 𝓛 (raw (fact 𝓤 (IfErr x (λ refused. Makes refused.item)))) (fact_i 𝓤 _ (emp 𝓤) kept.0) $ frame ! $
-    use0 𝓛 (raw (fact 𝓤 (OnErr x Absent))) (fact_i 𝓤 _ (emp 𝓤) kept.1) $ frame ! $ by ! (fact_i 𝓤 _ _ kept.2))))))))))))))))))))))) in
+    use0 𝓛 (raw (fact 𝓤 (IfErr x (λ refused. Makes refused.item)))) (fact_i 𝓤 _ (emp 𝓤) handed.0) $ frame ! $
+    use0 𝓛 (raw (fact 𝓤 (OnErr x Absent))) (fact_i 𝓤 _ (emp 𝓤) kept.1) $ frame ! $
+    use0 𝓛 (raw (fact 𝓤 (IfErr x (λ refused. New refused.item)))) (fact_i 𝓤 _ (emp 𝓤) handed.1) $ frame ! $ by ! (fact_i 𝓤 _ _ kept.2))))))))))))))))))))))) in
     subst (λ (us : List Val). Goes us vss.1.0 vss.1.1.0) (sym at) (subst (λ (ws : List Val). Goes vs ws vss.1.1.0) (sym is)
     (subst (Goes vs (u ∷ [])) (sym held) walk)))
