@@ -4,10 +4,10 @@ use Rattle.lhm_ring.proofs.index.Index.put_first.Goals as goal
 
 pub returns-clause-heads : goal.returns-clause-heads
 returns-clause-heads g c =
-    let head : Head = record { link = c.args.head } in
+    let head : Head = record { link = c.to.result } in
     ap (map leads_to) (c.put.ensures.items ∙ ap (λ (hs : List Head). set hs c.args.bucket head) c.take-heads.ensures.items)
     ∙ map-set leads_to c.self.inside.heads.items c.args.bucket head
-    ∙ ap (λ (z : BucketState). set z.heads c.args.bucket (target c.args.head)) c.self.view_is
+    ∙ (λ i. set (c.self.view_is i).heads c.args.bucket (c.to.ensures i))
 
 pub returns-clause-words : goal.returns-clause-words
 returns-clause-words g c =
