@@ -4,7 +4,7 @@ ghost use Rattle.lhm_ring.specs.Pointer.{pointer_of, target};
 ghost use Rattle.std.specs.Int.{IsNextPowerOfTwo, IsPowerOfTwo};
 ghost use Rattle.lhm_ring.specs.BucketBlock.{block_heads};
 ghost use Rattle.lhm_ring.specs.Index.{Indexes, spots};
-ghost use Rattle.lhm_ring.specs.Buckets.{buckets, HasNoBit, HasNoChain, SetsBit, may_contain};
+ghost use Rattle.lhm_ring.specs.Buckets.{buckets, HasNoChain, SetsBit, may_contain};
 
 use crate::bucket_block::{Elements, Head, join_block, split_block};
 use crate::bucket_parts::{block_heads, clear_heads, clear_words, fill_heads, fill_words};
@@ -182,7 +182,6 @@ impl<K, V> Index<K, V> {
     pub fn clear(&mut self, ring: &Ring<K, V>)
         requires { Indexes self.old (spots ring.now.held) }
         ensures empty { HasNoChain self.new }
-        ensures bits { HasNoBit self.new.words }
         ensures words { length self.new.words ≡ length self.old.words }
         ensures buckets { length self.new.heads ≡ length self.old.heads }
     {

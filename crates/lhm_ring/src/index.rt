@@ -1,9 +1,9 @@
 //! The position of each key, by its hash: chains through the nodes.
-ghost use Rattle.std.specs.Prelude.{◌≡◌, ◌%◌, ◌<◌, ◌≤◌, ◌^◌, [], length, None, IfOk, IsOk, IfSome, IfNone, slice_index_or};
-ghost use Rattle.std.specs.Int.{IsNextPowerOfTwo, IsPowerOfTwo};
+ghost use Rattle.std.specs.Prelude.{◌≡◌, ◌<◌, ◌≤◌, ◌^◌, [], length, IfSome, IfNone};
+ghost use Rattle.std.specs.Int.{IsPowerOfTwo};
 ghost use Rattle.lhm_ring.specs.Ring.{IsHeld};
 ghost use Rattle.lhm_ring.specs.Pointer.{pointer_of, pointer_of_some};
-ghost use Rattle.lhm_ring.specs.Buckets.{buckets, HasNoChain};
+ghost use Rattle.lhm_ring.specs.Buckets.{HasNoChain};
 ghost use Rattle.lhm_ring.specs.Search.{HasKey, LacksKey};
 ghost use Rattle.lhm_ring.specs.Index.{Indexes, spots, OfNodeAt, ChangesLinks, HoldsOthers, IsOnChain, PutsFirst};
 
@@ -14,7 +14,7 @@ use crate::ring::Ring;
 use crate::search::Found;
 pub use crate::search::Probe;
 use equivalent::Equivalent;
-use std::alloc::{AllocError, Global};
+use std::alloc::Global;
 use std::hash::Hash;
 use std::marker::{Model, PhantomData};
 use std::mem;

@@ -2,7 +2,7 @@
 use Rattle.lhm_ring.proofs.Names.{List, None, Option, Some, T, [], ap, arith, cases_eq, get_or, get_or-set_other, get_or-set_same, inl, inr}
 use Rattle.lhm_ring.proofs.Names.{length, ltb→lt, map, refl, set, subst, suc, sym, true, zero, ℕ, ◌++◌, ◌+◌, ◌<◌, ◌^◌, ◌∙◌, ◌∷◌, ◌≡◌}
 use Rattle.lhm_ring.proofs.Names.{◌≢◌, BitsHaveChains, BucketState, bits_of, leads_to, is_null_or_block, led_to, Head, Word}
-use Rattle.lhm_ring.proofs.Names.{length-map, InBlock, Ptr, Testable, block_ptr, null_ptr}
+use Rattle.lhm_ring.proofs.Names.{length-map, map-set, InBlock, Ptr, Testable, block_ptr, null_ptr}
 
 -- there are as many words as heads
 pub length-words : (heads : List Head) (words : List Word) {n : ℕ} {s : BucketState}
@@ -27,6 +27,11 @@ module _ {X Y : Type 0} (f : X → Y) (none : Y) where
   get_or-cleared (y ∷ xs) zero x e a (suc b) l = absurd (omega (arith, l))
   get_or-cleared (y ∷ xs) (suc i) x e a zero l = a 0 (omega arith)
   get_or-cleared (y ∷ xs) (suc i) x e a (suc b) l = get_or-cleared xs i x e (λ c m. a (suc c) (omega (arith, m))) b (omega (arith, l))
+
+-- an element is written in place
+pub map-set_taken : {X Y : Type 0} (f : X → Y) {old taken new : List X} (b : ℕ) (x : X) → new ≡ set taken b x → taken ≡ old
+    → map f new ≡ set (map f old) b (f x)
+map-set_taken f {old} b x put take = ap (map f) (put ∙ ap (λ xs. set xs b x) take) ∙ map-set f old b x
 
 -- past the last element lies what stands for none
 pub get_or-everywhere : {X : Type 0} (none : X) (xs : List X) → ((b : ℕ) → b < length xs → get_or xs b none ≡ none)

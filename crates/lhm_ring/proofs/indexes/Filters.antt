@@ -1,10 +1,10 @@
 -- Filters: bits that are set and cleared, and the spots that they cover.
 use Rattle.lhm_ring.proofs.Names.{Bool, List, [], ap, arith, cond, eq-eqb, eqb, false, get_or, get_or-set_other, get_or-set_same, inl, inr}
 use Rattle.lhm_ring.proofs.Names.{length, length-set, map, refl, set, subst, sym, true, w16, ℕ, ◌%◌, ◌*◌, ◌++◌, ◌/◌, ◌<◌, ◌^◌, ◌∙◌, ◌∷◌}
-use Rattle.lhm_ring.proofs.Names.{◌≡◌, ◌≢◌, bit_or, filter, HasNoBit, SetsBit, bit_of, bits_of, may_contain, CoversAll, PutsIn, Spot, entries}
+use Rattle.lhm_ring.proofs.Names.{◌≡◌, ◌≢◌, bit_or, filter, SetsBit, bit_of, bits_of, may_contain, CoversAll, PutsIn, Spot, entries}
 use Rattle.lhm_ring.proofs.Names.{is_in, spot, spots, Held, LacksKey, Word, cases_eq, eqb-false, get_or-map, length-map, map-set, bit_at}
 use Rattle.lhm_ring.proofs.indexes.Spots.{PutsIn-spots}
-use Rattle.std.proofs.lemmas.Nat.Bits.{bit_at-zero, bit_at_set_other, bit_at_set_same}
+use Rattle.std.proofs.lemmas.Nat.Bits.{bit_at_set_other, bit_at_set_same}
 
 -- the bit of the hash in a word
 abbrev has_bit : ℕ → ℕ → Bool
@@ -78,11 +78,6 @@ SetsBit-keeps {old} {new} {hash} sets other may =
                 ∙ sets.set
           ])
     ]
-
--- words without bits
-pub HasNoBit-zeros : (words : List ℕ) → ((b : ℕ) → get_or words b 0 ≡ 0) → HasNoBit words
-HasNoBit-zeros words zeros hash =
-    ap (λ w. has_bit w hash) (zeros (hash % length words)) ∙ ap (λ x. eqb x 1) (bit_at-zero (hash / 2 ^ 60))
 
 -- the bits of one bucket are cleared
 pub may_contain-cleared : (words : List ℕ) (bucket other : ℕ) → other % length words ≢ bucket
