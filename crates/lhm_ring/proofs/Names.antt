@@ -7,8 +7,9 @@ pub use Rattle.std.proofs.Common.{◌^◌, ◌∙◌, ◌∷◌, ◌≡◌, ◌�
 pub use Rattle.std.specs.Prelude.{Err, IfNone, IfSome, Ok, OnErr, OnOk, OnSome, Result, bit_and, bit_or, count_by, filter, is_some, min}
 pub use Rattle.std.specs.{Prelude.nat_lt, Cmp.IsStrictWeakOrder, Mem.type_size, Vec.vec_capacity, Vec.vec_ptr}
 pub use Rattle.lhm_ring.specs.BucketBlock.{behind, block_dealloc, block_heads, elements_lent, elements_own, parts_own}
-pub use Rattle.lhm_ring.specs.Buckets.{BucketState, HasNoChain, IsBucketCount, SetsBit, bits_of, leads_to, made_fitted, made_raised}
-pub use Rattle.lhm_ring.specs.Buckets.{may_contain, rechained_fitted, rechained_lowered, rechained_raised}
+pub use Rattle.lhm_ring.specs.Buckets.{BitsHaveChains, BucketState, HasNoChain, IsBucketCount, SetsBit, bit_of, bits_of}
+pub use Rattle.lhm_ring.specs.Buckets.{leads_to, made_fitted, made_raised, may_contain, rechained_fitted, rechained_lowered}
+pub use Rattle.lhm_ring.specs.Buckets.{rechained_raised}
 pub use Rattle.lhm_ring.specs.ContentLoan.{Bodies, HasBody, bodies, bodies_of, borrows_bodies, cleared, firsts, seconds, with_bodies}
 pub use Rattle.lhm_ring.specs.Drain.{HasRow, IsRow, SameButLinks, SparesRow, StartsAt, onto, triple_of}
 pub use Rattle.lhm_ring.specs.Index.{ChangesLinks, CoversAll, HasChain, HasChains, HoldsOthers, Indexes, IsChain, IsIndexed, IsLast}

@@ -1,6 +1,6 @@
 //! The memory of an index's buckets: one block, with the heads in front and the words right behind
 //! them.
-ghost use Rattle.std.specs.Prelude.{◌≡◌, ℕ, ◌*◌, ◌<◌, ◌≤◌, ◌^◌, List, [], length, vec_len, vec_capacity};
+ghost use Rattle.std.specs.Prelude.{◌≡◌, ℕ, ◌<◌, ◌^◌, List, [], length, vec_len, vec_capacity};
 ghost use Rattle.std.specs.Vec.{vec_ptr};
 ghost use denote.RawPtr.{Ptr};
 ghost use Rattle.lhm_ring.specs.BucketBlock.{behind, block_heads, dealloc_owns, elements_own, elements_lent};

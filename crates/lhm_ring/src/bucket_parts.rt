@@ -2,7 +2,7 @@
 ghost use Rattle.std.specs.Prelude.{◌≡◌, ◌*◌, ◌^◌, ◌<◌, ◌≤◌, map, ℕ, None, slice_index_or, vec_len, vec_capacity};
 ghost use Rattle.std.specs.Vec.{vec_ptr};
 ghost use Rattle.lhm_ring.specs.BucketBlock.{block_heads};
-ghost use Rattle.lhm_ring.specs.Buckets.{leads_to};
+ghost use Rattle.lhm_ring.specs.Buckets.{bits_of, leads_to};
 
 use crate::bucket_block::{Head, Word};
 use crate::pointer::Link;
@@ -37,6 +37,7 @@ pub(crate) fn fill_heads(heads: &mut Vec<Head, Lodged>, count: usize)
 pub(crate) fn fill_words(words: &mut Vec<Word, Lodged>, count: usize)
     requires none { vec_len words.old ≡ 0 }
     requires room { count ≤ vec_capacity words.old }
+    ensures empty { (b : ℕ) → slice_index_or (map bits_of words.new.items) b 0 ≡ 0 }
     ensures len { vec_len words.new ≡ count }
     ensures capacity { vec_capacity words.new ≡ vec_capacity words.old }
     ensures in_place { vec_ptr words.new ≡ vec_ptr words.old }
@@ -62,6 +63,7 @@ pub(crate) fn clear_heads(heads: &mut Vec<Head, Lodged>)
 
 /// Clears all bits.
 pub(crate) fn clear_words(words: &mut Vec<Word, Lodged>)
+    ensures empty { (b : ℕ) → slice_index_or (map bits_of words.new.items) b 0 ≡ 0 }
     ensures len { vec_len words.new ≡ vec_len words.old }
     ensures capacity { vec_capacity words.new ≡ vec_capacity words.old }
     ensures in_place { vec_ptr words.new ≡ vec_ptr words.old }

@@ -1,10 +1,10 @@
 //! The buckets of an index: each has the head of its chain, and a word of the filter.
-ghost use Rattle.std.specs.Prelude.{◌≡◌, ◌≢◌, ◌%◌, ◌<◌, ◌≤◌, ◌/◌, ◌^◌, length, None, IfOk, IsOk, IsSome, IsTrue, IsFalse, ℕ, slice_index_or, slice_set};
-ghost use Rattle.lhm_ring.specs.Pointer.{target};
+ghost use Rattle.std.specs.Prelude.{◌≡◌, ◌%◌, ◌<◌, ◌≤◌, ◌^◌, length, None, Some, IfOk, IsOk, IsSome, IsTrue, IsFalse, slice_index_or, slice_set};
+ghost use Rattle.lhm_ring.specs.Pointer.{pointer_of, target};
 ghost use Rattle.std.specs.Int.{IsNextPowerOfTwo, IsPowerOfTwo};
 ghost use Rattle.lhm_ring.specs.BucketBlock.{block_heads};
 ghost use Rattle.lhm_ring.specs.Index.{Indexes, spots};
-ghost use Rattle.lhm_ring.specs.Buckets.{buckets, IsBucketCount, HasNoChain, SetsBit, may_contain};
+ghost use Rattle.lhm_ring.specs.Buckets.{buckets, HasNoChain, SetsBit, may_contain};
 
 use crate::bucket_block::{Elements, Head, join_block, split_block};
 use crate::bucket_parts::{block_heads, clear_heads, clear_words, fill_heads, fill_words};
@@ -139,18 +139,18 @@ impl<K, V> Index<K, V> {
         (words[bucket].bits >> ((hash >> 60) as u32)) & 1 == 1
     }
 
-    /// Makes a node with this hash the head of its bucket, sets the bit of the hash, and returns
-    /// the old head.
-    pub(crate) fn put_first(&mut self, bucket: usize, hash: u64, head: Link) -> Link
+    /// Makes a node with this hash the head of its bucket, sets the bit of the hash and no other,
+    /// and returns the old head.
+    pub(crate) fn put_first(&mut self, bucket: usize, hash: u64, at: Position<K, V>) -> Link
         requires of_hash { bucket ≡ hash % length self.old.heads }
         requires within { bucket < length self.old.heads }
-        ensures heads { self.new.heads ≡ slice_set self.old.heads bucket (target head) }
+        ensures heads { self.new.heads ≡ slice_set self.old.heads bucket (Some (pointer_of at)) }
         ensures words { SetsBit self.old.words self.new.words hash }
         ensures old { target result ≡ slice_index_or self.old.heads bucket None }
     {
         let mut heads = self.heads.take(self.heads_ptr, self.count);
         let old = heads[bucket].link;
-        heads[bucket].link = head;
+        heads[bucket].link = Link::to(at.pointer);
         self.heads.put(heads);
         let mut words = self.words.take(self.words_ptr, self.count);
         let bits = words[bucket].bits;
@@ -163,10 +163,9 @@ impl<K, V> Index<K, V> {
     pub(crate) fn set_head(&mut self, bucket: usize, head: Link)
         requires { bucket < length self.old.heads }
         ensures heads { self.new.heads ≡ slice_set self.old.heads bucket (target head) }
-        ensures others { (other : ℕ) → other % length self.old.heads ≢ bucket
-            → may_contain self.new.words other ≡ may_contain self.old.words other }
         ensures same { IsSome (target head) → self.new.words ≡ self.old.words }
-        ensures count { length self.new.words ≡ length self.old.words }
+        ensures cleared { target head ≡ None
+            → self.new.words ≡ slice_set self.old.words bucket 0 }
     {
         let mut heads = self.heads.take(self.heads_ptr, self.count);
         heads[bucket].link = head;
@@ -179,7 +178,7 @@ impl<K, V> Index<K, V> {
         }
     }
 
-    /// Removes all chains, in O(n), or O(1) if no node is held.
+    /// Removes all chains and bits, in O(n), or O(1) if no node is held.
     pub fn clear(&mut self, ring: &Ring<K, V>)
         requires { Indexes self.old (spots ring.now.held) }
         ensures empty { HasNoChain self.new }

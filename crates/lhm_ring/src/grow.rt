@@ -1,5 +1,5 @@
 //! Makes nodes spare, in new chunks if need be.
-ghost use Rattle.std.specs.Prelude.{◌≡◌, ◌+◌, ◌-◌, ◌<◌, ◌≤◌, ◌^◌, [], None, Some, min, max, length, OnOk, OnErr};
+ghost use Rattle.std.specs.Prelude.{◌≡◌, ◌+◌, ◌<◌, ◌≤◌, ◌^◌, [], min, max, length, OnOk, OnErr};
 ghost use Rattle.lhm_ring.specs.Nodes.{row};
 ghost use Rattle.lhm_ring.specs.Links.{nodes_grown, next_chunk, least_more, IsStacked};
 

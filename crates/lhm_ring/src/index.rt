@@ -1,9 +1,9 @@
 //! The position of each key, by its hash: chains through the nodes.
-ghost use Rattle.std.specs.Prelude.{◌≡◌, ◌%◌, ◌<◌, ◌≤◌, ◌^◌, [], length, None, IfOk, IsOk, IfSome, IfNone, slice_index_or};
-ghost use Rattle.std.specs.Int.{IsNextPowerOfTwo, IsPowerOfTwo};
+ghost use Rattle.std.specs.Prelude.{◌≡◌, ◌<◌, ◌≤◌, ◌^◌, [], length, IfSome, IfNone};
+ghost use Rattle.std.specs.Int.{IsPowerOfTwo};
 ghost use Rattle.lhm_ring.specs.Ring.{IsHeld};
 ghost use Rattle.lhm_ring.specs.Pointer.{pointer_of, pointer_of_some};
-ghost use Rattle.lhm_ring.specs.Buckets.{buckets, HasNoChain};
+ghost use Rattle.lhm_ring.specs.Buckets.{HasNoChain};
 ghost use Rattle.lhm_ring.specs.Search.{HasKey, LacksKey};
 ghost use Rattle.lhm_ring.specs.Index.{Indexes, spots, OfNodeAt, ChangesLinks, HoldsOthers, IsOnChain, PutsFirst};
 
@@ -14,7 +14,7 @@ use crate::ring::Ring;
 use crate::search::Found;
 pub use crate::search::Probe;
 use equivalent::Equivalent;
-use std::alloc::{AllocError, Global};
+use std::alloc::Global;
 use std::hash::Hash;
 use std::marker::{Model, PhantomData};
 use std::mem;
@@ -45,7 +45,7 @@ pub struct Index<K, V> {
 impl<K, V> Model for Index<K, V> {
     ghost use Rattle.std.specs.Prelude.{◌≡◌, ◌<◌, ◌≤◌, ◌^◌, map, length};
     ghost use Rattle.lhm_ring.specs.BucketBlock.{behind};
-    ghost use Rattle.lhm_ring.specs.Buckets.{BucketState, IsBucketCount, leads_to, bits_of};
+    ghost use Rattle.lhm_ring.specs.Buckets.{BitsHaveChains, BucketState, IsBucketCount, leads_to, bits_of};
 
     ghost Value = { BucketState };
 
@@ -65,6 +65,7 @@ impl<K, V> Model for Index<K, V> {
       behind_heads : 0 < i.count → i.words.at ≡ behind i.heads_ptr i.count;
       dealloc_count : i.dealloc.count ≡ i.count;
       dealloc_at : 0 < i.count → i.dealloc.at ≡ i.heads_ptr;
+      bits : BitsHaveChains (map leads_to i.heads.items) (map bits_of i.words.items);
     } };
 }
 
@@ -93,20 +94,8 @@ impl<K, V> Index<K, V> {
         self.count
     }
 
-    /// Puts a node that is in no chain at the head of its chain, and sets its bit.
-    pub fn put_in(&mut self, ring: &mut Ring<K, V>, at: Position<K, V>)
-        requires some { 0 < length self.old.heads }
-        requires held { IsHeld ring.old.held (pointer_of at) }
-        ensures first { PutsFirst (pointer_of at) self.old self.new ring.old.held ring.new.held }
-        ensures indexed { HoldsOthers self.old ring.old.held (pointer_of at)
-            → Indexes self.new (spots ring.new.held) }
-        ensures links { ChangesLinks ring.old ring.new }
-        ensures buckets { length self.new.heads ≡ length self.old.heads }
-    {
-        self.put_in_by_hash(ring, at, ring.links(at).hash);
-    }
-
-    /// Does what `put_in` does, without reading the hash of the node.
+    /// Puts a node that is in no chain at the head of its chain, and sets its bit. It does not read
+    /// the hash of the node.
     pub(crate) fn put_in_by_hash(&mut self, ring: &mut Ring<K, V>, at: Position<K, V>, hash: u64)
         requires some { 0 < length self.old.heads }
         requires held { IsHeld ring.old.held (pointer_of at) }
@@ -118,7 +107,7 @@ impl<K, V> Index<K, V> {
         ensures buckets { length self.new.heads ≡ length self.old.heads }
     {
         let bucket = self.bucket_of(hash);
-        let behind = self.put_first(bucket, hash, Link::to(at.pointer));
+        let behind = self.put_first(bucket, hash, at);
         ring.set_link(at, behind);
     }
 

@@ -7,7 +7,9 @@ pub(crate) mod content_loan;
 pub(crate) mod nodes;
 pub(crate) mod value_loan;
 
-// Safe code over these, with no proof by hand, each over the ones before it.
+// Safe code, with no proof by hand. These use each other: `ring`, `chunks`, `drain`, `iter`, `owned`
+// and the two loans above; and over them `index`, `buckets` and `search`. `table` uses both groups,
+// and `resize`, `retain` and `sort` use it.
 pub(crate) mod bucket_parts;
 pub(crate) mod buckets;
 pub(crate) mod chunks;

@@ -37,7 +37,9 @@ pub struct Link {
 impl Link {
     ghost use Rattle.lhm_ring.specs.Pointer.{pointer_of, pointer_of_some, target};
 
-    pub(crate) fn none() -> Link
+    /// Creates a link that leads nowhere.
+    #[inline]
+    pub fn none() -> Link
         ensures { target result ≡ None }
     {
         Link { ptr: null() }

@@ -1,7 +1,8 @@
--- The heads of the buckets, as positions and as pointers.
-use Rattle.lhm_ring.proofs.Names.{List, None, Some, T, [], arith, get_or, length, ltb→lt, map, refl, set, subst, suc, sym, true, zero, ℕ}
-use Rattle.lhm_ring.proofs.Names.{◌++◌, ◌+◌, ◌<◌, ◌^◌, ◌∷◌, ◌≡◌, BucketState, bits_of, leads_to, is_null_or_block, led_to, Head, Word}
-use Rattle.lhm_ring.proofs.Names.{length-map, InBlock, Ptr, Testable, block_ptr, null_ptr}
+-- The heads and the words of the buckets.
+use Rattle.lhm_ring.proofs.Names.{List, None, Option, Some, T, [], ap, arith, cases_eq, get_or, get_or-set_other, get_or-set_same, inl, inr}
+use Rattle.lhm_ring.proofs.Names.{length, ltb→lt, map, refl, set, subst, suc, sym, true, zero, ℕ, ◌++◌, ◌+◌, ◌<◌, ◌^◌, ◌∙◌, ◌∷◌, ◌≡◌}
+use Rattle.lhm_ring.proofs.Names.{◌≢◌, BitsHaveChains, BucketState, bits_of, leads_to, is_null_or_block, led_to, Head, Word}
+use Rattle.lhm_ring.proofs.Names.{length-map, map-set, InBlock, Ptr, Testable, block_ptr, null_ptr}
 
 -- there are as many words as heads
 pub length-words : (heads : List Head) (words : List Word) {n : ℕ} {s : BucketState}
@@ -9,22 +10,46 @@ pub length-words : (heads : List Head) (words : List Word) {n : ℕ} {s : Bucket
     → length heads ≡ n → length words ≡ n → length s.heads ≡ length (map bits_of words)
 length-words heads words seen h w = grind (arith, length-map)
 
--- one more empty bucket
-pub get_or-pushed : (xs : List Head) (h : Head) → leads_to h ≡ None → ((b : ℕ) → get_or (map leads_to xs) b None ≡ None) → (b : ℕ)
-    → get_or (map leads_to (xs ++ h ∷ [])) b None ≡ None
-get_or-pushed [] h e a zero = e
-get_or-pushed [] h e a (suc b) = refl
-get_or-pushed (x ∷ xs) h e a zero = a 0
-get_or-pushed (x ∷ xs) h e a (suc b) = get_or-pushed xs h e (λ c. a (suc c)) b
+module _ {X Y : Type 0} (f : X → Y) (none : Y) where
+  -- one more empty element
+  pub get_or-pushed : (xs : List X) (x : X) → f x ≡ none → ((b : ℕ) → get_or (map f xs) b none ≡ none) → (b : ℕ)
+      → get_or (map f (xs ++ x ∷ [])) b none ≡ none
+  get_or-pushed [] x e a zero = e
+  get_or-pushed [] x e a (suc b) = refl
+  get_or-pushed (y ∷ xs) x e a zero = a 0
+  get_or-pushed (y ∷ xs) x e a (suc b) = get_or-pushed xs x e (λ c. a (suc c)) b
 
--- one more bucket is emptied
-pub get_or-cleared : (xs : List Head) (i : ℕ) (h : Head) → leads_to h ≡ None → ((b : ℕ) → b < i → get_or (map leads_to xs) b None ≡ None)
-    → (b : ℕ) → b < i + 1 → get_or (map leads_to (set xs i h)) b None ≡ None
-get_or-cleared [] i h e a b l = refl
-get_or-cleared (x ∷ xs) zero h e a zero l = e
-get_or-cleared (x ∷ xs) zero h e a (suc b) l = absurd (omega (arith, l))
-get_or-cleared (x ∷ xs) (suc i) h e a zero l = a 0 (omega arith)
-get_or-cleared (x ∷ xs) (suc i) h e a (suc b) l = get_or-cleared xs i h e (λ c m. a (suc c) (omega (arith, m))) b (omega (arith, l))
+  -- one more element is emptied
+  pub get_or-cleared : (xs : List X) (i : ℕ) (x : X) → f x ≡ none → ((b : ℕ) → b < i → get_or (map f xs) b none ≡ none)
+      → (b : ℕ) → b < i + 1 → get_or (map f (set xs i x)) b none ≡ none
+  get_or-cleared [] i x e a b l = refl
+  get_or-cleared (y ∷ xs) zero x e a zero l = e
+  get_or-cleared (y ∷ xs) zero x e a (suc b) l = absurd (omega (arith, l))
+  get_or-cleared (y ∷ xs) (suc i) x e a zero l = a 0 (omega arith)
+  get_or-cleared (y ∷ xs) (suc i) x e a (suc b) l = get_or-cleared xs i x e (λ c m. a (suc c) (omega (arith, m))) b (omega (arith, l))
+
+-- an element is written in place
+pub map-set_taken : {X Y : Type 0} (f : X → Y) {old taken new : List X} (b : ℕ) (x : X) → new ≡ set taken b x → taken ≡ old
+    → map f new ≡ set (map f old) b (f x)
+map-set_taken f {old} b x put take = ap (map f) (put ∙ ap (λ xs. set xs b x) take) ∙ map-set f old b x
+
+-- past the last element lies what stands for none
+pub get_or-everywhere : {X : Type 0} (none : X) (xs : List X) → ((b : ℕ) → b < length xs → get_or xs b none ≡ none)
+    → (b : ℕ) → get_or xs b none ≡ none
+get_or-everywhere none [] a b = refl
+get_or-everywhere none (x ∷ xs) a zero = a 0 (omega arith)
+get_or-everywhere none (x ∷ xs) a (suc b) = get_or-everywhere none xs (λ c l. a (suc c) (omega (arith, l))) b
+
+-- a bucket has a new head, and its bits are cleared if that leads nowhere
+pub BitsHaveChains-set : (heads : List (Option Ptr)) (words : List ℕ) (bucket : ℕ) (head : Option Ptr) (new : List ℕ)
+    → bucket < length heads → ((b : ℕ) → b ≢ bucket → get_or new b 0 ≡ get_or words b 0)
+    → (head ≡ None → get_or new bucket 0 ≡ 0) → BitsHaveChains heads words → BitsHaveChains (set heads bucket head) new
+BitsHaveChains-set heads words bucket head new l others own bits b none =
+    elim (cases_eq b bucket) [
+      | inl here ↦ ap (λ c. get_or new c 0) here
+          ∙ own (sym (get_or-set_same heads bucket head None l) ∙ ap (λ c. get_or (set heads bucket head) c None) (sym here) ∙ none)
+      | inr away ↦ others b away ∙ bits b (sym (get_or-set_other heads bucket b head None away) ∙ none)
+    ]
 
 -- what may be compared with null, and where it leads
 pub Testable-null_or_block : (p : Ptr) → is_null_or_block p ≡ true → Testable p

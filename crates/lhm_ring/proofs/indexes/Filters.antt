@@ -1,8 +1,8 @@
 -- Filters: bits that are set and cleared, and the spots that they cover.
 use Rattle.lhm_ring.proofs.Names.{Bool, List, [], ap, arith, cond, eq-eqb, eqb, false, get_or, get_or-set_other, get_or-set_same, inl, inr}
 use Rattle.lhm_ring.proofs.Names.{length, length-set, map, refl, set, subst, sym, true, w16, ℕ, ◌%◌, ◌*◌, ◌++◌, ◌/◌, ◌<◌, ◌^◌, ◌∙◌, ◌∷◌}
-use Rattle.lhm_ring.proofs.Names.{◌≡◌, ◌≢◌, bit_or, filter, SetsBit, bits_of, may_contain, CoversAll, PutsIn, Spot, entries, is_in, spot}
-use Rattle.lhm_ring.proofs.Names.{spots, Held, LacksKey, Word, cases_eq, eqb-false, get_or-map, length-map, map-set, bit_at}
+use Rattle.lhm_ring.proofs.Names.{◌≡◌, ◌≢◌, bit_or, filter, SetsBit, bit_of, bits_of, may_contain, CoversAll, PutsIn, Spot, entries}
+use Rattle.lhm_ring.proofs.Names.{is_in, spot, spots, Held, LacksKey, Word, cases_eq, eqb-false, get_or-map, length-map, map-set, bit_at}
 use Rattle.lhm_ring.proofs.indexes.Spots.{PutsIn-spots}
 use Rattle.std.proofs.lemmas.Nat.Bits.{bit_at_set_other, bit_at_set_same}
 
@@ -32,22 +32,16 @@ module _ (words : List ℕ) (hash : ℕ) (small : hash / 2 ^ 60 < 16) (within : 
       may_contain-set_same words (hash % length words) _ hash refl within
       ∙ eq-eqb _ 1 (bit_at_set_same w16 (get_or words (hash % length words) 0) (hash / 2 ^ 60) small)
 
-  may_contain-inserted_other : (other : ℕ) → may_contain words other ≡ true → may_contain (with_bit words hash) other ≡ true
-  may_contain-inserted_other other may =
+  may_contain-inserted_other : (other : ℕ) → bit_of (length words) other ≢ bit_of (length words) hash
+      → may_contain (with_bit words hash) other ≡ may_contain words other
+  may_contain-inserted_other other apart =
       elim (cases_eq (other % length words) (hash % length words)) [
-        | inr away ↦ may_contain-set_other words (hash % length words) _ other away ∙ may
+        | inr away ↦ may_contain-set_other words (hash % length words) _ other away
         | inl here ↦
-            let same_word = may_contain-set_same words (hash % length words) _ other here within in
-            same_word ∙ (elim (cases_eq (other / 2 ^ 60) (hash / 2 ^ 60)) [
-              | inl bit ↦ eq-eqb _ 1
-                  (ap (bit_at (bit_or (get_or words (hash % length words) 0)
-                  (1 * 2 ^ (hash / 2 ^ 60) % 2 ^ 16))) bit
-                  ∙ bit_at_set_same w16 (get_or words (hash % length words) 0) (hash / 2 ^ 60)
-                  small)
-              | inr bit ↦
-                  ap (λ x. eqb x 1) (bit_at_set_other w16 (get_or words (hash % length words) 0) (hash / 2 ^ 60) small (other / 2 ^ 60) bit)
-                  ∙ ap (λ n. has_bit (get_or words n 0) other) (sym here) ∙ may
-            ])
+            may_contain-set_same words (hash % length words) _ other here within
+            ∙ ap (λ x. eqb x 1) (bit_at_set_other w16 (get_or words (hash % length words) 0) (hash / 2 ^ 60) small (other / 2 ^ 60)
+            (λ bit. apart (λ i. (here i, bit i))))
+            ∙ ap (λ n. has_bit (get_or words n 0) other) (sym here)
       ]
 
 pub SetsBit-with_bit : (words : List ℕ) (hash bucket number : ℕ) → bucket ≡ hash % length words → bucket < length words
@@ -68,6 +62,22 @@ SetsBit-written items bucket hash number {old} is inside bit small read =
     subst (λ (ws : List ℕ). SetsBit words ws hash) (sym (map-set bits_of items bucket (record { bits = bit_or old.bits one })))
     (subst (λ (n : ℕ). SetsBit words (set words bucket (bit_or n one)) hash) (sym bits)
     (SetsBit-with_bit words hash bucket number is inside bit small))
+
+-- what was set stays set
+pub SetsBit-keeps : {old new : List ℕ} {hash : ℕ} → SetsBit old new hash → (other : ℕ) → may_contain old other ≡ true
+    → may_contain new other ≡ true
+SetsBit-keeps {old} {new} {hash} sets other may =
+    elim (cases_eq (other % length old) (hash % length old)) [
+      | inr away ↦ sets.others other (λ e. away (ap (λ (p : ℕ × ℕ). p.0) e)) ∙ may
+      | inl here ↦
+          (elim (cases_eq (other / 2 ^ 60) (hash / 2 ^ 60)) [
+            | inr away ↦ sets.others other (λ e. away (ap (λ (p : ℕ × ℕ). p.1) e)) ∙ may
+            | inl bit ↦
+                ap (λ (p : ℕ × ℕ). eqb (bit_at (get_or new p.0 0) p.1) 1)
+                (subst (λ n. bit_of n other ≡ bit_of n hash) (sym sets.count) (λ i. (here i, bit i)))
+                ∙ sets.set
+          ])
+    ]
 
 -- the bits of one bucket are cleared
 pub may_contain-cleared : (words : List ℕ) (bucket other : ℕ) → other % length words ≢ bucket

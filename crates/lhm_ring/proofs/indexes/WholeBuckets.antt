@@ -5,6 +5,7 @@ use Rattle.lhm_ring.proofs.Names.{may_contain, CoversAll, HasChains, HoldsOthers
 use Rattle.lhm_ring.proofs.Names.{spots, Held, IsSome, Ptr}
 use Rattle.lhm_ring.proofs.indexes.{Chains.none-IsChain, Filters.may_contain-covered, IndexMoves.HasChains-moved, IndexTakes.HasOtherChains}
 use Rattle.lhm_ring.proofs.indexes.Filters.{CoversAll-cleared, CoversAll-entries, CoversAll-more, CoversAll-others, CoversAll-put}
+use Rattle.lhm_ring.proofs.indexes.Filters.{SetsBit-keeps, may_contain-cleared}
 use Rattle.lhm_ring.proofs.indexes.{Spots.PutsIn-spots, WholeIndex.HasChains-none, WholeIndex.HasChains-put, WholeIndex.get_or-none_indexed}
 
 pub Indexes-none : (i : BucketState) → HasNoChain i → length i.words ≡ length i.heads → Indexes i []
@@ -16,7 +17,7 @@ HasNoChain-indexed i h = get_or-none_indexed i.heads h.chains
 pub Indexes-put : {old : BucketState} (new : BucketState) (s : Spot) {xs : List Spot} (ys : List Spot) → Indexes old xs
     → 0 < length old.heads → s.link ≡ get_or old.heads (s.hash % length old.heads) None → PutsIn s xs ys
     → new.heads ≡ set old.heads (s.hash % length old.heads) (Some s.at) → SetsBit old.words new.words s.hash → Indexes new ys
-Indexes-put new s ys h some link p heads words = grind (arith, HasChains-put, CoversAll-put, CoversAll-more, length-set)
+Indexes-put new s ys h some link p heads words = grind (arith, HasChains-put, CoversAll-put, CoversAll-more, SetsBit-keeps, length-set)
 
 -- the bits of all but one
 module _ {K V : Type 0} (words : List ℕ) (before : List (Held (K × V))) (x : Held (K × V)) (after : List (Held (K × V))) where
@@ -61,33 +62,45 @@ module _ {K V : Type 0} {nodes : List (Held (K × V))} {p : Ptr} where
 pub record SetsHead (old new : BucketState) (bucket : ℕ) (head : Option Ptr) : Type 0 where
   pub within : bucket < length old.heads
   pub heads : new.heads ≡ set old.heads bucket head
-  pub others : (other : ℕ) → other % length old.heads ≢ bucket → may_contain new.words other ≡ may_contain old.words other
   pub same : IsSome head → new.words ≡ old.words
-  pub count : length new.words ≡ length old.words
+  pub cleared : head ≡ None → new.words ≡ set old.words bucket 0
 
 -- from the head of its bucket
 module _ {old new : BucketState} {bucket : ℕ} {head : Option Ptr} (sets : SetsHead old new bucket head) where
   long : length new.heads ≡ length old.heads
   long = ap length sets.heads ∙ length-set old.heads bucket head
 
-  CoversAll-head : (xs : List Spot) → HasChains new.heads xs → CoversAll old.words xs → (o : Option Ptr) → head ≡ o → CoversAll new.words xs
-  CoversAll-head xs w c (Some q) e = subst (λ (ws : List ℕ). CoversAll ws xs) (sym (sets.same (ap is_some e))) c
-  CoversAll-head xs w c None e =
-      let inside : bucket < length new.heads = omega (arith, long, sets.within) in
-      let none : get_or new.heads bucket None ≡ None =
-      grind (arith, get_or-set_same) in
-      grind (arith, CoversAll-cleared, long, filter-no_head)
+  count-words : (o : Option Ptr) → head ≡ o → length new.words ≡ length old.words
+  count-words (Some q) e = ap length (sets.same (ap is_some e))
+  count-words None e = ap length (sets.cleared e) ∙ length-set old.words bucket 0
+
+  module _ (xs : List Spot) (count : length old.words ≡ length old.heads) where
+    may_contain-others : head ≡ None → (other : ℕ) → other % length old.heads ≢ bucket
+        → may_contain new.words other ≡ may_contain old.words other
+    may_contain-others e other away =
+        ap (λ ws. may_contain ws other) (sets.cleared e)
+        ∙ may_contain-cleared old.words bucket other (λ k. away (ap (λ n. other % n) (sym count) ∙ k))
+
+    CoversAll-head : HasChains new.heads xs → CoversAll old.words xs → (o : Option Ptr) → head ≡ o → CoversAll new.words xs
+    CoversAll-head w c (Some q) e = subst (λ (ws : List ℕ). CoversAll ws xs) (sym (sets.same (ap is_some e))) c
+    CoversAll-head w c None e =
+        let inside : bucket < length new.heads = omega (arith, long, sets.within) in
+        let none : get_or new.heads bucket None ≡ None =
+        grind (arith, get_or-set_same) in
+        let empty = subst (λ (n : ℕ). filter (is_in n bucket) xs ≡ []) long (filter-no_head new.heads bucket xs w inside none) in
+        CoversAll-cleared old.words new.words (length old.heads) bucket (may_contain-others e) xs empty c
 
   pub HoldsOthers-head : {K V : Type 0} {nodes : List (Held (K × V))} {p : Ptr}
       → Indexes old (spots nodes) → HasOtherChains new.heads nodes p → HoldsOthers new nodes p
   HoldsOthers-head h w =
       let k = w.held in
       let c = subst (λ hs. CoversAll old.words (spots hs)) k.is h.covers in
+      let rest = CoversAll-rest old.words k.before k.node k.after c in
       record {
         held = k;
         others = record {
           chains = w.others;
-          covers = CoversAll-head (spots (k.before ++ k.after)) w.others (CoversAll-rest old.words k.before k.node k.after c) head refl;
-          count = sets.count ∙ h.count ∙ sym long;
+          covers = CoversAll-head (spots (k.before ++ k.after)) h.count w.others rest head refl;
+          count = count-words head refl ∙ h.count ∙ sym long;
         };
       }

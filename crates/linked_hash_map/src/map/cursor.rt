@@ -10,7 +10,7 @@ ghost use Rattle.linked_hash_map.specs.Hashers.{hash_by};
 ghost use Rattle.linked_hash_map.specs.Indexes.{IsIndex};
 ghost use Rattle.linked_hash_map.specs.Nodes.{bookmark_of, unvisited_of, current_of};
 ghost use Rattle.lhm_ring.specs.Nodes.{IsApart};
-ghost use Rattle.lhm_ring.specs.Pointer.{pointer_of, pointer_of_some, target};
+ghost use Rattle.lhm_ring.specs.Pointer.{pointer_of, pointer_of_some};
 ghost use Rattle.lhm_ring.specs.Positions.{IsAt, PlaceAt};
 ghost use Rattle.lhm_ring.specs.Ring.{IsHeld};
 
@@ -21,14 +21,6 @@ use lhm_ring::ring::Link;
 use lhm_ring::table::{Position, Table};
 use std::hash::{BuildHasher, Hash};
 use std::mem;
-
-/// Returns a link that leads nowhere.
-#[inline]
-fn nowhere() -> Link
-    ensures { target result ≡ None }
-{
-    Link::of(None::<Position<(), ()>>)
-}
 
 /// What a map has beside its pairs and its hasher: the mode, and where a cursor or an entry stands.
 #[derive(Clone, Copy)]
@@ -57,9 +49,9 @@ impl State {
         State {
             active: false,
             mode,
-            bookmark: nowhere(),
+            bookmark: Link::none(),
             unvisited: 0,
-            current: nowhere(),
+            current: Link::none(),
         }
     }
 
@@ -274,7 +266,7 @@ impl<K: Eq + Hash, V, S: BuildHasher> LinkedHashMap<K, V, S> {
         ensures valid { IsValid K.eq self.old }
     {
         let at = self.state.current().unwrap();
-        self.state.current = nowhere();
+        self.state.current = Link::none();
         self.table.value_mut(at)
     }
 
@@ -347,7 +339,7 @@ impl<K: Eq + Hash, V, S: BuildHasher> LinkedHashMap<K, V, S> {
         ensures stays_valid { IsValid K.eq self.new }
     {
         let at = self.state.current().unwrap();
-        self.state.current = nowhere();
+        self.state.current = Link::none();
         self.table.remove_at(at)
     }
 }

@@ -1,4 +1,4 @@
-//! Lookups of absent keys in a large map, each in constant time.
+//! Lookups of absent keys in a large map, each in constant time, also beside a long chain.
 
 use super::support::checks::{check, check_eq, given};
 use super::support::hashers::{BuildMultiple, KEY};
@@ -48,4 +48,35 @@ fn looks_up_absent_keys_in_a_large_map(rt: HostRuntime) {
     let mut map = many(&rt, rt.alloc());
     look_up_absent(&rt, &mut map);
     check_eq!(rt; (map.len(), map.capacity()), (MANY, MANY));
+}
+
+/// The hash is 2^32 times the key: one bucket, and upper four bits that are the key over 2^28.
+const ONE_BUCKET: BuildMultiple = BuildMultiple {
+    largest: u32::MAX,
+    factor: 4_294_967_296,
+};
+
+/// Makes a map whose keys are in one bucket. The upper four bits of their hashes are 0.
+fn in_one_bucket(rt: &impl Abort, alloc: Global) -> LargeMap {
+    let mut map = given!(rt; LinkedHashMap::with_capacity_and_hasher(alloc, 16_384, ONE_BUCKET));
+    for key in 0..16_384u64 {
+        check_eq!(rt; map.insert(key, ()), Ok(None));
+    }
+    map
+}
+
+/// Looks up and removes 2^24 absent keys of this bucket, whose upper four bits are 1: the filter
+/// lacks them. If either followed the chain, it would reach 2^38 pairs, and a test has a minute.
+fn remove_absent(rt: &impl Abort, map: &mut LargeMap) {
+    for key in 268_435_456..285_212_672u64 {
+        check!(rt; !map.contains_key(&key));
+        check_eq!(rt; map.remove(&key), None);
+    }
+}
+
+#[test]
+fn asks_the_filter_before_a_long_chain(rt: HostRuntime) {
+    let mut map = in_one_bucket(&rt, rt.alloc());
+    remove_absent(&rt, &mut map);
+    check_eq!(rt; map.len(), 16_384);
 }

@@ -192,3 +192,14 @@ fn a_slice_compares_each_item_of_a_boxed_slice_once(rt: HostRuntime) {
     let slice: &[Counting<'_>] = &items;
     check_eq!(rt; (map.get(slice), compared.get()), (Some(&1), 2));
 }
+
+#[test]
+fn a_slice_compares_each_item_of_a_lent_slice_once(rt: HostRuntime) {
+    let compared = Cell::new(0);
+    let items = two_items(&compared);
+    let slice: &[Counting<'_>] = &items;
+    let mut map = LinkedHashMap::new(rt.alloc());
+    check!(rt; map.insert(slice, 1).is_ok());
+    compared.set(0);
+    check_eq!(rt; (map.get(slice), compared.get()), (Some(&1), 2));
+}

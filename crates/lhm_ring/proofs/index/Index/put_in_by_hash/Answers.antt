@@ -7,11 +7,10 @@ returns-clause-first g c = λ before x after e at.
     let heads = c.args.self.now.heads in
     let own = c.requires.hash before x after e at in
     let bucket = c.bucket_of-bucket.ensures.of_hash ∙ ap (λ h. h % length heads) own in
-    let head : target c.to.result ≡ Some x.at = c.to.ensures ∙ ap Some (sym at) in
     record {
       nodes_is = c.set_link.ensures.held before x after e at
           ∙ ap (λ o. before ++ linked_to o x ∷ after) (c.put_first-behind.ensures.old ∙ ap (λ b. get_or heads b None) bucket);
-      heads_is = c.put_first-behind.ensures.heads ∙ (λ i. set heads (bucket i) (head i));
+      heads_is = c.put_first-behind.ensures.heads ∙ (λ i. set heads (bucket i) (Some (sym at i)));
       words_is = subst (λ (h : ℕ). SetsBit c.args.self.now.words c.put_first-behind.new.self.words h) own c.put_first-behind.ensures.words;
     }
 

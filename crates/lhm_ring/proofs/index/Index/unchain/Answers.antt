@@ -34,9 +34,8 @@ returns-in-None-clause-lacks g c =
     let sets : SetsHead c.args.self.now c.set_head.new.self c.bucket_of.result link = record {
       within = c.bucket_of.ensures.within;
       heads = new.heads;
-      others = new.others;
       same = new.same;
-      count = new.count;
+      cleared = new.cleared;
     } in
     HoldsOthers-head sets c.requires.indexed
     (subst (λ (hs : List (Option Ptr)). HasOtherChains hs c.args.ring.now.held (pointer_of c.args.found.at))

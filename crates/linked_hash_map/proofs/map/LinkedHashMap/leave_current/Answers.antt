@@ -9,14 +9,14 @@ pub value_mut-requires : goal.value_mut-requires
 value_mut-requires g c = held-at _ _ (IsAt-current c.self.inside.table.held c.self.invariant c.current.ensures c.unwrap-at.ensures)
 
 pub invariant_of-self-lent : goal.invariant_of-self-lent
-invariant_of-self-lent g c w = rw (c.nowhere-self-inside.ensures) (IsKept-left
+invariant_of-self-lent g c w = rw (c.none-self-inside.ensures) (IsKept-left
     (IsKept-same (bare-change (pointer_of c.unwrap-at.result) w c.self.inside.table.held) refl c.self.invariant)
     c.self.inside.state.active)
 
 pub returns : goal.returns
 returns g c =
     let m = c.self.inside in let at = IsAt-current m.table.held c.self.invariant c.current.ensures c.unwrap-at.ensures in
-    rw (← c.self.view_is, c.nowhere-self-inside.ensures) (
+    rw (← c.self.view_is, c.none-self-inside.ensures) (
       (
         refl,
         λ w. ap (λ o. map_of (with_value m.table (pointer_of c.unwrap-at.result) w)

@@ -19,7 +19,7 @@ others g c = c.remove_at.ensures.others _ (IsAt-index_of _ c.self.inside.table.h
 
 pub invariant_of-self : goal.invariant_of-self
 invariant_of-self g c =
-    rw (c.nowhere-self-inside.ensures)
+    rw (c.none-self-inside.ensures)
     (IsKept-left (IsKept-taken _ _ (others g c) (now g c).lies c.self.invariant (now g c).elsewhere
     c.remove_at.ensures.keeps.capacity) c.self.inside.state.active)
 
