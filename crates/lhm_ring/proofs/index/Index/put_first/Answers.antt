@@ -30,8 +30,10 @@ invariant_of-self g c =
       behind_heads = search rules;
       dealloc_count = v.dealloc_count;
       dealloc_at = v.dealloc_at;
-      bits = rw (map-set_taken leads_to b head c.put.ensures.items c.take-heads.ensures.items,
-      map-set_taken bits_of b word c.put-2.ensures.items c.take-words.ensures.items)
+      bits = rw (
+        map-set_taken leads_to b head c.put.ensures.items c.take-heads.ensures.items,
+        map-set_taken bits_of b word c.put-2.ensures.items c.take-words.ensures.items,
+      )
           (BitsHaveChains-set hs ws b (leads_to head) (set ws b word.bits)
           (subst (λ (z : BucketState). b < length z.heads) (sym c.self.view_is) c.requires.within)
           (λ n away. get_or-set_other ws b n word.bits 0 away) (λ none. search rules) v.bits);

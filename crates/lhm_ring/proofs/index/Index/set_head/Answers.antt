@@ -43,8 +43,10 @@ invariant_of-self g c =
       behind_heads = search rules;
       dealloc_count = v.dealloc_count;
       dealloc_at = v.dealloc_at;
-      bits = rw (map-set_taken leads_to b head c.put.ensures.items c.take-heads.ensures.items,
-      map-set_taken bits_of b word c.put-then-is_none.ensures.items c.take-words.ensures.items)
+      bits = rw (
+        map-set_taken leads_to b head c.put.ensures.items c.take-heads.ensures.items,
+        map-set_taken bits_of b word c.put-then-is_none.ensures.items c.take-words.ensures.items,
+      )
           (BitsHaveChains-set hs ws b (target c.args.head) (set ws b 0) within
           (λ n away. get_or-set_other ws b n 0 0 away) (λ none. get_or-set_same ws b 0 0 inside) v.bits);
     }
