@@ -1,4 +1,5 @@
-//! The workloads of the cache and of the set, and the same by a map that is used as one.
+//! The workloads of the cache and of the set, and the same by a map that is used as one. Those that
+//! look up or iterate are compiled by themselves, as those of `maps` are.
 ghost use Rattle.std.specs.Prelude.{◌<◌};
 
 use super::order::{Order, mix};
@@ -47,6 +48,7 @@ pub fn fill_cache_map(
 }
 
 /// Gets `n` keys of a cache that has them, and returns the exclusive or of their values.
+#[inline(never)]
 pub fn cache_hit<O: Order>(cache: &mut Cache, order: &mut O, n: u64) -> u64
     requires { 0 < n }
 {
@@ -60,6 +62,7 @@ pub fn cache_hit<O: Order>(cache: &mut Cache, order: &mut O, n: u64) -> u64
 }
 
 /// Does the same with a map.
+#[inline(never)]
 pub fn cache_map_hit<O: Order>(map: &mut CacheMap, order: &mut O, n: u64) -> u64
     requires { 0 < n }
 {
@@ -91,6 +94,7 @@ pub fn fill_set_map(alloc: Global, start: u64, n: u64) -> Result<SetMap, AllocEr
 }
 
 /// Looks `n` items up, and returns how many there are.
+#[inline(never)]
 pub fn set_contains<O: Order>(set: &Set, order: &mut O, n: u64) -> u64
     requires { 0 < n }
 {
@@ -104,6 +108,7 @@ pub fn set_contains<O: Order>(set: &Set, order: &mut O, n: u64) -> u64
 }
 
 /// Does the same with a map.
+#[inline(never)]
 pub fn set_map_contains<O: Order>(map: &SetMap, order: &mut O, n: u64) -> u64
     requires { 0 < n }
 {
@@ -117,6 +122,7 @@ pub fn set_map_contains<O: Order>(map: &SetMap, order: &mut O, n: u64) -> u64
 }
 
 /// Goes over a set, and returns the exclusive or of its items.
+#[inline(never)]
 pub fn set_iterate(set: &Set) -> u64 {
     let mut sink = 0;
     for item in set {
@@ -126,6 +132,7 @@ pub fn set_iterate(set: &Set) -> u64 {
 }
 
 /// Does the same with a map.
+#[inline(never)]
 pub fn set_map_iterate(map: &SetMap) -> u64 {
     let mut sink = 0;
     for key in map.keys() {

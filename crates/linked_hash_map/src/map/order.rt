@@ -24,7 +24,7 @@ impl<K: Eq + Hash, V, S: BuildHasher> LinkedHashMap<K, V, S> {
     /// assert_eq!(rt; map.back(), Some((&'x', &1)));
     /// assert!(rt; !map.move_to_back(&'z'));
     /// ```
-    #[inline]
+    #[inline(always)]
     pub fn move_to_back<Q: Equivalent<K>>(&mut self, key: Q) -> bool
         ensures found { result ≡ is_some (find Q.equivalent self.old.pairs key) }
         ensures pairs { self.new.pairs ≡ to_back_as_is Q.equivalent self.old.pairs key }
