@@ -62,8 +62,8 @@ def counts_of(batches):
     """Returns of each of some things how often it has to be drawn, and how often it is."""
     lines = lines_of(batches)
     chances = collections.Counter(batch.refusals.chance for batch in batches)
-    runs = collections.Counter((kind, keys) for batch in batches for keys in (keys_of(batch),)
-                               for kind in map(kind_of, batch.runs))
+    runs = collections.Counter((kind_of(run), keys) for batch, keys in zip(batches, map(keys_of, batches))
+                               for run in batch.runs)
     huge = sorted((pairs_of(run) for batch in batches for run in batch.runs), reverse=True)
     return {
         "runs that forget nothing": (60, sum(not any(map(forgets, lines_of([it]))) for it in batches)),
@@ -95,7 +95,8 @@ def without(batches, is_left_out):
 def tries(batches):
     """Returns tries of `missing`, each of batches that lack something: what is tried, what has to
     come out, and what does."""
-    chosen = lambda is_kept: [it for it in batches if is_kept(it)]
+    def chosen(is_chosen):
+        return list(filter(is_chosen, batches))
     maps = [it._replace(runs=[run for run in it.runs if kind_of(run) == "maps"]) for it in batches]
     lacking = [
         ("no chance but of 1/50", "requests refused with a chance of 0.5",
@@ -116,4 +117,4 @@ def tries(batches):
         ("no batch of many keys", "debug on many keys", chosen(lambda it: keys_of(it) == "few")),
     ]
     return [("what is drawn", [], missing(batches)),
-            *((what, True, wanted in missing(lacking)) for what, wanted, lacking in lacking)]
+            *((what, True, wanted in missing(left)) for what, wanted, left in lacking)]
