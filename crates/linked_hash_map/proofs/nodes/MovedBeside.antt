@@ -1,6 +1,6 @@
 -- A node that is moved before another, or behind all.
 use Rattle.linked_hash_map.proofs.Names.{Bool, IfSome, IsTrue, List, None, Option, Some, ap, append_assoc, arith, cond, drop, filter}
-use Rattle.linked_hash_map.proofs.Names.{length, nat_lt, not, option_to_list, remove, slice_get, subst, sym, take, ℕ, ◌++◌, ◌+◌, ◌-◌, ◌∙◌}
+use Rattle.linked_hash_map.proofs.Names.{length, nat_lt, not, option_to_list, remove, slice_get, subst, sym, take, ℕ, ◌++◌, ◌-◌, ◌∙◌}
 use Rattle.linked_hash_map.proofs.Names.{◌≡◌, CutAt-IsAt, IsPermutation-to_front_at, map-to_before_at, pointer_of, pointer_of_some, PlaceAt}
 use Rattle.linked_hash_map.proofs.Names.{index_of, to_before_at, to_front_at, Held, IsHeld, HasKey, Position, IsKept, VisitState, bare}
 use Rattle.linked_hash_map.proofs.Names.{bare_node, pairs_of, take-append-drop, IsPermutation-append_comm, IsPermutation-append_left}
