@@ -1,6 +1,5 @@
 pub mod BlockPointers
 pub mod BlockValues
-pub mod BodiesChanged
 pub mod BucketParts
 pub mod ChunkParts
 pub mod ChunkPlaces

@@ -15,7 +15,6 @@ pub mod ReadAtPosition
 pub mod RingCells
 pub mod RingNodes
 pub mod RingSpans
-pub mod SameNodes
 pub mod Spans
 pub mod SpareRows
 pub mod Splicing

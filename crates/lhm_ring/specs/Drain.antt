@@ -6,6 +6,7 @@ use Rattle.lhm_ring.specs.declared.ring.Links.{Links}
 use Rattle.lhm_ring.specs.declared.drain.Spliced.{Spliced}
 use Rattle.lhm_ring.specs.declared.pointer.Link.{Link}
 use Rattle.std.specs.Borrow.{GName}
+use Rattle.lhm_ring.specs.ContentLoan.{cleared}
 use Rattle.lhm_ring.specs.declared.drain.Drain.{Drain}
 use Rattle.lhm_ring.specs.Nodes.{Cell, IsApart}
 use Rattle.lhm_ring.specs.Links.{AreLinked, IsSpareList, next_at, prev_at, is_there, IsThere}
@@ -61,7 +62,7 @@ module _ {B : Type 0} where
 
   -- in ds all nodes of the ring are spare
   abbrev pub SplicesRing : List (Cell Links B) → Link → ℕ → List (Cell Links B) → Spliced → Type 0
-  SplicesRing cs spare n ds s = (m : ℕ) → IsOwned cs spare n m → IsOwned ds s.spare 0 (m + n)
+  SplicesRing cs spare n ds s = (m : ℕ) → IsOwned cs spare n m → IsOwned (cleared ds) s.spare 0 (m + n)
 
   -- what the ring held is in the nodes ds, from s.first to s.last
   abbrev pub KeepsRow : List (Cell Links B) → Link → ℕ → List (Cell Links B) → Spliced → Type 0

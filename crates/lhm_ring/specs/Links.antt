@@ -119,6 +119,8 @@ module _ {B : Type 0} where
     pub there : AllByRecursion (IsThere cs) (null_ptr ∷ (ps ++ ss))
     pub apart : IsApart (null_ptr ∷ (ps ++ ss))
     pub count : length cs ≡ suc (length ps + length ss)
+    -- a spare node holds nothing
+    pub empty : AllByRecursion (λ p. content_at cs p ≡ None) ss
 
   -- the n pointers after p
   unfoldable pub follow : List (Cell Links B) → ℕ → Ptr → List Ptr

@@ -31,6 +31,7 @@ pub mod playlist;
 pub mod prices;
 pub mod printing;
 pub mod queue;
+pub mod recursive;
 pub mod refusal;
 pub mod replaying;
 pub mod retains;

@@ -1,5 +1,5 @@
 -- A row of links: it is cut in two and put together, and its pointers and contents are read.
-use Rattle.lhm_ring.proofs.Names.{List, [], ap, arith, length, refl, ◌++◌, ◌∙◌, ◌∷◌, ◌≡◌, AreLinked, AreNeighbours, follow, listed, Cell}
+use Rattle.lhm_ring.proofs.Names.{List, [], arith, refl, ◌++◌, ◌∷◌, ◌≡◌, AreLinked, AreNeighbours, listed, Cell}
 use Rattle.lhm_ring.proofs.{Names.Links, Names.Ptr, lists.Last.first_from, lists.Last.last_from}
 
 -- a row of links, cut before p
@@ -23,12 +23,6 @@ module _ {B : Type 0} where
         → AreLinked cs (p ∷ ys) → AreLinked cs (x ∷ (xs ++ p ∷ ys))
     AreLinked-glued x [] p ys l e m = (e, m)
     AreLinked-glued x (y ∷ xs) p ys l e m = (l.0, AreLinked-glued y xs p ys l.1 e m)
-
-    -- the pointers after p are those that the row names
-    pub follow-row : (x : Ptr) (xs : List Ptr) (z : Ptr) → AreLinked cs (x ∷ (xs ++ z ∷ [])) → follow cs (length xs) x ≡ xs
-    unfolding follow
-    follow-row x [] z l = refl
-    follow-row x (y ∷ ys) z l = ap (λ q. q ∷ follow cs (length ys) q) l.0.0 ∙ ap (λ qs. y ∷ qs) (follow-row y ys z l.1)
 
   pub listed-append : (cs : List (Cell Links B)) (xs ys : List Ptr) → listed cs (xs ++ ys) ≡ listed cs xs ++ listed cs ys
   unfolding listed

@@ -6,6 +6,8 @@ use Rattle.lhm_ring.proofs.lists.Apart.{IsApart-inserted, IsFresh, IsFresh-head,
 use Rattle.lhm_ring.proofs.lists.ForAll.{AllByRecursion-append, AllByRecursion-left, AllByRecursion-map, AllByRecursion-right}
 use Rattle.lhm_ring.proofs.memory.OneNodeChanged.{AllByRecursion-content_other, AreLinked-other, IsSpareList-other, listed-other}
 use Rattle.lhm_ring.proofs.rings.RingCells.{cell_at-ring_cells, same_ptr-null}
+use Rattle.lhm_ring.proofs.Names.{content_of, body_of}
+use Rattle.lhm_ring.proofs.memory.OneNodeChanged.{AreEmpty-other}
 
 false_true : false ≡ true → ⊥
 false_true e = cc
@@ -84,6 +86,10 @@ module _ {B : Type 0} (e : Ends) (nodes : List (Cell Links B)) (p : Ptr) (l : Li
       );
       apart = IsApart-inserted (null_ptr ∷ ps) p ss IsFresh-added r.apart;
       count = ap (λ n. suc n) r.count ∙ omega arith;
+      empty = (
+        ap (λ z. content_of p (links_of z) (body_of z)) cell_at-added,
+        AreEmpty-other cs ds p cell_at-other ss (AllByRecursion-right P ps ss IsFresh-added.1) r.empty,
+      );
     }
 
     pub listed-added : listed ds ps ≡ listed cs ps

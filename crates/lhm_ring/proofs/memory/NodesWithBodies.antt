@@ -1,9 +1,9 @@
--- Nodes with the bodies of a run in them, and nodes with none.
-use Rattle.lhm_ring.proofs.Names.{List, None, Option, Some, [], arith, cond, false, length, refl, true, ℕ, ◌∙◌, ◌∷◌, ◌≡◌, bodies_of}
-use Rattle.lhm_ring.proofs.Names.{body_in, cleared, with_bodies, without_body, HasContent, IsOwned, Cell, IsApart, body_at, cell, change}
-use Rattle.lhm_ring.proofs.Names.{links_at, pointers, same_ptr, with_body, Link, Links, AllByRecursion, Ptr}
+-- Nodes with the bodies of a run in them.
+use Rattle.lhm_ring.proofs.Names.{List, None, Option, Some, [], arith, cond, false, refl, true, ◌∙◌, ◌∷◌, ◌≡◌, bodies_of}
+use Rattle.lhm_ring.proofs.Names.{body_in, with_bodies, without_body, Cell, IsApart, body_at, cell, change}
+use Rattle.lhm_ring.proofs.Names.{links_at, pointers, same_ptr, with_body, Ptr}
 use Rattle.lhm_ring.proofs.lists.Apart.{IsApart-tail, IsFresh, IsFresh-head, same_ptr-equal, same_ptr-reflexive, same_ptr-symmetric}
-use Rattle.lhm_ring.proofs.memory.BodiesChanged.{IsOwned-rebodied, body_at-rebodied, links_at-rebodied}
+use Rattle.lhm_ring.specs.Rebodied.{body_at-rebodied, links_at-rebodied}
 
 module _ {B : Type 0} where
   body_in-without_body : (p : Ptr) (run : List (Ptr × Option B)) → body_in (without_body p run) p ≡ None
@@ -59,12 +59,3 @@ module _ {L B : Type 0} where
             (same_ptr-symmetric p c.at ∙ n) i) ∷ with_bodies-without_body p run cs
             (IsApart-tail c.at (pointers cs) d) i
       ]) refl
-
-AllByRecursion-none : {X : Type 0} (P : X → Type 0) (xs : List X) → length xs ≡ 0 → AllByRecursion P xs
-AllByRecursion-none P [] e = tt
-AllByRecursion-none P (x ∷ xs) e = absurd (omega arith)
-
-module _ {B : Type 0} (cs : List (Cell Links B)) where
-  pub IsOwned-cleared : (spare : Link) (n m : ℕ) → n ≡ 0 → IsOwned cs spare n m → IsOwned (cleared cs) spare n m
-  IsOwned-cleared spare n m e ok =
-      IsOwned-rebodied (λ _ _. None) cs spare n m ok (AllByRecursion-none (HasContent (cleared cs)) ok.held_pointers (ok.held_count ∙ e))

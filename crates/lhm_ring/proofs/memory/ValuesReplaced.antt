@@ -5,9 +5,10 @@ use Rattle.lhm_ring.proofs.Names.{ring_list, ring_pointers, Cell, IsApart, body_
 use Rattle.lhm_ring.proofs.Names.{held, pair, revalued, AreLent, value_at, Link, Ends, Links, AllByRecursion, Ptr, null_ptr}
 use Rattle.lhm_ring.proofs.lists.Apart.{IsApart-added, IsApart-none, IsApart-tail, IsFresh, IsFresh-head, same_ptr-equal}
 use Rattle.lhm_ring.proofs.lists.{Apart.same_ptr-reflexive, ForAll.AllByRecursion-map, Options.none_some}
-use Rattle.lhm_ring.proofs.memory.BodiesChanged.{IsOwned-rebodied, body_at-rebodied, links_at-rebodied, pointers-rebodied, rebodied}
+use Rattle.lhm_ring.specs.Rebodied.{IsOwned-rebodied, body_at-rebodied, links_at-rebodied, pointers-rebodied, rebodied}
 use Rattle.lhm_ring.proofs.rings.Contents.{Holds-content, IsAt-content, at-content, pair-content}
-use Rattle.lhm_ring.proofs.rings.{HeldPointers.AllByRecursion-followed, HeldPointers.IsApart-ring_list, SameNodes.follow-same}
+use Rattle.lhm_ring.proofs.rings.HeldPointers.{AllByRecursion-followed, IsApart-ring_list}
+use Rattle.lhm_ring.specs.SameNodes.{follow-same}
 
 -- whether p is one of ps
 abbrev pub among : List Ptr → Ptr → Bool
@@ -152,7 +153,7 @@ module _ {K V : Type 0} where
       listed-written (p ∷ ps) a = grind (arith, content_at-written, one_of-written, listed-written ps a.1)
 
       IsOwned-written : (spare : Link) (n m : ℕ) → IsOwned cs spare n m → IsOwned ds spare n m
-      IsOwned-written spare n m ok = IsOwned-rebodied body cs spare n m ok
+      IsOwned-written spare n m ok = IsOwned-rebodied body (λ q. sym (written_body-none (keep q) hs q)) cs spare n m ok
           (AllByRecursion-map (HasContent cs) (HasContent ds) HasContent-written ok.held_pointers ok.ring.held)
 
       ring_list-written : (n : ℕ) → AllByRecursion (λ p. keep p ≡ true) (ring_pointers cs n)

@@ -11,8 +11,9 @@ use Rattle.lhm_ring.proofs.rings.Contents.{Holds-content, at-content, hash-conte
 use Rattle.lhm_ring.proofs.rings.HeldPointers.{IsApart-ring_list, pointers_of, same_ptr-fresh}
 use Rattle.lhm_ring.proofs.rings.{Moves.IsFresh-spares, RingNodes.NodeAt-held, Writes.reader-with_links_same}
 use Rattle.lhm_ring.proofs.rings.ReadAtPosition.{content_at-held, links_at-held, pair-held}
-use Rattle.lhm_ring.proofs.rings.SameNodes.{IsOwned-same, SameLink, follow-same}
+use Rattle.lhm_ring.specs.SameNodes.{IsOwned-same, SameLink, follow-same}
 use Rattle.lhm_ring.proofs.rings.Writes.{body_at-with_links, cell_at-change_other, length-change, links_at-with_links}
+use Rattle.lhm_ring.proofs.Names.{AllByRecursion, None}
 
 -- the same nodes and the same order, except that p holds u in place of t
 pub record ChangesAt {B : Type 0} (cs ds : List (Cell Links B)) (p : Ptr) (t u : Held B) : Type 0 where
@@ -32,6 +33,11 @@ module _ {B : Type 0} {cs ds : List (Cell Links B)} {p : Ptr} {t u : Held B} (j 
     | false ↦ λ n. (h.0, j.content q n ∙ h.1)
   ]) refl
 
+  AreEmpty-changed : (ss : List Ptr) → AllByRecursion (λ q. same_ptr p q ≡ false) ss
+      → AllByRecursion (λ q. content_at cs q ≡ None) ss → AllByRecursion (λ q. content_at ds q ≡ None) ss
+  AreEmpty-changed [] f a = tt
+  AreEmpty-changed (q ∷ qs) f a = (j.content q f.0 ∙ a.0, AreEmpty-changed qs f.1 a.1)
+
   pub IsOwned-changed : {spare : Link} {n m : ℕ} {v : State B} {total : ℕ} → IsOwned cs spare n m
       → state (ring_list cs n) m total ≡ v → IsHeld v.held p → IsOwned ds spare n m
   IsOwned-changed ok w h =
@@ -39,6 +45,7 @@ module _ {B : Type 0} {cs ds : List (Cell Links B)} {p : Ptr} {t u : Held B} (j 
       (HasContent ds) HasContent-changed ok.held_pointers ok.ring.held)
       (AllByRecursion-map (λ q. same_ptr p q ≡ false) (SameLink cs ds) j.link ok.spare_pointers
       (IsFresh-spares ok.ring (NodeAt-held ok w p h)))
+      (AreEmpty-changed ok.spare_pointers (IsFresh-spares ok.ring (NodeAt-held ok w p h)) ok.ring.empty)
 
   module _ (f : Held B → Held B) (fx : f t ≡ u) where
     pointer : t.at ≡ p

@@ -1,22 +1,13 @@
 -- What a node holds, as its links and its body say.
 use Rattle.lhm_ring.proofs.Names.{List, None, Option, Some, ap, refl, sym, ◌∙◌, ◌≡◌, content_at, content_of, link_of, Cell, Holds, IsAt}
-use Rattle.lhm_ring.proofs.Names.{body_at, links_at, Held, held, Links, Ptr}
-use Rattle.lhm_ring.proofs.lists.Options.{Some-injective, none_some}
-
--- what the links and the body say of t
-record Read {B : Type 0} (p : Ptr) (o : Option Links) (b : Option B) (t : Held B) : Type 0 where
-  links : Links
-  body : B
-  links_are : o ≡ Some links
-  body_is : b ≡ Some body
-  is : t ≡ held p links.hash (link_of (Some links)) body
+use Rattle.lhm_ring.proofs.Names.{body_at, links_at, Held, Links, Ptr}
+use Rattle.lhm_ring.proofs.lists.Options.{Some-injective}
+use Rattle.lhm_ring.specs.Refill.{Read, Read-content_of}
 
 module _ {B : Type 0} where
-  Read-content_of : (p : Ptr) (o : Option Links) (b : Option B) (t : Held B) → content_of p o b ≡ Some t → Read p o b t
-  Read-content_of p None b t e = absurd (none_some t e)
-  Read-content_of p (Some l) None t e = absurd (none_some t e)
-  Read-content_of p (Some l) (Some x) t e =
-      record { links = l; body = x; links_are = refl; body_is = refl; is = sym (Some-injective (held p l.hash (link_of (Some l)) x) t e) }
+  pub content_of-none : (p : Ptr) (o : Option Links) → content_of {B = B} p o None ≡ None
+  content_of-none p None = refl
+  content_of-none p (Some l) = refl
 
   -- what is read at p, where t is held
   module _ (cs : List (Cell Links B)) (p : Ptr) {t : Held B} (c : content_at cs p ≡ Some t) where

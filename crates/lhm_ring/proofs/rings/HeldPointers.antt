@@ -1,14 +1,12 @@
 -- The pointers of what is held: they are apart, so that each is that of one triple.
-use Rattle.lhm_ring.proofs.Names.{List, [], ap, arith, false, map, refl, subst, sym, ℕ, ◌++◌, ◌∙◌, ◌∷◌, ◌≡◌, HasContent, IsOwned, follow}
-use Rattle.lhm_ring.proofs.Names.{listed, one_of, ring_list, ring_pointers, Cell, IsApart, same_ptr, AtHeld, Held, IsHeld, State, state}
+pub use Rattle.lhm_ring.specs.Refill.{pointers-listed, pointers_of}
+use Rattle.lhm_ring.proofs.Names.{List, [], arith, false, subst, sym, ℕ, ◌++◌, ◌∙◌, ◌∷◌, ◌≡◌, HasContent, IsOwned, follow}
+use Rattle.lhm_ring.proofs.Names.{ring_list, ring_pointers, Cell, IsApart, same_ptr, AtHeld, Held, IsHeld, State, state}
 use Rattle.lhm_ring.proofs.Names.{Link, Links, map-append, AllByRecursion, Ptr, null_ptr}
 use Rattle.lhm_ring.proofs.lists.Apart.{IsApart-left, IsApart-removed, IsApart-tail, IsFresh, IsFresh-head, same_ptr-reflexive}
-use Rattle.lhm_ring.proofs.{lists.LinkRows.follow-row, rings.Contents.at-content}
+use Rattle.lhm_ring.specs.SameNodes.{follow-row}
 
 module _ {B : Type 0} where
-  abbrev pub pointers_of : List (Held B) → List Ptr
-  pointers_of = map (λ t. t.at)
-
   pub pointers_of-append : (xs ys : List (Held B)) → pointers_of (xs ++ ys) ≡ pointers_of xs ++ pointers_of ys
   pointers_of-append xs ys = map-append (λ (t : Held B). t.at) xs ys
 
@@ -40,12 +38,6 @@ module _ {B : Type 0} where
   pub AtHeld-alone : {hs : List (Held B)} {p : Ptr} → IsApart (pointers_of hs) → (h : IsHeld hs p)
       → AtHeld hs p (λ xs t ys. (h.node ≡ t) × (h.after ≡ ys))
   AtHeld-alone {hs} d h xs t ys e at = alike hs h.before h.after xs ys d h.is e (h.at_is ∙ sym at)
-
-  pub pointers-listed : (cs : List (Cell Links B)) (ps : List Ptr) → AllByRecursion (HasContent cs) ps → pointers_of (listed cs ps) ≡ ps
-  unfolding listed
-  pointers-listed cs [] a = refl
-  pointers-listed cs (p ∷ ps) a = ap (λ o. pointers_of (one_of o ++ listed cs ps)) a.0.1
-      ∙ (λ i. at-content cs p a.0.1 i ∷ pointers-listed cs ps a.1 i)
 
   module _ {cs : List (Cell Links B)} {spare : Link} {n m : ℕ} (ok : IsOwned cs spare n m) where
     pub held_pointers-follow : ok.held_pointers ≡ follow cs n null_ptr

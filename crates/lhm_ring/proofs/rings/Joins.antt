@@ -7,7 +7,8 @@ use Rattle.lhm_ring.proofs.lists.Apart.{IsFresh-middle, same_ptr-flip, same_ptr-
 use Rattle.lhm_ring.proofs.lists.ForAll.{AllByRecursion-always, AllByRecursion-append, AllByRecursion-left, AllByRecursion-map}
 use Rattle.lhm_ring.proofs.lists.{ForAll.AllByRecursion-right, LinkRows.AreLinked-glued, LinkRows.RowCut-linked}
 use Rattle.lhm_ring.proofs.lists.Last.{AllByRecursion-last, first_from, last_from}
-use Rattle.lhm_ring.proofs.rings.SameNodes.{IsSpareList-same, SameLink}
+use Rattle.lhm_ring.specs.SameNodes.{IsSpareList-same, SameLink}
+use Rattle.lhm_ring.proofs.Names.{content_at, None}
 
 -- a is none of those that lead on, and b none of those that are led to
 abbrev pub AvoidsSource : Ptr → List Ptr → Type 0
@@ -58,6 +59,10 @@ module _ {B : Type 0} where
 
     pub AllByRecursion-content_unchanged : (ps : List Ptr) → AllByRecursion (HasContent cs) ps → AllByRecursion (HasContent ds) ps
     AllByRecursion-content_unchanged = AllByRecursion-map (HasContent cs) (HasContent ds) (λ p h. (h.0, j.content p ∙ h.1))
+
+    pub AreEmpty-unchanged : (ps : List Ptr) → AllByRecursion (λ p. content_at cs p ≡ None) ps
+        → AllByRecursion (λ p. content_at ds p ≡ None) ps
+    AreEmpty-unchanged = AllByRecursion-map (λ p. content_at cs p ≡ None) (λ p. content_at ds p ≡ None) (λ p h. j.content p ∙ h)
 
     pub AllByRecursion-there_unchanged : (ps : List Ptr) → AllByRecursion (IsThere cs) ps → AllByRecursion (IsThere ds) ps
     AllByRecursion-there_unchanged = AllByRecursion-map (IsThere cs) (IsThere ds) (λ p h. j.there p ∙ h)

@@ -13,6 +13,8 @@ use Rattle.lhm_ring.proofs.rings.{Contents.at-content, Joins.AreLinked-removed, 
 use Rattle.lhm_ring.proofs.rings.Joins.{AllByRecursion-content_unchanged, AllByRecursion-there_unchanged, AreLinked-inserted}
 use Rattle.lhm_ring.proofs.rings.RingCells.{IsJoined-same, led_to-none, led_to-some}
 use Rattle.lhm_ring.proofs.rings.RingNodes.{Found-held, ListCut-listed, NodeAt-held, ring_list-listed, ring_split}
+use Rattle.lhm_ring.proofs.Names.{None}
+use Rattle.lhm_ring.proofs.rings.Joins.{AreEmpty-unchanged}
 
 -- one of some pointers, among the others than another one
 split_others : (xs : List Ptr) (p : Ptr) (ys us : List Ptr) (q : Ptr) (vs : List Ptr) → xs ++ p ∷ ys ≡ us ++ q ∷ vs
@@ -194,6 +196,8 @@ module _ {B : Type 0} {cs : List (Cell Links B)} {ps : List Ptr} {spare : Option
               (IsApart-inserted (null_ptr ∷ ahead) p (behind ++ ss) (subst (λ qs. IsFresh p (null_ptr ∷ qs)) same IsFresh-others)
               (subst (λ qs. IsApart (null_ptr ∷ qs)) same IsApart-others));
           count = l.count ∙ k.count ∙ j.count ∙ ring.count ∙ ap (λ n. suc (n + length ss)) length-placed;
+          empty = kept (λ zs. AllByRecursion (λ q. content_at zs q ≡ None) ss) (AreEmpty-unchanged j ss)
+              (AreEmpty-unchanged k ss) (AreEmpty-unchanged l ss) r.empty;
         }
 
         pub listed-placed : (t : Held B) → content_at cs p ≡ Some t

@@ -19,6 +19,9 @@ use Rattle.lhm_ring.proofs.rings.{Joins.AllByRecursion-content_unchanged, Joins.
 use Rattle.lhm_ring.proofs.rings.{Moves.IsFresh-spares, Moves.IsJoined-past, Moves.listed-one, RingCells.links_at-ring_cells}
 use Rattle.lhm_ring.proofs.rings.{RingCells.ring_cells-with_body, RingCells.ring_cells-with_links, RingNodes.CutAt, RingNodes.Found-held}
 use Rattle.lhm_ring.proofs.rings.{RingNodes.ring_list-listed, RingNodes.ring_split, Writes.IsAt-there, Writes.links_at-with_links}
+use Rattle.lhm_ring.proofs.rings.Joins.{AreEmpty-unchanged}
+use Rattle.lhm_ring.proofs.memory.OneNodeChanged.{AreEmpty-other, body_at-with_body}
+use Rattle.lhm_ring.proofs.rings.{Contents.content_of-none, Writes.body_at-with_links}
 
 -- the first spare node p is given links, a hash and a body, and comes last
 module _ {B : Type 0} {cs ds es fs : List (Cell Links B)} {ps : List Ptr} {spare : Option Ptr} {p : Ptr} {ss : List Ptr}
@@ -68,6 +71,8 @@ module _ {B : Type 0} {cs ds es fs : List (Cell Links B)} {ps : List Ptr} {spare
         (r.there.0, AllByRecursion-put_back)));
     apart = IsApart-put_back;
     count = l.count ∙ k₁.count ∙ o.count ∙ r.count ∙ ap (λ n. suc n) (omega (arith, length-append ps (p ∷ [])));
+    empty = AreEmpty-unchanged l ss (AreEmpty-unchanged k₁ ss
+        (AreEmpty-other cs ds p o.other ss IsFresh-chain r.empty.1));
   }
 
   pub listed-put_back : listed fs (ps ++ p ∷ []) ≡ listed cs ps ++ t ∷ []
@@ -86,8 +91,8 @@ module _ {B : Type 0} {cs ds es : List (Cell Links B)} {ps : List Ptr} {spare : 
   length-rest : length ps ≡ suc (length rest)
   length-rest = ap length s.is ∙ omega (arith, length-append s.before (p ∷ s.after), length-append s.before s.after)
 
-  pub IsRing-unlinked : IsRing es rest (Some p) (p ∷ ss)
-  IsRing-unlinked =
+  pub IsRing-unlinked : content_at es p ≡ None → IsRing es rest (Some p) (p ∷ ss)
+  IsRing-unlinked nothing =
       let apart = IsFresh-others ring s in
       record {
         linked = AreLinked-other ds es p o.other (null_ptr ∷ (rest ++ null_ptr ∷ [])) (
@@ -108,6 +113,11 @@ module _ {B : Type 0} {cs ds es : List (Cell Links B)} {ps : List Ptr} {spare : 
             (AllByRecursion-there_unchanged j qs (AllByRecursion-shifted ring s));
         apart = IsApart-shifted ring s;
         count = let a = o.count ∙ j.count ∙ ring.count in let b = length-rest in omega arith;
+        empty = (
+          nothing,
+          AreEmpty-other ds es p o.other ss (IsFresh-spares ring s)
+              (AreEmpty-unchanged j ss ring.empty),
+        );
       }
 
   pub listed-unlinked : listed es rest ≡ listed cs s.before ++ listed cs s.after
@@ -256,10 +266,18 @@ module _ {B : Type 0} {cs : List (Cell Links B)} {spare : Link} {n m : ℕ} {v :
             (OnlyAt-with_body p None ds a.0 a.1)) (subst (λ z. OnlyAt c₁ z p) (sym e₂)
             (OnlyAt-with_links p (chaining_to spare b.0) c₁ b.0 b.1))
 
+        holds-nothing : content_at c₂ p ≡ None
+        holds-nothing =
+            let a = IsAt-node in let b = IsAt-unlinked in
+            ap (λ z. content_at z p) e₂
+            ∙ ap (content_of p (links_at (with_links p (chaining_to spare b.0) c₁) p))
+            (body_at-with_links p (chaining_to spare b.0) c₁ b.1 p ∙ ap (λ z. body_at z p) e₁ ∙ body_at-with_body p None ds a.0 a.1)
+            ∙ content_of-none p (links_at (with_links p (chaining_to spare b.0) c₁) p)
+
         left : IsRing c₂ rest_of (Some p) (p ∷ ok.spare_pointers)
         left = IsRing-unlinked ok.ring s past only
             (ap link_of (links_at-written p (chaining_to spare IsAt-unlinked.0) c₁ IsAt-unlinked.1
-            e₂))
+            e₂)) holds-nothing
 
         length-shorter : length rest_of ≡ n - 1
         length-shorter = let a = sym (ap length s.is) ∙ ok.held_count in

@@ -6,7 +6,8 @@ use Rattle.lhm_ring.proofs.Names.{Holds, IsAt, body_at, body_of, cell, cell_at, 
 use Rattle.lhm_ring.proofs.Names.{with_body, with_links, led_to, target, Link, Ends, Links, AllByRecursion, Ptr, block_ptr, null_ptr}
 use Rattle.lhm_ring.proofs.lists.{Apart.IsApart-added, Apart.IsApart-none, ForAll.AllByRecursion-map}
 use Rattle.lhm_ring.proofs.lists.Options.{Some-injective, none_some}
-use Rattle.lhm_ring.proofs.rings.{Lookup.AllByRecursion-at, Writes.IsAt-there, SameNodes.IsSpareList-same, SameNodes.SameLink}
+use Rattle.lhm_ring.proofs.rings.{Lookup.AllByRecursion-at, Writes.IsAt-there}
+use Rattle.lhm_ring.specs.SameNodes.{IsSpareList-same, SameLink}
 
 -- where a link leads
 pub led_to-apart : (p : Ptr) → same_ptr null_ptr p ≡ false → led_to p ≡ Some p

@@ -1,8 +1,9 @@
 -- The nodes of a ring, what it lists, and where it is cut.
+pub use Rattle.lhm_ring.specs.Refill.{ring_list-listed}
 use Rattle.lhm_ring.proofs.Names.{List, Option, Some, [], ap, arith, length, refl, subst, suc, sym, ℕ, ◌++◌, ◌+◌, ◌^◌, ◌∙◌, ◌∷◌, ◌≡◌, ◌≤◌}
 use Rattle.lhm_ring.proofs.Names.{HasContent, IsOwned, IsRing, content_at, follow, listed, one_of, ring_list, Cell, AtHeld, Held, IsHeld}
-use Rattle.lhm_ring.proofs.Names.{State, state, Link, Links, AllByRecursion, Ptr, null_ptr}
-use Rattle.lhm_ring.proofs.lists.{ForAll.AllByRecursion-right, LinkRows.follow-row, Splits.SplitAround}
+use Rattle.lhm_ring.proofs.Names.{State, state, Link, Links, AllByRecursion, Ptr}
+use Rattle.lhm_ring.proofs.lists.{ForAll.AllByRecursion-right, Splits.SplitAround}
 use Rattle.lhm_ring.proofs.rings.Contents.{at-content}
 
 module _ {B : Type 0} where
@@ -64,10 +65,6 @@ module _ {B : Type 0} where
 
 -- what a ring lists
 module _ {B : Type 0} where
-  pub ring_list-listed : {cs : List (Cell Links B)} {ps : List Ptr} {spare : Option Ptr} {ss : List Ptr} {n : ℕ}
-      → IsRing cs ps spare ss → length ps ≡ n → ring_list cs n ≡ listed cs ps
-  ring_list-listed {cs} {ps} r e = ap (ring_list cs) (sym e) ∙ ap (listed cs) (follow-row cs null_ptr ps null_ptr r.linked)
-
   pub ring_list-none : (cs : List (Cell Links B)) (n : ℕ) → n ≡ 0 → ring_list cs n ≡ []
   unfolding follow listed
   ring_list-none cs n e = ap (ring_list cs) e

@@ -8,7 +8,8 @@ use Rattle.lhm_ring.proofs.lists.{ForAll.AllByRecursion-left, ForAll.AllByRecurs
 use Rattle.lhm_ring.proofs.lists.LinkRows.{RowCut-linked, listed-append}
 use Rattle.lhm_ring.proofs.memory.OneNodeChanged.{AllByRecursion-content_other, links_at-with_body, listed-other}
 use Rattle.lhm_ring.proofs.rings.Contents.{Holds-content, IsAt-content}
-use Rattle.lhm_ring.proofs.rings.{RingNodes.length-listed, SameNodes.AreLinked-same, Writes.cell_at-change_other}
+use Rattle.lhm_ring.proofs.rings.{RingNodes.length-listed, Writes.cell_at-change_other}
+use Rattle.lhm_ring.specs.SameNodes.{AreLinked-same}
 
 module _ {B : Type 0} (cs : List (Cell Links B)) where
   pub listed-none : (f : Ptr) → listed cs (pointers_from cs 0 f) ≡ []

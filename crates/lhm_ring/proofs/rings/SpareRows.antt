@@ -7,7 +7,8 @@ use Rattle.lhm_ring.proofs.Names.{target, Held, triples, Link, Ends, Links, AllB
 use Rattle.lhm_ring.proofs.lists.Apart.{IsApart-inserted, IsApart-removed, IsApart-tail, IsFresh-head, IsFresh-middle, same_ptr-reflexive}
 use Rattle.lhm_ring.proofs.lists.ForAll.{AllByRecursion-map, AllByRecursion-right}
 use Rattle.lhm_ring.proofs.{lists.Options.none_some, memory.OneNodeChanged.IsSpareList-other}
-use Rattle.lhm_ring.proofs.rings.{SameNodes.AreLinked-same, Spans.AreLinked-tail, Writes.reader-with_links_same}
+use Rattle.lhm_ring.proofs.rings.{Spans.AreLinked-tail, Writes.reader-with_links_same}
+use Rattle.lhm_ring.specs.SameNodes.{AreLinked-same}
 use Rattle.lhm_ring.proofs.rings.Writes.{body_at-with_links, cell_at-change_other, length-change, links_at-with_links}
 
 -- the pointers of a row go onto others

@@ -7,11 +7,20 @@ use Rattle.lhm_ring.proofs.lists.Apart.{IsApart-left, IsApart-tail, IsFresh, IsF
 use Rattle.lhm_ring.proofs.lists.ForAll.{AllByRecursion-left, AllByRecursion-map, AllByRecursion-right}
 use Rattle.lhm_ring.proofs.lists.{Last.last_from, LinkRows.RowCut-linked}
 use Rattle.lhm_ring.proofs.rings.Joins.{AreLinked-unchanged, AreNeighbours-made, AvoidsSource-fresh, AvoidsTarget-fresh}
-use Rattle.lhm_ring.proofs.rings.{Joins.IsSpareList-unchanged, Joins.listed-unchanged, RingNodes.ring_list-listed, SameNodes.AreLinked-same}
+use Rattle.lhm_ring.proofs.rings.{Joins.IsSpareList-unchanged, Joins.listed-unchanged, RingNodes.ring_list-listed}
 use Rattle.lhm_ring.proofs.rings.RingCells.{AllByRecursion-there_in_nodes, AreLinked-in_nodes, IsSpareList-in_nodes, IsSpareList-in_ring}
 use Rattle.lhm_ring.proofs.rings.{RingCells.is_there-null, RingCells.next_at-null, SpareRows.some_still, SpareRows.triples-one_of}
 use Rattle.lhm_ring.proofs.rings.Spans.{AreLinked-tail, HasEnds-behind, last_pointer-last_from, pointers_from-span}
 use Rattle.lhm_ring.proofs.rings.SpareRows.{AllByRecursion-onto, IsApart-onto, SameButLinks-in_ring, StartsAt-next, length-onto, one_triple}
+use Rattle.lhm_ring.proofs.Names.{None, cleared, has_links, length, link_of, links_at, next_of, prev_of, suc}
+use Rattle.lhm_ring.proofs.rings.Contents.{content_of-none}
+use Rattle.lhm_ring.proofs.lists.ForAll.{AllByRecursion-always}
+use Rattle.lhm_ring.specs.SameNodes.{AreLinked-same, IsSpareList-same, SameLink}
+use Rattle.lhm_ring.specs.Rebodied.{content_at-rebodied, length-rebodied, links_at-rebodied}
+
+-- nodes with nothing in them hold nothing
+content_at-cleared : {B : Type 0} (cs : List (Cell Links B)) (q : Ptr) → content_at (cleared cs) q ≡ None
+content_at-cleared cs q = content_at-rebodied (λ _ _. None) cs q ∙ content_of-none q (links_at cs q)
 
 -- all that a ring holds becomes spare
 module _ {B : Type 0} (e : Ends) (nodes : List (Cell Links B)) {spare : Link} {n m : ℕ} (o : IsOwned (ring_cells e nodes) spare n m) where
@@ -75,20 +84,30 @@ module _ {B : Type 0} (e : Ends) (nodes : List (Cell Links B)) {spare : Link} {n
                 (on ss (AllByRecursion-right (IsThere cs) ps ss o.ring.there.1)),
           )
 
-      IsRing-empty : IsRing es [] (target h) (onto ps ss)
+      links-cleared : (q : Ptr) → links_at (cleared es) q ≡ links_at es q
+      links-cleared = links_at-rebodied (λ _ _. None) es
+
+      IsRing-empty : IsRing (cleared es) [] (target h) (onto ps ss)
       IsRing-empty = record {
-        linked = (AreNeighbours-made j, tt);
-        chained = IsSpareList-unchanged j (target h) (onto ps ss)
-            (IsSpareList-in_ring e zs (target h) (onto ps ss)
+        linked = AreLinked-same es (cleared es) (λ q. ap next_of (links-cleared q)) (λ q. ap prev_of (links-cleared q))
+            (null_ptr ∷ null_ptr ∷ []) (AreNeighbours-made j, tt);
+        chained = IsSpareList-same es (cleared es) (target h) (onto ps ss)
+            (AllByRecursion-always (SameLink es (cleared es)) (λ q. ap link_of (links-cleared q)) (onto ps ss))
+            (IsSpareList-unchanged j (target h) (onto ps ss) (IsSpareList-in_ring e zs (target h) (onto ps ss)
             (AllByRecursion-onto (λ q. same_ptr null_ptr q ≡ false) ps ss IsFresh-row
-            IsFresh-spares) spared.1);
+            IsFresh-spares) spared.1));
         held = tt;
-        there = AllByRecursion-there;
+        there = AllByRecursion-map (IsThere es) (IsThere (cleared es)) (λ q k. ap has_links (links-cleared q) ∙ k)
+            (null_ptr ∷ onto ps ss) AllByRecursion-there;
         apart = IsApart-onto null_ptr ps ss o.ring.apart;
-        count = let long = length-onto ps ss in let all = j.count ∙ same.count ∙ o.ring.count in omega arith;
+        count = let long = length-onto ps ss in
+            let all : length (cleared es) ≡ suc (length ps + length ss) =
+            length-rebodied (λ _ _. None) es ∙ j.count ∙ same.count ∙ o.ring.count in
+            omega arith;
+        empty = AllByRecursion-always (λ q. content_at (cleared es) q ≡ None) (content_at-cleared es) (onto ps ss);
       }
 
-      pub IsOwned-spliced : IsOwned es h 0 (m + n)
+      pub IsOwned-spliced : IsOwned (cleared es) h 0 (m + n)
       IsOwned-spliced = grind (arith, length-onto, IsRing-empty)
 
       AreLinked-spliced : AreLinked es ps

@@ -1,5 +1,5 @@
 use Rattle.lhm_ring.proofs.Names.{ap, refl, subst, sym, ◌+◌, ◌∙◌, cleared, with_bodies, IsSpan, ring_cells, span_triples, state, triples}
-use Rattle.lhm_ring.proofs.memory.{NodesWithBodies.IsOwned-cleared, NodesWithBodies.with_bodies-own, Places.IsLaid-same}
+use Rattle.lhm_ring.proofs.memory.{NodesWithBodies.with_bodies-own, Places.IsLaid-same}
 use Rattle.lhm_ring.proofs.rings.RingNodes.{length-held, ring_list-none}
 use Rattle.lhm_ring.proofs.ring.Ring.splice_all.Goals as goal
 
@@ -15,9 +15,7 @@ invariant_of-result g c =
 
 pub invariant_of-self-lent : goal.invariant_of-self-lent
 invariant_of-self-lent g c = λ w. record {
-  ring = IsOwned-cleared (ring_cells c.splice.new.ends c.splice.new.nodes.cells)
-      c.splice.result.spare 0 _ refl (c.splice.ensures.spliced c.self.inside.spares
-      c.self.invariant.ring);
+  ring = c.splice.ensures.spliced c.self.inside.spares c.self.invariant.ring;
   laid = IsLaid-same c.self.invariant.laid (c.splice.ensures.land.0) (c.splice.ensures.land.1);
 }
 

@@ -1,0 +1,4 @@
+pub mod index
+pub mod nodes
+pub mod ring
+pub mod table
