@@ -43,11 +43,7 @@ pub fn subfolder<'a>(parent: &'a Folder, name: &str) -> Option<&'a Folder> {
 
 /// Returns the order of two settings.
 pub fn order(left: &Setting, right: &Setting) -> Ordering {
-    if left == right {
-        Ordering::Equal
-    } else {
-        left.cmp(right)
-    }
+    left.cmp(right)
 }
 
 /// Returns the site with a name among those that were asked for last, and counts as asking for it.
