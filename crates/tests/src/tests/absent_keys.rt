@@ -50,25 +50,28 @@ fn looks_up_absent_keys_in_a_large_map(rt: HostRuntime) {
     check_eq!(rt; (map.len(), map.capacity()), (MANY, MANY));
 }
 
-/// The hash is 2^32 times the key: one bucket, and upper four bits that are the key over 2^28.
+/// The hash is 2^32 + 2^15 times the key. Among 2^15 buckets all keys fall into one, and the upper
+/// four bits are the key divided by 2^28.
 const ONE_BUCKET: BuildMultiple = BuildMultiple {
     largest: u32::MAX,
-    factor: 4_294_967_296,
+    factor: 4_295_000_064,
 };
 
-/// Makes a map whose keys are in one bucket. The upper four bits of their hashes are 0.
+/// Makes a map of 2^15 keys in one of as many buckets. It has 2^20 buckets first, so that the keys
+/// are inserted into 32 shorter chains.
 fn in_one_bucket(rt: &impl Abort, alloc: Global) -> LargeMap {
-    let mut map = given!(rt; LinkedHashMap::with_capacity_and_hasher(alloc, 16_384, ONE_BUCKET));
-    for key in 0..16_384u64 {
+    let mut map = given!(rt; LinkedHashMap::with_capacity_and_hasher(alloc, 1_048_576, ONE_BUCKET));
+    for key in 0..32_768u64 {
         check_eq!(rt; map.insert(key, ()), Ok(None));
     }
+    given!(rt; map.shrink_to_fit());
     map
 }
 
-/// Looks up and removes 2^24 absent keys of this bucket, whose upper four bits are 1: the filter
-/// lacks them. If either followed the chain, it would reach 2^38 pairs, and a test has a minute.
+/// Looks up and removes 2^20 absent keys of this bucket, whose upper four bits are 1: the filter
+/// lacks them. If either followed the chain, it would reach 2^35 pairs, and a test has a minute.
 fn remove_absent(rt: &impl Abort, map: &mut LargeMap) {
-    for key in 268_435_456..285_212_672u64 {
+    for key in 268_435_456..269_484_032u64 {
         check!(rt; !map.contains_key(&key));
         check_eq!(rt; map.remove(&key), None);
     }
@@ -78,5 +81,5 @@ fn remove_absent(rt: &impl Abort, map: &mut LargeMap) {
 fn asks_the_filter_before_a_long_chain(rt: HostRuntime) {
     let mut map = in_one_bucket(&rt, rt.alloc());
     remove_absent(&rt, &mut map);
-    check_eq!(rt; map.len(), 16_384);
+    check_eq!(rt; (map.len(), map.capacity()), (32_768, 32_768));
 }
