@@ -1,4 +1,4 @@
-use Rattle.std.proofs.Common.{◌≡◌, rules, inr}
+use Rattle.std.proofs.Common.{rules, inr}
 use Rattle.lru_cache.specs.Cache.{IsValidCache}
 use Rattle.lru_cache.proofs.Insertions.{value_at-inserted, SameOrNone-inserted, Updates-inserted}
 use Rattle.lru_cache.proofs.cache.LruCache.put.Goals as goal
