@@ -1,7 +1,9 @@
 pub mod Counting
+pub mod Documents
 pub mod Groups
 pub mod Lending
 pub mod Numbers
 pub mod Places
 pub mod Replaying
 pub mod Texts
+pub mod Trees

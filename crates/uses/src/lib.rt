@@ -21,6 +21,7 @@ pub mod members;
 pub mod memo;
 pub mod memory;
 pub mod modes;
+pub mod nested;
 pub mod numbered;
 #[tactic(auto, using(linked_hash_map::proofs::Callers::Rules::text_lookups))]
 pub mod options;
@@ -35,7 +36,6 @@ pub mod recursive;
 pub mod refusal;
 pub mod replaying;
 pub mod retains;
-pub mod route;
 pub mod scheduler;
 #[tactic(auto, using(linked_hash_set::proofs::Callers::Rules::set_operations))]
 pub mod seen;
