@@ -1,6 +1,6 @@
--- The former of `LruCache`, by its values: how a cache holds them, so that a type may hold itself
--- through it. It holds them as its map does, in the order of their last use. Nothing of it has to be
--- believed: the checker holds it against the struct.
+-- The former of `LruCache`: how a cache splits into its values and the rest, so that a type can refer
+-- to itself through them. The values are in the order of the map. Nothing here has to be believed:
+-- the checker compares it with the struct.
 use Rattle.std.specs.Prelude.{◌≡◌, ℕ, ◌≤◌, ◌+◌, List, [], ◌∷◌, map, length}
 use Rattle.std.specs.List.{IsDistinct, IsDistinct-prop}
 use Rattle.std.specs.Map.{keys_of, values_of}
@@ -43,7 +43,7 @@ the_weighed w K S T = record {
 pub the_empty : (K S T : Type 0) → K → S → T → Cache K ⊥ S
 the_empty K S T k s t = cache [] 0 0 s
 
--- the values, that of the pair that was used least recently first
+-- the values, that of the least recently used pair first
 abbrev pub the_items : (K S T X : Type 0) → Cache K X S → List X
 the_items K S T X c = values_of c.pairs
 
@@ -73,7 +73,7 @@ module _ (K S T : RattleType) (G : eq.Ghosts K.Denot) (H : hash.Ghosts K.Denot) 
     within = le_prop x.within y.within i;
   }
 
-  -- what is kept speaks of the keys, the number of pairs and the rest alone
+  -- `IsKept` says nothing of the values
   IsKept-same : {X Y : Type 0} (m : LinkedMap K.Denot X S.Denot) (m' : LinkedMap K.Denot Y S.Denot) (n : ℕ)
       → keys_of m.pairs ≡ keys_of m'.pairs → length m.pairs ≡ length m'.pairs → m.capacity ≡ m'.capacity
       → m.cursor ≡ m'.cursor → m.mode ≡ m'.mode → IsKept G.eq m n → IsKept G.eq m' n
