@@ -1,3 +1,4 @@
 pub mod Edits
 pub mod Renames
+pub mod TreeCounts
 pub mod TreeViews

@@ -1,12 +1,12 @@
 //! A document of texts, numbers, lists and objects, which is read and edited by paths of names.
-ghost use Rattle.std.specs.Prelude.{◌≡◌, [], ◌∷◌, ◌++◌, Some, None, false, if◌then◌else◌, is_some, option_map, string_bytes, string_eq, String, IfErr, IfNone, IfSome, IsOk, IsTrue, OnErr, OnOk};
+ghost use Rattle.std.specs.Prelude.{◌≡◌, ◌^◌, ◌+◌, ◌-◌, [], ◌∷◌, ◌++◌, Some, None, false, if◌then◌else◌, is_some, min, option_map, string_bytes, string_eq, String, IfErr, IfNone, IfSome, IsOk, IsTrue, OnErr, OnOk};
 ghost use Rattle.std.specs.List.{IsDistinct};
 ghost use Rattle.std.specs.Map.{keys_of};
 ghost use Rattle.std.specs.declared.alloc.Global.{Global};
 ghost use Rattle.linked_hash_map.specs.Pairs.{set_value, value_at};
 ghost use Rattle.uses.specs.Texts.{names};
-ghost use Rattle.uses.specs.Trees.{object, get_at, get_member, has_place, is_free, is_object, member_at, put_member, remove_at, rename_at, rename_member, set_at, without_member};
-ghost use Rattle.uses.specs.Documents.{members_view, names_of, view};
+ghost use Rattle.uses.specs.Trees.{object, depth, get_at, get_member, has_place, is_free, is_object, item_depth, item_leaves, leaves, member_at, member_depth, member_leaves, put_member, remove_at, rename_at, rename_member, set_at, without_member};
+ghost use Rattle.uses.specs.Documents.{items_view, members_view, names_of, view};
 ghost use Rattle.uses.specs.declared.nested.EditError.{EditError};
 
 use linked_hash_map::LinkedHashMap;
@@ -62,6 +62,39 @@ impl Value {
         match members.get(*name) {
             Some(member) => member.get(rest),
             None => None,
+        }
+    }
+
+    /// Lends the value at a path. The contract says what the value is, and not what the document is
+    /// after a write to it.
+    pub fn get_mut(&mut self, path: &[&str]) -> Option<&mut Value>
+        ensures { option_map (λ v. view v.now) result ≡ get_at (names_of path.now) (view self.old) }
+    {
+        let Some((name, rest)) = path.split_first() else {
+            return Some(self);
+        };
+        let Value::Object(members) = self else {
+            return None;
+        };
+        match members.get_mut(*name) {
+            Some(member) => member.get_mut(rest),
+            None => None,
+        }
+    }
+
+    /// Returns how many values are neither lists nor objects, and how deep these nest, each up to
+    /// `u64::MAX`.
+    #[cycle(size)]
+    pub fn size(&self) -> (u64, u64)
+        ensures leaves { result.0 ≡ min (leaves (view self.now)) (2 ^ 64 - 1) }
+        ensures depth { result.1 ≡ min (depth (view self.now)) (2 ^ 64 - 1) }
+    {
+        match self {
+            Value::List(items) => size_of_list(items),
+            Value::Object(members) => size_of_object(members),
+            Value::Null => (1, 0),
+            Value::Number(_) => (1, 0),
+            Value::Text(_) => (1, 0),
         }
     }
 
@@ -347,4 +380,38 @@ fn give(members: &mut LinkedHashMap<String, Value>, name: &str, value: Option<Va
         Some(member) => *member = value,
         None => {}
     }
+}
+
+/// Returns how many values of a list are neither lists nor objects, and how deep the list nests.
+#[cycle(size)]
+fn size_of_list(items: &Vec<Value>) -> (u64, u64)
+    ensures leaves { result.0 ≡ min (item_leaves (items_view items.now.items)) (2 ^ 64 - 1) }
+    ensures depth { result.1 ≡ min (item_depth (items_view items.now.items) + 1) (2 ^ 64 - 1) }
+{
+    let mut total: u64 = 0;
+    let mut most: u64 = 0;
+    for item in items {
+        let (leaves, depth) = item.size();
+        total = total.saturating_add(leaves);
+        most = most.max(depth);
+    }
+    (total, most.saturating_add(1))
+}
+
+/// The same of an object.
+#[cycle(size)]
+fn size_of_object(members: &LinkedHashMap<String, Value>) -> (u64, u64)
+    ensures leaves { result.0
+        ≡ min (member_leaves (members_view members.now.pairs)) (2 ^ 64 - 1) }
+    ensures depth { result.1
+        ≡ min (member_depth (members_view members.now.pairs) + 1) (2 ^ 64 - 1) }
+{
+    let mut total: u64 = 0;
+    let mut most: u64 = 0;
+    for member in members.values() {
+        let (leaves, depth) = member.size();
+        total = total.saturating_add(leaves);
+        most = most.max(depth);
+    }
+    (total, most.saturating_add(1))
 }
