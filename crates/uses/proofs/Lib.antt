@@ -1,3 +1,4 @@
+pub mod Copies
 pub mod Edits
 pub mod Renames
 pub mod TreeCounts

@@ -1,5 +1,5 @@
 //! A document of texts, numbers, lists and objects, which is read and edited by paths of names.
-ghost use Rattle.std.specs.Prelude.{◌≡◌, ◌^◌, ◌+◌, ◌-◌, [], ◌∷◌, ◌++◌, Some, None, false, if◌then◌else◌, is_some, min, option_map, string_bytes, string_eq, String, IfErr, IfNone, IfSome, IsOk, IsTrue, OnErr, OnOk};
+ghost use Rattle.std.specs.Prelude.{◌≡◌, ◌^◌, ◌+◌, ◌-◌, [], ◌∷◌, ◌++◌, Some, None, false, if◌then◌else◌, is_some, min, option_map, string_bytes, string_eq, String, IfErr, IfOk, IfNone, IfSome, IsOk, IsTrue, OnErr, OnOk};
 ghost use Rattle.std.specs.List.{IsDistinct};
 ghost use Rattle.std.specs.Map.{keys_of};
 ghost use Rattle.std.specs.declared.alloc.Global.{Global};
@@ -10,7 +10,8 @@ ghost use Rattle.uses.specs.Documents.{items_view, members_view, names_of, view}
 ghost use Rattle.uses.specs.declared.nested.EditError.{EditError};
 
 use linked_hash_map::LinkedHashMap;
-use std::alloc::Global;
+use std::alloc::{AllocError, Global};
+use std::default::Emptied;
 use std::mem;
 
 /// A value of a document.
@@ -414,4 +415,55 @@ fn size_of_object(members: &LinkedHashMap<String, Value>) -> (u64, u64)
         most = most.max(depth);
     }
     (total, most.saturating_add(1))
+}
+
+/// A clone, written out, since a derived one says nothing of a type that holds itself.
+impl Clone for Value {
+    ghost is_clone = { λ v w. view w ≡ view v };
+
+    fn clone(&self) -> Result<Value, AllocError> {
+        copy(self)
+    }
+}
+
+/// Clones a value, level by level.
+#[cycle(copy)]
+fn copy(value: &Value) -> Result<Value, AllocError>
+    ensures { IfOk result (λ v. view v ≡ view value.now) }
+{
+    match value {
+        Value::Null => Ok(Value::Null),
+        Value::Number(number) => Ok(Value::Number(*number)),
+        Value::Text(text) => Ok(Value::Text(text.clone()?)),
+        Value::List(items) => Ok(Value::List(copy_items(items)?)),
+        Value::Object(members) => Ok(Value::Object(copy_members(members)?)),
+    }
+}
+
+/// Clones the items of a list.
+#[cycle(copy)]
+fn copy_items(items: &Vec<Value>) -> Result<Vec<Value>, AllocError>
+    ensures { IfOk result (λ v. items_view v.items ≡ items_view items.now.items) }
+{
+    let mut copies = Vec::with_capacity(*items.allocator(), items.len())?;
+    for item in items {
+        copies.push(copy(item)?)?;
+    }
+    Ok(copies)
+}
+
+/// Clones the members of an object, in their order.
+#[cycle(copy)]
+fn copy_members(
+    members: &LinkedHashMap<String, Value>,
+) -> Result<LinkedHashMap<String, Value>, AllocError>
+    ensures { IfOk result (λ m. members_view m.pairs ≡ members_view members.now.pairs) }
+{
+    let mut copies = LinkedHashMap::emptied(members)?;
+    for (name, member) in members.iter() {
+        let name = name.clone()?;
+        drop(copies.insert(name, copy(member)?)?);
+    }
+    copies.set_mode(members.mode());
+    Ok(copies)
 }
