@@ -7,6 +7,7 @@ mod caches;
 mod calling;
 mod chains;
 mod compare;
+mod documents;
 mod entries;
 mod equivalents;
 mod failing_checks;
