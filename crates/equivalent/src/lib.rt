@@ -11,10 +11,13 @@ ghost use Rattle.std.specs.Rc.{rc_str_bytes};
 ghost use Rattle.std.specs.Str.{bytes_eq};
 ghost use Rattle.std.specs.String.{string_bytes};
 
+mod texts;
+
 use std::alloc::Allocator;
 use std::boxed::{BoxedSlice, BoxedStr};
 use std::hash::Hash;
 use std::rc::RcStr;
+use texts::same_text;
 
 /// What a lookup takes to find a key of type `K`: `&K`, or a borrowed form of the key.
 ///
@@ -152,8 +155,9 @@ impl<A: Allocator> Equivalent<String<A>> for &str {
     ghost respects_eq = { λ text key other.
         nat_list_eq_equiv.congr text.now (string_bytes key) (string_bytes other) };
 
+    #[inline(always)]
     fn equivalent(&self, key: &String<A>) -> bool {
-        *self == key.as_str()
+        same_text(*self, key.as_str())
     }
 }
 
@@ -166,8 +170,9 @@ impl<A: Allocator> Equivalent<BoxedStr<A>> for &str {
     ghost respects_eq = { λ text key other.
         nat_list_eq_equiv.congr text.now (boxed_str_bytes key) (boxed_str_bytes other) };
 
+    #[inline(always)]
     fn equivalent(&self, key: &BoxedStr<A>) -> bool {
-        *self == key.as_str()
+        same_text(*self, key.as_str())
     }
 }
 
@@ -180,8 +185,9 @@ impl<A: Allocator> Equivalent<RcStr<A>> for &str {
     ghost respects_eq = { λ text key other.
         nat_list_eq_equiv.congr text.now (rc_str_bytes key) (rc_str_bytes other) };
 
+    #[inline(always)]
     fn equivalent(&self, key: &RcStr<A>) -> bool {
-        *self == key.as_str()
+        same_text(*self, key.as_str())
     }
 }
 
@@ -194,8 +200,9 @@ impl<'k> Equivalent<&'k str> for &str {
     ghost respects_eq = { λ text key other.
         nat_list_eq_equiv.congr text.now key.now other.now };
 
+    #[inline(always)]
     fn equivalent(&self, key: &&'k str) -> bool {
-        *self == *key
+        same_text(*self, *key)
     }
 }
 
