@@ -1,10 +1,8 @@
-use Rattle.std.proofs.Common.{◌≡◌, ℕ, ◌+◌, ◌≤◌, ◌<◌, ◌-◌, ◌++◌, ◌∙◌, ◌==◌, Bool, List, length, get_or, take, drop, ap, sym, arith}
-use Rattle.std.specs.Int.{from_le_bytes, to_le_bytes, w64}
+use Rattle.std.proofs.Common.{◌≡◌, ℕ, ◌+◌, ◌≤◌, ◌-◌, ◌++◌, ◌∙◌, ◌==◌, Bool, List, length, take, drop, ap, sym, arith}
 use Rattle.std.specs.Prelude.{◌&&◌}
 use Rattle.std.specs.Str.{bytes_eq}
 use Rattle.std.proofs.lemmas.Bool.Decides.{Decides-and, Decides-at, Decides-eqb, Decides-like, same_from_decides}
 use Rattle.std.proofs.lemmas.List.{drop-drop, take-append-drop, take_rest}
-use Rattle.std.proofs.lemmas.Nat.{le_bytes_8}
 use Rattle.std.proofs.lemmas.Slice.Eq.{bytes_eq-Decides}
 
 -- what comes after the first m items comes after the first i
@@ -35,12 +33,10 @@ and-parts m i xs ys front back within at_front at_back =
     (Decides-at _ _ rest (bytes_eq-Decides (drop i xs) (drop i ys)))))
     (bytes_eq-Decides xs ys)
 
--- 8 bytes are equal if their numbers are
-pub eq-words : (xs ys : List ℕ) (m n : ℕ) → length xs ≡ 8 → length ys ≡ 8
-    → ((i : ℕ) → get_or xs i 0 < 256) → ((i : ℕ) → get_or ys i 0 < 256)
-    → m ≡ from_le_bytes w64 xs → n ≡ from_le_bytes w64 ys → (m == n) ≡ bytes_eq xs ys
-eq-words xs ys m n first second small small' is is' =
+-- bytes are equal if the numbers are that they are read from and written to
+pub eq-numbers : (from : List ℕ → ℕ) (to : ℕ → List ℕ) (xs ys : List ℕ) (m n : ℕ)
+    → m ≡ from xs → n ≡ from ys → to m ≡ xs → to n ≡ ys → (m == n) ≡ bytes_eq xs ys
+eq-numbers from to xs ys m n read read' written written' =
     same_from_decides _ _
-    (Decides-like _ (λ e. sym (le_bytes_8 xs m first small is) ∙ ap (to_le_bytes w64) e ∙ le_bytes_8 ys n second small' is')
-    (λ e. is ∙ ap (from_le_bytes w64) e ∙ sym is') (Decides-eqb m n))
+    (Decides-like _ (λ e. sym written ∙ ap to e ∙ written') (λ e. read ∙ ap from e ∙ sym read') (Decides-eqb m n))
     (bytes_eq-Decides xs ys)
