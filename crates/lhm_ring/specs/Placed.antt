@@ -1,16 +1,34 @@
 -- A type with a view holds what its fields hold, whatever the order in which the view shows it.
---     by_refill    the fields are had again from the mapped fields and the view, and `holds` is a
+--     by_refill    the fields are rebuilt from the mapped fields and the view, and `holds` is a
 --                  proposition
 --     by_same      the same, where `holds` of the mapped fields is the same type
+--     all_stay     fields that are not mapped are alike
 use mathlib.Core.Path.{◌≡◌, PathP, refl, sym, ap, subst, ◌∙◌, fun_ext}
 use mathlib.Core.HLevel.{Σ_prop_path, ×_prop, is_prop→PathP}
 use mathlib.Core.Equiv.{Iso}
+use mathlib.Core.List.{List, [], ◌∷◌}
 use base.Stored.{Coded, Coded-set}
 use base.Fml.{ftrue, fsep}
 use denote.Hole.Fix.{Over, whole}
+use denote.Hole.{as_row}
 use denote.HoleLaws.{Alike}
+use denote.HolePlaces.{Maps, Alikes, stays}
+use denote.Struct.Field.{Field}
 use denote.Model.{View}
 use denote.Model.Placed.{some_Along}
+
+-- all fields but the first
+abbrev pub others : List Field → List Field
+others [] = []
+others (F ∷ Fs) = Fs
+
+abbrev pub unmoved : (Fs : List Field) → Maps Fs Fs
+unmoved [] = tt
+unmoved (F ∷ Fs) = (λ n. n, unmoved Fs)
+
+pub all_stay : (Fs : List Field) → Alikes Fs Fs (unmoved Fs)
+all_stay [] = tt
+all_stay (F ∷ Fs) = (stays (as_row F), all_stay Fs)
 
 -- `m` maps the fields, `k` what the views show of them
 module _ (A B C D : Type 0) (m : A → B) (k : C → D) (view : A → C) (view' : B → D) (c : Coded C) (c' : Coded D)

@@ -1,4 +1,4 @@
--- The nodes of a ring are had again from its list: each body is the pair that the list has at the
+-- The nodes of a ring are rebuilt from its list: each body is the pair that the list has at the
 -- pointer of its node.
 use Rattle.std.specs.Prelude.{◌≡◌, ℕ, suc, true, false, cond, List, [], ◌∷◌, ◌++◌, map, length, Option, Some, None}
 use Rattle.std.specs.List.{AllByRecursion, IsDistinct}

@@ -1,6 +1,5 @@
--- The former of `Index`, which holds no key and no value: that values of another type beside it change
--- nothing, so that a type may hold itself through a `Table`. Nothing of it has to be believed: the
--- checker holds it against the struct.
+-- The former of `Index`, which holds no value, so that a type can refer to itself through a `Table`.
+-- Nothing here has to be believed: the checker compares it with the struct.
 use mathlib.Core.Path.{refl}
 use mathlib.Core.Former.{Former, const}
 use base.Stored.{Coded-set}
@@ -8,7 +7,7 @@ use denote.RattleType.{RattleType}
 use denote.HoleLaws.{Alike}
 use denote.HolePlaces.{struct_places}
 use denote.Hole.Fix.{over}
-use Rattle.lhm_ring.specs.Placed.{by_same}
+use Rattle.lhm_ring.specs.Placed.{by_same, unmoved, all_stay}
 use Rattle.lhm_ring.specs.Buckets.{BucketState}
 use Rattle.lhm_ring.specs.declared.index.Index.TheInside.{Inside}
 use Rattle.lhm_ring.specs.declared.index.Index.TheView.{view, invariant}
@@ -37,23 +36,5 @@ module _ (K R R' : RattleType) (h : R.Denot → R'.Denot) where
       (view K.Denot R.Denot) (view K.Denot R'.Denot) (C.the_row K R).coded (C.the_row K R').coded (λ d. refl)
       (Coded-set (I.the_row K R').coded) (invariant K.Denot R.Denot) (invariant K.Denot R'.Denot) (λ d. refl)
       (λ c b. beside_others b) (λ d b p. refl) (λ d b p. p) (λ d. refl) (over (I.the_row K R)) (over (I.the_row K R'))
-      (struct_places (I.the_type K R) (I.the_type K R')
-      (λ n. n, (λ n. n, (λ n. n, (λ n. n, (λ n. n, (λ n. n, (λ n. n, (λ n. n, tt)))))))) beside_others (λ d. refl) refl (
-        (refl, (λ n. refl, λ n. refl)),
-        (
-          (refl, (λ n. refl, λ n. refl)),
-          (
-            (refl, (λ n. refl, λ n. refl)),
-            (
-              (refl, (λ n. refl, λ n. refl)),
-              (
-                (refl, (λ n. refl, λ n. refl)),
-                (
-                  (refl, (λ n. refl, λ n. refl)),
-                  ((refl, (λ n. refl, λ n. refl)), ((refl, (λ n. refl, λ n. refl)), tt)),
-                ),
-              ),
-            ),
-          ),
-        ),
-      ))
+      (struct_places (I.the_type K R) (I.the_type K R') (unmoved (I.the_type K R).parts) beside_others (λ d. refl) refl
+      (all_stay (I.the_type K R).parts))

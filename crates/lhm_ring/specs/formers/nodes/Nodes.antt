@@ -1,6 +1,6 @@
--- A former says how a type holds the values of one of its type parameters, as a shape and the
--- values in it, so that a type may hold itself through it. This one is of `Nodes`, by the values of
--- its pairs. Nothing of it has to be believed: the checker holds it against the struct.
+-- The former of `Nodes`: how they split into the values of their pairs and the rest, so that a type
+-- can refer to itself through them. Nothing here has to be believed: the checker compares it with the
+-- struct.
 use Rattle.std.specs.Prelude.{◌≡◌, ℕ, Option, Some, None, List, [], ◌∷◌, ◌++◌, map}
 use mathlib.Core.Path.{refl, sym, ap, subst, ◌∙◌}
 use mathlib.Core.Logic.{◌⊎◌, inl, inr}

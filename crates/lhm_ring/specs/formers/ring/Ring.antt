@@ -1,7 +1,6 @@
--- The former of `Ring`, by the values of its pairs: how it holds them, so that a type may hold itself
--- through it. It shows them in the order of the list, and its nodes lie in another, so that each is
--- found by the pointer of its node. Nothing of it has to be believed: the checker holds it against
--- the struct.
+-- The former of `Ring`: how a ring splits into the values of its pairs and the rest, so that a type
+-- can refer to itself through it. The values are in the order of the list, so each is found by the
+-- pointer of its node. Nothing here has to be believed: the checker compares it with the struct.
 use Rattle.std.specs.Prelude.{◌≡◌, ℕ, true, false, cond, Option, Some, None, List, [], ◌∷◌, ◌++◌, map}
 use mathlib.Core.Path.{refl, sym, ap, subst, ◌∙◌}
 use mathlib.Core.HLevel.{is_prop→PathP}
@@ -27,7 +26,7 @@ use Rattle.lhm_ring.specs.Links.{HasContent, IsOwned, content_at, content_of, fo
 use Rattle.lhm_ring.specs.Links.{prev_of, ring_cells, ring_list}
 use Rattle.lhm_ring.specs.Lists.{AllByRecursion-always, AllByRecursion-map}
 use Rattle.lhm_ring.specs.OwnedProp.{IsLaid-prop, IsOwned-prop}
-use Rattle.lhm_ring.specs.Placed.{by_refill}
+use Rattle.lhm_ring.specs.Placed.{by_refill, others, unmoved, all_stay}
 use Rattle.lhm_ring.specs.Rebodied.{IsOwned-rebodied, content_at-rebodied, length-rebodied, links_at-rebodied, pointers-rebodied}
 use Rattle.lhm_ring.specs.Refill.{body_again, find_pair, refill, refill-own, ring_list-refill}
 use Rattle.lhm_ring.specs.SameNodes.{IsOwned-same, SameLink, follow-same}
@@ -198,7 +197,7 @@ module _ (K : Type 0) {X Y : Type 0} (h : X → Y) where
   abbrev along : State (K × X) → State (K × Y)
   along = (the_former this K).map X Y h
 
-  -- the fields again, from those that are mapped and from what is seen
+  -- the fields, rebuilt from the mapped fields and the list
   abbrev again : State (K × X) → Inside K Y → Inside K X
   again d b = with_nodes b
       (with_cells b.nodes (refill d.held b.nodes.cells) (pointers-rebodied (body_again d.held) b.nodes.cells))
@@ -235,23 +234,5 @@ module _ (K R R' : RattleType) (h : R.Denot → R'.Denot) where
       (invariant-prop (C.the_row K R).coded) (invariant-prop (C.the_row K R').coded) (kept K.Denot h) (kept_back K.Denot h)
       (again K.Denot h) (its_map K.Denot h) (its_view K.Denot h) (back K.Denot h) (over (I.the_row K R)) (over (I.the_row K R'))
       (struct_places (I.the_type K R) (I.the_type K R')
-      (nodes.mapped L.the_row K R R' h, (λ n. n, (λ n. n, (λ n. n, (λ n. n, (λ n. n, (λ n. n, (λ n. n, tt))))))))
-      (mapped K.Denot h) (λ d. refl) refl (
-        laid _ _ _ (nodes.the_places L.the_row K R R' h a),
-        (
-          (refl, (λ n. refl, λ n. refl)),
-          (
-            (refl, (λ n. refl, λ n. refl)),
-            (
-              (refl, (λ n. refl, λ n. refl)),
-              (
-                (refl, (λ n. refl, λ n. refl)),
-                (
-                  (refl, (λ n. refl, λ n. refl)),
-                  ((refl, (λ n. refl, λ n. refl)), ((refl, (λ n. refl, λ n. refl)), tt)),
-                ),
-              ),
-            ),
-          ),
-        ),
-      ))
+      (nodes.mapped L.the_row K R R' h, unmoved (others (I.the_type K R).parts)) (mapped K.Denot h) (λ d. refl) refl
+      (laid _ _ _ (nodes.the_places L.the_row K R R' h a), all_stay (others (I.the_type K R).parts)))

@@ -1,6 +1,6 @@
--- The former of `Table`, by the values of its pairs: how it holds them, so that a type may hold itself
--- through it. It shows them in the order in which its ring does. Nothing of it has to be believed:
--- the checker holds it against the struct.
+-- The former of `Table`: how a table splits into the values of its pairs and the rest, so that a type
+-- can refer to itself through it. The values are in the order of the list. Nothing here has to be
+-- believed: the checker compares it with the struct.
 use Rattle.std.specs.Prelude.{◌≡◌, ℕ, None, List, [], ◌∷◌, ◌+◌, ◌≤◌, ◌^◌, map, length}
 use mathlib.Core.Path.{refl, sym, ap, ◌∙◌}
 use mathlib.Core.Equiv.{Iso, iso_to_equiv}
@@ -29,7 +29,7 @@ the_former g K = via (pair (list (ring.held_former g K)) (const (ℕ × (ℕ × 
     (λ X t. (t.held, (t.capacity, (t.rechained, t.made))))
     (λ X v. record { held = v.0; capacity = v.1.0; rechained = v.1.1.0; made = v.1.1.1 }) (λ X s. refl) (λ X v. refl)
 
--- `IsTable`, by all that it reads: no value is among it
+-- `IsTable`, by what it reads, which is no value
 abbrev IsTableOf : BucketState → ℕ → ℕ → ℕ → List Spot → ℕ → Type 0
 IsTableOf i spares nodes rechained ss n =
     Indexes i ss × ((length i.heads ≡ buckets (n + spares)) × ((rechained ≤ length i.heads)
@@ -100,7 +100,7 @@ module _ (K : Type 0) {X Y : Type 0} (h : X → Y) where
   abbrev with_held : Inside K Y → List (Held (K × X)) → Inside K X
   with_held b hs = record { ring = state hs b.ring.spares b.ring.nodes; index = b.index; rechained = b.rechained }
 
-  -- the fields again, from those that are mapped and from what is seen
+  -- the fields, rebuilt from the mapped fields and what the table shows
   abbrev again : TableState (K × X) → Inside K Y → Inside K X
   again d b = with_held b (relinked d.held b.ring.held)
 

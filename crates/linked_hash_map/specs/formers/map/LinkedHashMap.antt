@@ -1,8 +1,7 @@
--- The former of `LinkedHashMap`, by its values: how a map holds them, so that a type may hold itself
--- through it, as a document of named documents does. It also says how the comparisons and the hash
--- of such a type reach its values. Nothing of it has to be believed: the checker holds it against
--- the struct.
-use Rattle.std.specs.Prelude.{◌≡◌, ℕ, Bool, Option, List, [], ◌∷◌, map, max, ◌++◌}
+-- The former of `LinkedHashMap`: how a map splits into its values and the rest, so that a type, as
+-- a document of named documents, can refer to itself through them; and how comparisons and the hash
+-- reach the values. Nothing here has to be believed: the checker compares it with the struct.
+use Rattle.std.specs.Prelude.{◌≡◌, ℕ, List, [], ◌∷◌, map, max, ◌++◌}
 use Rattle.std.specs.List.{flat_map}
 use Rattle.std.specs.Map.{values_of}
 use mathlib.Core.Path.{refl, sym, ap, ◌∙◌}
@@ -15,9 +14,7 @@ use denote.Hole.Carrier.{listed}
 use denote.Hole.Fix.{over}
 use denote.Param.Nested.{deepest}
 use denote.Param.Weighed.{Weighed, most, none_max, List-puts, w_pair, w_const}
-use Rattle.std.specs.Cmp.Lexicographic.{pointwise, slice_cmp, slice_partial_cmp}
 use Rattle.std.specs.Cmp.Derive.Mapped.{pointwise-map, lex_map, slice_partial_cmp-map}
-use Rattle.std.specs.declared.cmp.Ordering.{Ordering}
 use Rattle.std.specs.declared.cmp.PartialEq as eq
 use Rattle.std.specs.declared.hash.Hash as hash
 use Rattle.std.specs.declared.hash.Hasher as hasher
@@ -146,7 +143,7 @@ module _ (K S T : RattleType) (G : eq.Ghosts K.Denot) (H : hash.Ghosts K.Denot) 
     state = b.state;
   }
 
-  -- the fields again, from those that are mapped and from what is seen
+  -- the fields, rebuilt from the mapped fields and what the map shows
   abbrev again : LinkedMap K.Denot R.Denot S.Denot → Fields R'.Denot → Fields R.Denot
   again d b = with_held b (with_pairs h d.pairs b.table.held)
 
@@ -197,27 +194,12 @@ pub the_codes_placed : (K S T : RattleType) (G : eq.Ghosts K.Denot) (H : hash.Gh
     → Recodes (C.the_row K R S T G H B W) (C.the_row K R' S T G H B W) ((the_former this K.Denot S.Denot T.Denot).map R.Denot R'.Denot h)
 the_codes_placed K S T G H B W R R' h e m = gcons-same (code-pairs K R R' h e m.pairs)
 
--- the comparisons and the hash of pairs with `h` of each value
-module _ {K X Y : Type 0} (h : X → Y) where
-  pub pointwise-pairs : (F : K × Y → K × Y → Bool) (es fs : List (K × X))
-      → pointwise F (map (on_value h) es) (map (on_value h) fs) ≡ pointwise (λ p q. F (on_value h p) (on_value h q)) es fs
-  pointwise-pairs = pointwise-map (on_value h)
+pub ruleset naturals = (pointwise-map, lex_map, slice_partial_cmp-map)
 
-  pub slice_cmp-pairs : (F : K × Y → K × Y → Ordering) (es fs : List (K × X))
-      → slice_cmp F (map (on_value h) es) (map (on_value h) fs) ≡ slice_cmp (λ p q. F (on_value h p) (on_value h q)) es fs
-  slice_cmp-pairs = lex_map (on_value h)
-
-  pub slice_partial_cmp-pairs : (F : K × Y → K × Y → Option Ordering) (es fs : List (K × X))
-      → slice_partial_cmp F (map (on_value h) es) (map (on_value h) fs)
-      ≡ slice_partial_cmp (λ p q. F (on_value h p) (on_value h q)) es fs
-  slice_partial_cmp-pairs = slice_partial_cmp-map (on_value h)
-
-  flat_map-pairs : {A : Type 0} (f : K × Y → List A) (es : List (K × X))
-      → flat_map f (map (on_value h) es) ≡ flat_map (λ p. f (on_value h p)) es
-  flat_map-pairs f [] = refl
-  flat_map-pairs f (e ∷ es) = ap (λ l. f (on_value h e) ++ l) (flat_map-pairs f es)
-
-pub ruleset naturals = (pointwise-pairs, slice_cmp-pairs, slice_partial_cmp-pairs)
+flat_map-pairs : {K X Y A : Type 0} (h : X → Y) (f : K × Y → List A) (es : List (K × X))
+    → flat_map f (map (on_value h) es) ≡ flat_map (λ p. f (on_value h p)) es
+flat_map-pairs h f [] = refl
+flat_map-pairs h f (e ∷ es) = ap (λ l. f (on_value h e) ++ l) (flat_map-pairs h f es)
 
 pub the_hash_input_natural : (K S T X Y : Type 0) (h : X → Y) (G : eq.Ghosts K) (H : hash.Ghosts K) (V : hash.Ghosts Y)
     (V' : eq.Ghosts Y) (B : builder.Ghosts S T) (W : hasher.Ghosts T) (m : LinkedMap K X S)

@@ -1,5 +1,5 @@
-use Rattle.lhm_ring.proofs.Names.{Some, ap, arith, bit_or, get_or-set_other, length, map, refl, set, subst, sym, ◌%◌, ◌*◌, ◌/◌, ◌<◌, ◌^◌}
-use Rattle.lhm_ring.proofs.Names.{◌∙◌, BucketState, bits_of, leads_to, pointer_of, Head, Word}
+use Rattle.lhm_ring.proofs.Names.{ap, arith, bit_or, get_or-set_other, length, map, refl, set, subst, sym, ◌%◌, ◌*◌, ◌/◌, ◌<◌, ◌^◌}
+use Rattle.lhm_ring.proofs.Names.{◌∙◌, BucketState, bits_of, leads_to, Head, Word}
 use Rattle.lhm_ring.proofs.indexes.BucketHeads.{BitsHaveChains-set, length-words, map-set_taken}
 use Rattle.lhm_ring.proofs.indexes.Filters.{SetsBit-written}
 use Rattle.std.proofs.Common.{rules}

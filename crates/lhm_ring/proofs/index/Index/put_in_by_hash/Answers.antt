@@ -1,4 +1,4 @@
-use Rattle.lhm_ring.proofs.Names.{None, Some, ap, get_or, length, set, subst, sym, ℕ, ◌%◌, ◌++◌, ◌∙◌, ◌∷◌, ◌≡◌, SetsBit, pointer_of, target}
+use Rattle.lhm_ring.proofs.Names.{None, Some, ap, get_or, length, set, subst, sym, ℕ, ◌%◌, ◌++◌, ◌∙◌, ◌∷◌, SetsBit, pointer_of}
 use Rattle.lhm_ring.proofs.{Names.linked_to, indexes.IndexPuts.Indexes-put_first}
 use Rattle.lhm_ring.proofs.index.Index.put_in_by_hash.Goals as goal
 

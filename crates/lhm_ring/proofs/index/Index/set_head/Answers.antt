@@ -32,7 +32,8 @@ invariant_of-self g c =
     let head : Head = record { link = c.args.head } in
     let word : Word = record { bits = 0 } in
     let within : b < length hs = subst (λ (z : BucketState). b < length z.heads) (sym c.self.view_is) c.requires in
-    let inside : b < length ws = omega (arith, within, length-map i.heads.items leads_to, length-map i.words.items bits_of, v.heads_count, v.words_count) in
+    let inside : b < length ws =
+    omega (arith, within, length-map i.heads.items leads_to, length-map i.words.items bits_of, v.heads_count, v.words_count) in
     record {
       heads_count = search rules;
       words_count = search rules;

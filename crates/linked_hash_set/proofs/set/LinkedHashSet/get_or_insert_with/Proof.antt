@@ -219,6 +219,7 @@ get_or_insert_with_spec 𝓤 𝓛 𝓜 𝓡 wired X S H Q F LX LS LH LQ LF CQ
     (is_made e x n Absent Makes stored makes ok)) $ frame ! $
     use0 𝓛 (raw (fact 𝓤 (IfErr x (λ refused. Makes refused.item)))) (fact_i 𝓤 _ (emp 𝓤) handed.0) $ frame ! $
     use0 𝓛 (raw (fact 𝓤 (OnErr x Absent))) (fact_i 𝓤 _ (emp 𝓤) kept.1) $ frame ! $
-    use0 𝓛 (raw (fact 𝓤 (IfErr x (λ refused. New refused.item)))) (fact_i 𝓤 _ (emp 𝓤) handed.1) $ frame ! $ by ! (fact_i 𝓤 _ _ kept.2))))))))))))))))))))))) in
+    use0 𝓛 (raw (fact 𝓤 (IfErr x (λ refused. New refused.item)))) (fact_i 𝓤 _ (emp 𝓤) handed.1) $ frame ! $
+    by ! (fact_i 𝓤 _ _ kept.2))))))))))))))))))))))) in
     subst (λ (us : List Val). Goes us vss.1.0 vss.1.1.0) (sym at) (subst (λ (ws : List Val). Goes vs ws vss.1.1.0) (sym is)
     (subst (Goes vs (u ∷ [])) (sym held) walk)))
