@@ -1,5 +1,6 @@
 pub mod AscendingRuns
 pub mod Calls
+pub mod FrontRuns
 pub mod IndexedRing
 pub mod MergedRuns
 pub mod Merging
