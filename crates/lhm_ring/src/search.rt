@@ -172,11 +172,11 @@ impl<K: Eq + Hash, V> Index<K, V> {
             return Reached::new(Some(first));
         }
         let links = ring.links(first);
-        let next = links.link.get();
+        let next: Option<Position<K, V>> = links.link.get();
         if (links.hash != hash) & next.is_some() {
             Reached {
                 before: Some(first),
-                next,
+                next: Some(links.link.position()),
                 probe: Probe {
                     visited: 1,
                     compared: 0,

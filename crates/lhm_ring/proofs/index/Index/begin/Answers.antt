@@ -20,7 +20,7 @@ returns-then-links-hash g c = record {
       Some (pointer_of c.args.first)} {visited = 0} {compared = 0}
       refl (sym c.requires.first) refl refl c.requires.within c.requires.indexed.chains)
       refl c.links-links.result.now.hash c.is_some.result c.links-links.ensures.hash
-      c.if-links-hash.true (λ b x a i j. c.get-next.ensures ∙ c.links-links.ensures.link b x a i j);
+      c.if-links-hash.true (λ b x a i j. sym c.position.ensures ∙ c.links-links.ensures.link b x a i j);
 }
 
 pub returns-else-links-hash : goal.returns-else-links-hash
