@@ -35,6 +35,10 @@ module _ {K V : Type 0} {eq : K → K → Bool} (laws : IsEquivalence eq) where
       → find eq (xs ++ pair ∷ ys) pair.0 ≡ Some pair
   find-cut xs pair ys distinct = (own xs pair ys distinct).0
 
+  pub without-cut : (xs : List (K × V)) (pair : K × V) (ys : List (K × V)) → Differ (xs ++ pair ∷ ys)
+      → without eq (xs ++ pair ∷ ys) pair.0 ≡ xs ++ ys
+  without-cut xs pair ys distinct = (own xs pair ys distinct).1
+
   -- what is found in the second of two lists is not in the first
   behind : (xs ys : List (K × V)) (pair : K × V) → Differ (xs ++ ys) → find eq ys pair.0 ≡ Some pair
       → (find eq (xs ++ ys) pair.0 ≡ Some pair) × (find eq xs pair.0 ≡ None)

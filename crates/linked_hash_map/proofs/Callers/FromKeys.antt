@@ -1,5 +1,5 @@
 -- For callers: the pairs from that of a key on.
-use Rattle.std.proofs.Common.{◌≡◌, Bool, true, false, cond, List, [], ◌∷◌, ◌++◌, Some, None, refl}
+use Rattle.std.proofs.Common.{◌≡◌, ◌<◌, ◌≤◌, Bool, true, false, cond, List, [], ◌∷◌, ◌++◌, length, Some, None, is_some, refl, arith}
 use Rattle.linked_hash_map.specs.Pairs.{find, first, from}
 
 module _ {A K V : Type 0} (eq : A → K → Bool) where
@@ -12,6 +12,15 @@ module _ {A K V : Type 0} (eq : A → K → Bool) where
           → first (cond b (pair ∷ pairs) (from eq pairs k)) ≡ cond b (Some pair) (find eq pairs k)
       by_test true rest = refl
       by_test false rest = rest
+
+  -- there are no more of them than of all, and at least the one that the key finds
+  pub length-from_most : (pairs : List (K × V)) (k : A) → length (from eq pairs k) ≤ length pairs
+  length-from_most [] k = omega arith
+  length-from_most (pair ∷ pairs) k = grind (arith, length-from_most pairs k)
+
+  pub length-from_some : (pairs : List (K × V)) (k : A) → is_some (find eq pairs k) ≡ true → 0 < length (from eq pairs k)
+  length-from_some [] k there = grind arith
+  length-from_some (pair ∷ pairs) k there = grind (arith, length-from_some pairs k)
 
   -- of two lists, one after the other, of which the first has the key, or has not
   pub from-append : (pairs others : List (K × V)) (k : A) {pair : K × V} → find eq pairs k ≡ Some pair

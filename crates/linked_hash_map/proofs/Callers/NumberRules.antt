@@ -1,12 +1,13 @@
 -- For callers: more sets of lemmas that an attribute names, at numbers: an insertion taken back,
 -- pairs of another map, moves across others, writes, and visits. `Rules` says how they are written.
-use Rattle.std.proofs.Common.{◌≡◌, ◌+◌, ℕ, Bool, true, false, List, [], ◌∷◌, ◌++◌, length, Some, None, is_some, nat_eq, refl, sym, ap, ap₂}
+use Rattle.std.proofs.Common.{◌≡◌, ◌+◌, ◌<◌, ◌≤◌, take, ℕ, Bool, true, false, List, [], ◌∷◌, ◌++◌, length, Some, None, is_some, nat_eq, refl, sym, ap, ap₂, cond, option_map}
 use Rattle.std.proofs.Common.{◌∙◌, arith, append_assoc, length-append}
 use Rattle.std.proofs.{Math.Seq.take-append_seam, Math.Seq.drop-append_seam, lemmas.Bool.Decides.nat_tests, lemmas.Map.Keys.IsDistinct-tail}
 use Rattle.std.specs.{Cmp.nat_eq_equiv, List.All, List.IsDistinct, Map.keys_of}
-use Rattle.linked_hash_map.specs.Pairs.{find, value_at, without, set_value, set_or_push, count_before, to_behind, to_before, to_after}
+use Rattle.linked_hash_map.specs.Pairs.{find, from, value_at, without, set_value, set_or_push, count_before, to_behind, to_before, to_after}
 use Rattle.linked_hash_map.specs.{declared.map.Mode.Mode, declared.map.Mode.TheVariants.Keep, Inserts.insert_each, Visits.VisitMaps}
-use Rattle.linked_hash_map.proofs.Callers.Cuts.{find-cut, count_before-cut, to_before-cut}
+use Rattle.linked_hash_map.proofs.Callers.Cuts.{find-cut, from-cut, count_before-cut, to_before-cut}
+use Rattle.linked_hash_map.proofs.Callers.FromKeys.{length-from_most, length-from_some}
 use Rattle.linked_hash_map.proofs.Callers.Keys.{find-none, set_value-none, without-absent}
 use Rattle.linked_hash_map.proofs.Callers.WritingVisits.{VisitMaps-written, VisitMaps-removed, length-changed}
 use Rattle.linked_hash_map.proofs.Callers.{Collected.insert_each-apart, Lookups.lookup_entry-append, Lookups.value_at-set_or_push_here}
@@ -81,8 +82,39 @@ module _ {V : Type 0} (one : ℕ × V) where
 -- one of two pairs moved beside the other
 pub ruleset across = (across_number, append_assoc)
 
+-- what each number has once a value is written
+value_at-set_value : {V : Type 0} (pairs : List (ℕ × V)) (k : ℕ) (v : V) (q : ℕ) → value_at nat_eq (set_value nat_eq pairs k v) q
+    ≡ cond (nat_eq k q) (option_map (λ _. v) (value_at nat_eq pairs q)) (value_at nat_eq pairs q)
+value_at-set_value [] k v q = grind arith
+value_at-set_value (pair ∷ pairs) k v q = grind (arith, nat_tests, value_at-set_value pairs k v q)
+
+pub value_at-set_value_number : {V : Type 0} (pairs : List (ℕ × V)) (k : ℕ) (v : V)
+    → (set_value nat_eq pairs k v ≡ set_value nat_eq pairs k v)
+    × ((q : ℕ) → value_at nat_eq (set_value nat_eq pairs k v) q
+    ≡ cond (nat_eq k q) (option_map (λ _. v) (value_at nat_eq pairs q)) (value_at nat_eq pairs q))
+value_at-set_value_number pairs k v = (refl, value_at-set_value pairs k v)
+
+-- the pairs from a number on, and what is left if those behind it go
+pub length-from_number : {V : Type 0} (pairs : List (ℕ × V)) (k : ℕ) → (from nat_eq pairs k ≡ from nat_eq pairs k)
+    × (length (from nat_eq pairs k) ≤ length pairs) × (is_some (find nat_eq pairs k) ≡ true → 0 < length (from nat_eq pairs k))
+length-from_number pairs k = (refl, length-from_most nat_eq pairs k, length-from_some nat_eq pairs k)
+
+pub cut_number : {V : Type 0} (xs ys : List (ℕ × V)) (one : ℕ × V) → IsDistinct nat_eq (keys_of (xs ++ one ∷ ys))
+    → (xs ++ one ∷ ys ≡ xs ++ one ∷ ys) × (find nat_eq (xs ++ one ∷ ys) one.0 ≡ Some one)
+    × (from nat_eq (xs ++ one ∷ ys) one.0 ≡ one ∷ ys) × (length (xs ++ one ∷ ys) ≡ length xs + (length ys + 1))
+    × (take (length xs + 1) (xs ++ one ∷ ys) ≡ xs ++ one ∷ [])
+cut_number xs ys one distinct = (
+  refl,
+  find-cut nat_eq_equiv xs one ys distinct,
+  from-cut nat_eq_equiv xs one ys distinct,
+  grind (arith, length-append),
+  ap₂ take (sym (length-append xs (one ∷ []))) (sym (append_assoc xs (one ∷ []) ys)) ∙ take-append_seam (xs ++ one ∷ []) ys,
+)
+
+pub ruleset cut = (length-from_number, cut_number)
+
 -- a value that is written only if its key is there
-pub ruleset written = (find-none, set_value-none)
+pub ruleset written = (find-none, set_value-none, value_at-set_value_number)
 
 -- a step of a visit that writes, or takes out
 module _ {V : Type 0} {keeps : ℕ × V → Bool} {change : ℕ × V → V} {start now : List (ℕ × V)} {to_come left : List ℕ} {k : ℕ} {v : V}

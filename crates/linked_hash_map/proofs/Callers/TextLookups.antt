@@ -1,7 +1,7 @@
 -- For callers: what each text finds after a change, at `String` keys. The first part of a
 -- conclusion shows `grind` the lookup or the call.
 use Rattle.std.proofs.Common.{◌≡◌, ◌⊎◌, inl, inr, ℕ, Bool, List, [], ◌∷◌, Option, Some, None, option_map, cond, true, false, refl, sym, ap}
-use Rattle.std.proofs.{Common.◌∙◌, Common.arith, lemmas.Cmp.nat_list_eq_equiv}
+use Rattle.std.proofs.{Common.◌∙◌, Common.◌++◌, Common.is_some, Common.arith, lemmas.Cmp.nat_list_eq_equiv, lemmas.List.Elements.filter-append}
 use Rattle.std.specs.{Cmp.Lexicographic.bytes_decides, Prelude.String, Prelude.string_eq, declared.alloc.Global.Global, Str.bytes_eq}
 use Rattle.std.specs.{String.string_bytes, String.string_eq_equiv}
 use Rattle.linked_hash_map.specs.{declared.map.Mode.Mode, Pairs.find, Pairs.value_at, Pairs.without, Pairs.set_value, Pairs.put}
@@ -63,3 +63,12 @@ module _ {V : Type 0} where
         ∙ ap (λ b. cond b None (value_at bytes_eq (by_bytes pairs) q)) apart
         ∙ value_at-by_bytes pairs q,
   )
+
+  -- a pair that was put behind the others stays if another one is removed
+  pub without-push_text : (pairs : List (String Global × V)) (text : List ℕ) (key : String Global) (v : V)
+      → is_some (find names pairs text) ≡ true → find names pairs (string_bytes key) ≡ None
+      → without names (pairs ++ (key, v) ∷ []) text ≡ without names pairs text ++ (key, v) ∷ []
+  without-push_text pairs text key v there new =
+      let same : names text key ≡ true → find names pairs text ≡ find names pairs (string_bytes key) =
+      λ is. ap (λ (t : List ℕ). find names pairs t) ((bytes_decides text (string_bytes key)).0 is) in
+      grind (arith, filter-append, same)

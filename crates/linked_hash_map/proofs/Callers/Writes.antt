@@ -1,10 +1,10 @@
 -- For callers: values that are written, and calls one after another by the same key.
-use Rattle.std.proofs.Common.{◌≡◌, Bool, true, false, cond, List, [], ◌∷◌, append-nil, Option, Some, None, arith, is_some, option_map}
+use Rattle.std.proofs.Common.{◌≡◌, Bool, true, false, cond, List, [], ◌∷◌, ◌++◌, append-nil, Option, Some, None, arith, is_some, option_map}
 use Rattle.std.proofs.{Common.unwrap_or, Common.refl, Common.ap, Common.ap₂, Common.◌∙◌, lemmas.List.Elements.filter-append}
 use Rattle.std.specs.Map.Calls.{MayWrite, ModifiesValue}
-use Rattle.std.specs.{Option.IsSome, Borrow.MutBor, Fn.Once, List.IsDistinct, Map.keys_of, Cmp.IsEquivalence}
+use Rattle.std.specs.{Option.IsSome, Borrow.MutBor, Fn.Once, List.IsDistinct, Map.keys_of, Cmp.IsEquivalence, Cmp.nat_eq_equiv}
 use Rattle.linked_hash_map.specs.Pairs.{ActsAs, find, value_at, without, set_value, set_or_push, set_if_some, put}
-use Rattle.linked_hash_map.proofs.Callers.Keys.{find-absent, IsSome-find, set_or_push-present, without-absent, put-absent}
+use Rattle.linked_hash_map.proofs.Callers.Keys.{find-absent, IsSome-find, set_or_push-absent, set_or_push-present, without-absent, put-absent}
 use Rattle.linked_hash_map.{specs.declared.map.Mode.Mode, proofs.pairs.Calls.set_value-none, proofs.pairs.Calls.is_some-value_at}
 -- a value that is set as it was changes nothing
 pub use Rattle.linked_hash_map.proofs.pairs.Indexes.{set_value-own}
@@ -30,6 +30,16 @@ module _ {K V : Type 0} {eq : K → K → Bool} (laws : IsEquivalence eq) where
       → contents ≡ pairs → w ≡ unwrap_or o v → o ≡ value_at eq pairs k → IsSome (find eq pairs k) → IsDistinct eq (keys_of pairs)
       → set_or_push eq contents stored w ≡ pairs
   set_or_push-present_own contents pairs stored k v w o acts same is held there distinct = grind (arith, set_or_push-own, own_or)
+
+  -- and of one that is not there: it stands behind the others
+  pub set_or_push-if_absent : (contents pairs : List (K × V)) (stored k : K) (v w : V) (o : Option V) → ActsAs eq pairs stored k
+      → contents ≡ pairs → w ≡ unwrap_or o v → o ≡ value_at eq pairs k → IsDistinct eq (keys_of pairs)
+      → set_or_push eq contents stored w ≡ cond (is_some (find eq pairs k)) pairs (pairs ++ (k, v) ∷ [])
+  set_or_push-if_absent contents pairs stored k v w o acts same is held distinct = by_test (is_some (find eq pairs k)) refl
+    where
+      by_test : (b : Bool) → is_some (find eq pairs k) ≡ b → set_or_push eq contents stored w ≡ cond b pairs (pairs ++ (k, v) ∷ [])
+      by_test true there = set_or_push-present_own contents pairs stored k v w o acts same is held there distinct
+      by_test false absent = grind (arith, acts.sets_or_pushes w, set_or_push-absent, find-absent)
 
 module _ {K V : Type 0} (eq : K → K → Bool) where
   -- the later of two writes counts
@@ -74,3 +84,6 @@ module _ {K V : Type 0} {eq : K → K → Bool} (laws : IsEquivalence eq) where
 
 -- what `or_insert` leaves if the key is there
 pub ruleset present_own = (set_or_push-present_own)
+
+-- what it leaves, whether the key is there or not, at numbers
+pub ruleset if_absent = (set_or_push-if_absent, nat_eq_equiv)

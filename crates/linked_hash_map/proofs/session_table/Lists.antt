@@ -27,6 +27,11 @@ module _ {T : Type 0} where
       → session_of (sessions ++ session ∷ []) session.0 ≡ Some session
   session_of-append sessions session none = grind (arith, find-append, eq-eqb)
 
+  -- an id that is not there takes none away
+  pub without-absent : (sessions : List (Session T)) (id : ℕ) → session_of sessions id ≡ None → without sessions id ≡ sessions
+  without-absent [] id none = refl
+  without-absent (session ∷ sessions) id none = grind (arith, without-absent sessions id)
+
   -- the longest end that fits: all, if all fit, and else that of the others
   pub fit-all : (limit : ℕ) (sessions : List (Session T)) → total_weight sessions ≤ limit → fit limit sessions ≡ sessions
   fit-all limit [] fits = refl

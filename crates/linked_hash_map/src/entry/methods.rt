@@ -46,6 +46,8 @@ impl<K: Eq + Hash, V, S: BuildHasher> LinkedHashMap<K, V, S> {
         ensures ends_visit { IsTrue (is_occupied result)
             → entry_map result ≡ without_cursor self.old }
         ensures unchanged { entry_value result ≡ None → entry_map result ≡ self.old }
+        ensures absent { entry_value result ≡ None
+            → without K.eq self.old.pairs key ≡ self.old.pairs }
         ensures valid { IsValid K.eq self.old }
 
         // Laws of the map once the entry writes, inserts or removes a value, for the proofs of

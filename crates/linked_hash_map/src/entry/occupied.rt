@@ -137,7 +137,9 @@ impl<'a, K: Eq + Hash, V, S: BuildHasher> OccupiedEntry<'a, K, V, S> {
         ensures to_visit { to_visit (occupied_map self.new) ≡ to_visit (occupied_map self.old) }
         ensures valid { IsValid K.eq (occupied_map self.old) }
         ensures stays_valid { IsValid K.eq (occupied_map self.new) }
-        // A consequence of `pairs`, for the proofs of callers.
+        // Consequences of `pairs`, for the proofs of callers.
+        ensures len { length (occupied_map self.new).pairs
+            ≡ length (occupied_map self.old).pairs }
         ensures finds { (q : K) → find K.eq (occupied_map self.new).pairs q
             ≡ find K.eq (occupied_map self.old).pairs q }
     {
@@ -169,7 +171,9 @@ impl<'a, K: Eq + Hash, V, S: BuildHasher> OccupiedEntry<'a, K, V, S> {
         ensures to_visit { to_visit (occupied_map self.new) ≡ to_visit (occupied_map self.old) }
         ensures valid { IsValid K.eq (occupied_map self.old) }
         ensures stays_valid { IsValid K.eq (occupied_map self.new) }
-        // A consequence of `pairs`, for the proofs of callers.
+        // Consequences of `pairs`, for the proofs of callers.
+        ensures len { length (occupied_map self.new).pairs
+            ≡ length (occupied_map self.old).pairs }
         ensures finds { (q : K) → find K.eq (occupied_map self.new).pairs q
             ≡ find K.eq (occupied_map self.old).pairs q }
     {

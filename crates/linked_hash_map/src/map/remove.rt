@@ -99,6 +99,7 @@ impl<K: Eq + Hash, V, S: BuildHasher> LinkedHashMap<K, V, S> {
         ensures pairs { self.new.pairs ≡ without_first self.old.pairs }
         ensures keeps { Keeps self.old self.new }
         ensures ends_visit { to_visit self.new ≡ [] }
+        ensures unchanged { IfNone result (self.new ≡ self.old) }
         ensures valid { IsValid K.eq self.old }
         ensures stays_valid { IsValid K.eq self.new }
         // Consequences of `pair` and `pairs`, for the proofs of callers.
@@ -126,6 +127,7 @@ impl<K: Eq + Hash, V, S: BuildHasher> LinkedHashMap<K, V, S> {
         ensures pairs { self.new.pairs ≡ without_last self.old.pairs }
         ensures keeps { Keeps self.old self.new }
         ensures ends_visit { to_visit self.new ≡ [] }
+        ensures unchanged { IfNone result (self.new ≡ self.old) }
         ensures valid { IsValid K.eq self.old }
         ensures stays_valid { IsValid K.eq self.new }
         // Consequences of `pair` and `pairs`, for the proofs of callers.

@@ -69,6 +69,9 @@ impl<T> Sessions<T> {
             (self.new.capacity ≡ max self.old.capacity (length self.new.sessions)) }
         ensures valid { IsValidTable self.old }
         ensures stays_valid { IsValidTable self.new }
+        // A law of the sessions before the call, for the proofs of callers.
+        ensures new_id { session_of self.old.sessions id ≡ None
+            → without self.old.sessions id ≡ self.old.sessions }
 
         ensures payload_back { IfErr result (λ refused. refused.payload ≡ payload) }
         ensures unchanged { OnErr result (self.new ≡ self.old) }

@@ -1,5 +1,5 @@
-use Rattle.linked_hash_map.proofs.Names.{ap, ◌∙◌, occupied_key, occupied_map, find}
-use Rattle.linked_hash_map.proofs.Callers.Moves.{find-to_back_as_is}
+use Rattle.linked_hash_map.proofs.Names.{ap, length, ◌∙◌, occupied_key, occupied_map, find}
+use Rattle.linked_hash_map.proofs.Callers.Moves.{find-to_back_as_is, length-to_back_as_is}
 use Rattle.linked_hash_map.proofs.pairs.OccupiedEntries.{IsIndex-occupied, within-moved}
 use Rattle.linked_hash_map.proofs.entry.OccupiedEntry.move_to_back.Goals as goal
 
@@ -12,3 +12,9 @@ returns-clause-finds g c q =
     let o = c.args.self.now in let laws = g.met.K.Eq.laws in
     ap (λ pairs. find g.K.PartialEq.eq pairs q) (c.move_current_to_back.ensures.pairs (occupied_key o) (IsIndex-occupied o laws))
     ∙ find-to_back_as_is laws (occupied_map o).pairs (occupied_key o) q
+
+pub returns-clause-len : goal.returns-clause-len
+returns-clause-len g c =
+    let o = c.args.self.now in let laws = g.met.K.Eq.laws in let moved = c.move_current_to_back.ensures in
+    ap length (moved.pairs (occupied_key o) (IsIndex-occupied o laws))
+    ∙ length-to_back_as_is laws (occupied_map o).pairs (occupied_key o) moved.moves.valid.distinct

@@ -1,5 +1,5 @@
-use Rattle.linked_hash_map.proofs.Names.{ap, ◌∙◌, occupied_key, occupied_map, find}
-use Rattle.linked_hash_map.proofs.{Callers.Moves.find-to_front, pairs.OccupiedEntries.IsIndex-occupied, pairs.OccupiedEntries.within-moved}
+use Rattle.linked_hash_map.proofs.Names.{ap, length, ◌∙◌, occupied_key, occupied_map, find}
+use Rattle.linked_hash_map.proofs.{Callers.Moves.find-to_front, Callers.Moves.length-to_front, pairs.OccupiedEntries.IsIndex-occupied, pairs.OccupiedEntries.within-moved}
 use Rattle.linked_hash_map.proofs.entry.OccupiedEntry.move_to_front.Goals as goal
 
 pub invariant_of-self : goal.invariant_of-self
@@ -11,3 +11,9 @@ returns-clause-finds g c q =
     let o = c.args.self.now in let laws = g.met.K.Eq.laws in
     ap (λ pairs. find g.K.PartialEq.eq pairs q) (c.move_current_to_front.ensures.pairs (occupied_key o) (IsIndex-occupied o laws))
     ∙ find-to_front laws (occupied_map o).pairs (occupied_key o) q
+
+pub returns-clause-len : goal.returns-clause-len
+returns-clause-len g c =
+    let o = c.args.self.now in let laws = g.met.K.Eq.laws in let moved = c.move_current_to_front.ensures in
+    ap length (moved.pairs (occupied_key o) (IsIndex-occupied o laws))
+    ∙ length-to_front laws (occupied_map o).pairs (occupied_key o) moved.moves.valid.distinct

@@ -26,6 +26,7 @@ returns g c =
       pairs = pairs;
       keeps = search rules;
       ends_visit = search rules;
+      unchanged = tt;
       valid = valid;
       stays_valid = IsValid-kept _ (invariant_of-self g c) refl refl refl;
       updates = updates;
