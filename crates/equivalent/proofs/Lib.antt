@@ -1,1 +1,1 @@
-pub mod Overlaps
+mod Bytes

@@ -43,8 +43,8 @@ fn same_8(a: &[u8], b: &[u8]) -> bool
     number_of_8(a) == number_of_8(b)
 }
 
-/// Returns `true` if two slices of 4 to 8 bytes are equal: their first and their last 4 bytes, which
-/// may overlap, are.
+/// Returns `true` if two slices of 4 to 8 bytes are equal: the first and the last 4 bytes are, which
+/// may overlap.
 #[inline(always)]
 fn same_4_to_8(a: &[u8], b: &[u8]) -> bool
     requires least { 4 ≤ length a.now }
@@ -56,7 +56,7 @@ fn same_4_to_8(a: &[u8], b: &[u8]) -> bool
     same_4(&a[..4], &b[..4]) & same_4(&a[last..], &b[last..])
 }
 
-/// Returns `true` if two slices of 8 to 16 bytes are equal: their first and their last 8 bytes are.
+/// Returns `true` if two slices of 8 to 16 bytes are equal: the first and the last 8 bytes are.
 #[inline(always)]
 fn same_8_to_16(a: &[u8], b: &[u8]) -> bool
     requires least { 8 ≤ length a.now }
@@ -68,7 +68,7 @@ fn same_8_to_16(a: &[u8], b: &[u8]) -> bool
     same_8(&a[..8], &b[..8]) & same_8(&a[last..], &b[last..])
 }
 
-/// Returns `true` if two slices of 16 to 32 bytes are equal: their first and their last 16 bytes are.
+/// Returns `true` if two slices of 16 to 32 bytes are equal: the first and the last 16 bytes are.
 #[inline(always)]
 fn same_16_to_32(a: &[u8], b: &[u8]) -> bool
     requires least { 16 ≤ length a.now }

@@ -1,6 +1,6 @@
 use Rattle.std.proofs.Common.{◌-◌, ◌∙◌, arith, length, sym}
 use Rattle.std.proofs.lemmas.List.{length-take-le}
-use Rattle.equivalent.proofs.Overlaps.{and-parts}
+use Rattle.equivalent.proofs.Bytes.{and-parts}
 use Rattle.equivalent.proofs.texts.same_16_to_32.Goals as goal
 
 pub same_8_to_16-requires-clause-same_length : goal.same_8_to_16-requires-clause-same_length

@@ -1,5 +1,5 @@
 use Rattle.std.proofs.Common.{◌-◌, arith, length}
-use Rattle.equivalent.proofs.Overlaps.{and-parts}
+use Rattle.equivalent.proofs.Bytes.{and-parts}
 use Rattle.equivalent.proofs.texts.same_4_to_8.Goals as goal
 
 pub returns : goal.returns

@@ -1,7 +1,7 @@
 use Rattle.std.proofs.Common.{rules}
 use Rattle.std.specs.Int.{from_le_bytes, to_le_bytes, w64}
 use Rattle.std.proofs.lemmas.Nat.{le_bytes_8}
-use Rattle.equivalent.proofs.Overlaps.{eq-numbers}
+use Rattle.equivalent.proofs.Bytes.{eq-numbers}
 use Rattle.equivalent.proofs.texts.same_8.Goals as goal
 
 pub returns : goal.returns
