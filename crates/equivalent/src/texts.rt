@@ -43,7 +43,7 @@ fn same_8(a: &[u8], b: &[u8]) -> bool
     number_of_8(a) == number_of_8(b)
 }
 
-/// Returns `true` if two slices of 4 to 8 bytes are equal: the first and the last 4 bytes are, which
+/// Returns `true` if two slices of 4 to 8 bytes are equal: the first and the last 4 bytes are. They
 /// may overlap.
 #[inline(always)]
 fn same_4_to_8(a: &[u8], b: &[u8]) -> bool
@@ -80,6 +80,14 @@ fn same_16_to_32(a: &[u8], b: &[u8]) -> bool
     same_8_to_16(&a[..16], &b[..16]) & same_8_to_16(&a[last..], &b[last..])
 }
 
+/// Returns `true` if two texts are equal, by a call.
+#[inline(never)]
+fn same_by_call(a: &str, b: &str) -> bool
+    ensures { result ≡ bytes_eq a.now b.now }
+{
+    a == b
+}
+
 /// Returns `true` if two texts are equal. Those of 4 to 32 bytes are compared in line, with no
 /// call.
 #[inline(always)]
@@ -91,14 +99,15 @@ pub(crate) fn same_text(a: &str, b: &str) -> bool
     if n != y.len() {
         return false;
     }
-    if n < 4 || 32 < n {
-        return a == b;
-    }
-    if n < 8 {
-        return same_4_to_8(x, y);
-    }
     if n <= 16 {
-        return same_8_to_16(x, y);
+        if 8 <= n {
+            return same_8_to_16(x, y);
+        }
+        if 4 <= n {
+            return same_4_to_8(x, y);
+        }
+    } else if n <= 32 {
+        return same_16_to_32(x, y);
     }
-    same_16_to_32(x, y)
+    same_by_call(a, b)
 }
