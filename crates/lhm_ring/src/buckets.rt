@@ -129,11 +129,13 @@ impl<K, V> Index<K, V> {
         self.heads.as_slice(self.heads_ptr, self.count)[bucket].link
     }
 
-    /// Returns whether a node may have a hash of this bucket: `false` only if none has it.
+    /// Returns whether a node may have a hash of this bucket: `false` only if none has it, `true`
+    /// only if the bucket has a node.
     pub(crate) fn may_contain(&self, bucket: usize, hash: u64) -> bool
         requires of_hash { bucket ≡ hash % length self.now.heads }
         requires within { bucket < length self.now.heads }
-        ensures { result ≡ may_contain self.now.words hash }
+        ensures bit { result ≡ may_contain self.now.words hash }
+        ensures chain { IsTrue result → IsSome (slice_index_or self.now.heads bucket None) }
     {
         let words = self.words.as_slice(self.words_ptr, self.count);
         (words[bucket].bits >> ((hash >> 60) as u32)) & 1 == 1

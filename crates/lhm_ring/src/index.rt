@@ -245,7 +245,7 @@ impl<K: Eq + Hash, V> Index<K, V> {
         if !self.may_contain(bucket, hash) {
             return None;
         }
-        let first = self.head(bucket).get()?;
+        let first = self.head(bucket).position();
         let (found, _) = self.search_on(ring, self.begin(ring, first, hash), hash, key);
         Some(found?.at)
     }

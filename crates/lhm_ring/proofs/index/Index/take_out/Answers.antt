@@ -4,7 +4,7 @@ use Rattle.lhm_ring.proofs.index.Index.take_out.Goals as goal
 pub returns-then-not-may_contain-clause-absent : goal.returns-then-not-may_contain-clause-absent
 returns-then-not-may_contain-clause-absent g c =
     LacksKey-uncovered c.args.self.now.words (g.Q.Equivalent.equivalent c.args.key) c.args.hash
-    c.args.ring.now.held c.requires.indexed.covers (sym c.may_contain.ensures ∙ c.if-not-may_contain.true)
+    c.args.ring.now.held c.requires.indexed.covers (sym c.may_contain.ensures.bit ∙ c.if-not-may_contain.true)
 
 pub returns-clause-found : goal.returns-clause-found
 returns-clause-found g c =
