@@ -1,10 +1,10 @@
 -- For callers: which items are in a union, an intersection, a difference or a symmetric difference
 -- of two sets, and in a set after a loop of insertions or removals.
-use Rattle.std.proofs.Common.{◌≡◌, Bool, true, false, cond, not, ◌||◌, ◌&&◌, List, [], ◌∷◌, ◌++◌, filter, fold, map, refl, sym, ap, ap₂}
+use Rattle.std.proofs.Common.{◌≡◌, ◌==◌, length, Bool, true, false, cond, not, ◌||◌, ◌&&◌, List, [], ◌∷◌, ◌++◌, filter, fold, map, refl, sym, ap, ap₂}
 use Rattle.std.proofs.{Common.◌∙◌, Common.arith, lemmas.List.Folds.list_any-append, lemmas.Map.Views.any-filter_same}
 use Rattle.std.specs.{Cmp.IsEquivalence, List.list_any, Map.keys_of}
 use Rattle.linked_hash_map.specs.declared.map.Mode.TheVariants.{Touch}
-use Rattle.linked_hash_set.specs.Operations.{difference, intersection, union, symmetric_difference}
+use Rattle.linked_hash_set.specs.Operations.{difference, intersection, is_subset, union, symmetric_difference}
 use Rattle.linked_hash_set.specs.{Inserts.insert_each, Items.contains, Items.push_if_absent}
 use Rattle.linked_hash_set.proofs.Kept as kept
 use Rattle.linked_hash_set.proofs.Callers.Removals.{without_each}
@@ -54,6 +54,10 @@ module _ {A T : Type 0} (looks_up : A → T → Bool) (eq : T → T → Bool)
     contains-symmetric_difference_by = list_any-append (looks_up q) (difference eq xs ys) (difference eq ys xs)
         ∙ ap₂ (λ b c. b || c) (contains-difference_by xs ys) (contains-difference_by ys xs)
 
+nil : {T : Type 0} (xs : List T) → (length xs == 0) ≡ true → xs ≡ []
+nil [] none = refl
+nil (x ∷ xs) none = grind arith
+
 module _ {T : Type 0} {eq : T → T → Bool} (laws : IsEquivalence eq) where
   module _ (xs ys : List T) (q : T) where
     pub contains-difference : contains eq (difference eq xs ys) q ≡ (contains eq xs q && not (contains eq ys q))
@@ -68,6 +72,13 @@ module _ {T : Type 0} {eq : T → T → Bool} (laws : IsEquivalence eq) where
     pub contains-symmetric_difference : contains eq (symmetric_difference eq xs ys) q
         ≡ ((contains eq xs q && not (contains eq ys q)) || (contains eq ys q && not (contains eq xs q)))
     contains-symmetric_difference = contains-symmetric_difference_by eq eq laws.congr q xs ys
+
+  -- what is in a subset is in the other
+  pub contains-is_subset : (xs ys : List T) (q : T) → is_subset eq xs ys ≡ true → contains eq xs q ≡ true → contains eq ys q ≡ true
+  contains-is_subset xs ys q all there =
+      let none : difference eq xs ys ≡ [] = nil (difference eq xs ys) all in
+      let outside = ap (λ zs. contains eq zs q) none ∙ refl in let is = contains-difference xs ys q in
+      grind (arith, there, outside, is)
 
   -- two names of one item are in a list alike
   pub contains-same : (xs : List T) (x y : T) → eq x y ≡ true → contains eq xs x ≡ contains eq xs y

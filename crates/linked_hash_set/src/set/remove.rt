@@ -91,6 +91,7 @@ impl<T: Eq + Hash, S: BuildHasher> LinkedHashSet<T, S> {
         ensures item { result ≡ first self.old.items }
         ensures items { self.new.items ≡ without_first self.old.items }
         ensures keeps { Keeps self.old self.new }
+        ensures unchanged { IfNone result (self.new ≡ self.old) }
         ensures stays_valid { IsValid T.eq self.new }
         // A consequence of `item` and `items`, for the proofs of callers.
         ensures updates { IfSome result (λ item.
@@ -114,6 +115,7 @@ impl<T: Eq + Hash, S: BuildHasher> LinkedHashSet<T, S> {
         ensures item { result ≡ last self.old.items }
         ensures items { self.new.items ≡ without_last self.old.items }
         ensures keeps { Keeps self.old self.new }
+        ensures unchanged { IfNone result (self.new ≡ self.old) }
         ensures stays_valid { IsValid T.eq self.new }
         // A consequence of `item` and `items`, for the proofs of callers.
         ensures updates { IfSome result (λ item.

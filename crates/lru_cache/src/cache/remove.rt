@@ -1,5 +1,5 @@
 //! Removal, and the limit.
-ghost use Rattle.std.specs.Prelude.{◌≡◌, ◌≤◌, [], length, None, IfSome};
+ghost use Rattle.std.specs.Prelude.{◌≡◌, ◌≤◌, [], length, None, IfNone, IfSome};
 ghost use Rattle.std.specs.Borrow.{sem};
 ghost use Rattle.std.specs.Map.{keys_of};
 ghost use Rattle.std.specs.Map.Calls.{CallableOnEachPair, CalledAtPair, TakesPair, RetainsPairs};
@@ -80,6 +80,7 @@ impl<K: Eq + Hash, V, S: BuildHasher> LruCache<K, V, S> {
         ensures pair { result ≡ first self.old.pairs }
         ensures pairs { self.new.pairs ≡ without_first self.old.pairs }
         ensures keeps { Keeps self.old self.new }
+        ensures unchanged { IfNone result (self.new ≡ self.old) }
         ensures valid { IsValidCache K.eq self.old }
         ensures stays_valid { IsValidCache K.eq self.new }
         // Consequences of `pair` and `pairs`, for the proofs of callers.
