@@ -9,11 +9,11 @@ use Rattle.std.specs.declared.alloc.Global.{Global}
 use Rattle.linked_hash_map.specs.Pairs.{find, value_at}
 use Rattle.linked_hash_map.proofs.Callers.Cuts.{find-cut}
 use Rattle.linked_hash_map.proofs.Callers.Texts.{find-is_text}
-use Rattle.uses.specs.Trees.{push_member, get_member}
+use Rattle.uses.specs.Trees.{put_member, get_member}
 use Rattle.uses.specs.Documents.{view, members_view}
 use Rattle.uses.specs.Texts.{names}
 use Rattle.uses.specs.declared.nested.Value.{Value}
-use Rattle.uses.proofs.TreeViews.{Entry, get_member-view, push_member-view, find-behind}
+use Rattle.uses.proofs.TreeViews.{Entry, get_member-view, put_member-new, find-behind}
 
 -- the name of a member is not among those before it
 find-front : (done : List Entry) (e : Entry) (left : List Entry) → IsDistinct string_eq (keys_of (done ++ e ∷ left))
@@ -43,12 +43,11 @@ pub members_view-copied : (done : List Entry) (e : Entry) (left copies : List En
     → members_view after ≡ members_view (done ++ e ∷ [])
 members_view-copied done e left copies name v distinct same named is pushed =
     let bytes = string_bytes e.0 in
+    let new : value_at names done bytes ≡ None = ap (option_map (λ (p : Entry). p.1)) (find-front done e left distinct) in
     let absent : value_at names copies bytes ≡ None =
     no_value (value_at names copies bytes)
-    (sym (get_member-view copies bytes) ∙ ap (get_member bytes) same ∙ get_member-view done bytes
-    ∙ ap (λ o. option_map view (option_map (λ (p : Entry). p.1) o)) (find-front done e left distinct)) in
-    let new : value_at string_eq copies name ≡ None =
-    ap (option_map (λ (p : Entry). p.1)) (find-is_text copies bytes name named) ∙ absent in
-    ap members_view (pushed new) ∙ push_member-view copies name v
-    ∙ ap₂ (λ t n. push_member t n (members_view copies)) is named ∙ ap (push_member (view e.1) bytes) same
-    ∙ sym (push_member-view done e.0 e.1)
+    (sym (get_member-view copies bytes) ∙ ap (get_member bytes) same ∙ get_member-view done bytes ∙ ap (option_map view) new) in
+    ap members_view (pushed (ap (option_map (λ (p : Entry). p.1)) (find-is_text copies bytes name named) ∙ absent))
+    ∙ put_member-new copies bytes name v named (sym absent)
+    ∙ ap₂ (λ t ms. put_member t bytes ms) is same
+    ∙ sym (put_member-new done bytes e.0 e.1 refl (sym new))

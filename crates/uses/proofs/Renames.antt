@@ -1,6 +1,6 @@
 -- A member that is renamed: a new pair is put right before it, and the old one leaves.
 use Rattle.std.proofs.Common.{◌≡◌, ℕ, List, [], ◌∷◌, ◌++◌, Option, Some, None, option_map, is_some, cond, Bool, true, false}
-use Rattle.std.proofs.Common.{refl, sym, ap, subst, ap₂, ◌&&◌, IfSome, ◌∙◌, String, one-add}
+use Rattle.std.proofs.Common.{refl, sym, ap, subst, ap₂, ◌&&◌, unwrap_or, ◌∙◌, String, one-add}
 use Rattle.std.proofs.lemmas.Map.Keys.{IsDistinct-tail}
 use Rattle.std.specs.Cmp.Lexicographic.{bytes_decides, nat_list_eq_equiv}
 use Rattle.std.specs.List.{IsDistinct}
@@ -133,7 +133,7 @@ module _ (key : String Global) (w : Value) (from : List ℕ) where
         → ((is_some (find names inserted (string_bytes key)) && is_some (find names inserted from)) ≡ true
         → moved ≡ to_before names names inserted (string_bytes key) from)
         → removed ≡ without names moved from → value ≡ value_at names moved from
-        → IfSome value (λ v. final ≡ set_value names removed (string_bytes key) v)
+        → final ≡ set_value names removed (string_bytes key) (unwrap_or value w)
         → members_view final ≡ rename_member (string_bytes key) from (members_view pairs)
     members_view-renamed pairs inserted moved removed final value distinct none there inserted_is moved_is removed_is value_is final_is =
         let both : (is_some (find names inserted (string_bytes key)) && is_some (find names inserted from)) ≡ true =
@@ -148,7 +148,7 @@ module _ (key : String Global) (w : Value) (from : List ℕ) where
         by_value value found final_is is_instead
       where
         by_value : (o : Option Value) → o ≡ value_at names pairs from
-            → IfSome o (λ v. final ≡ set_value names removed (string_bytes key) v) → removed ≡ instead pairs
+            → final ≡ set_value names removed (string_bytes key) (unwrap_or o w) → removed ≡ instead pairs
             → members_view final ≡ rename_member (string_bytes key) from (members_view pairs)
         by_value None found is is_instead = absurd (by_pair (find names pairs from) there (sym found))
           where
@@ -166,7 +166,7 @@ module _ (key : String Global) (w : Value) (from : List ℕ) where
       → ((is_some (find names inserted to) && is_some (find names inserted from)) ≡ true
       → moved ≡ to_before names names inserted to from)
       → removed ≡ without names moved from → value ≡ value_at names moved from
-      → IfSome value (λ v. final ≡ set_value names removed to v)
+      → final ≡ set_value names removed to (unwrap_or value w)
       → members_view final ≡ rename_member to from (members_view pairs)
 
   pub renames : (to : List ℕ) → string_bytes key ≡ to → Renames to

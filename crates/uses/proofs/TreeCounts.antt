@@ -1,49 +1,66 @@
--- The leaves and the depth of the values of a list or an object.
-use Rattle.std.proofs.Common.{◌≡◌, ℕ, ◌+◌, ◌≤◌, List, [], ◌∷◌, max, min, refl, ap, arith}
+-- The size of the values of a list or an object.
+use Rattle.std.proofs.Common.{◌≡◌, ℕ, ◌+◌, ◌-◌, ◌^◌, ◌≤◌, List, [], ◌∷◌, max, min, refl, ap, ◌∙◌, arith, Vec, Global}
 use Rattle.std.specs.Map.{values_of}
-use Rattle.uses.specs.Trees.{leaves, item_leaves, member_leaves, depth, item_depth, member_depth}
-use Rattle.uses.specs.Documents.{view, items_view, members_view}
-use Rattle.uses.specs.declared.nested.Value.{Value}
-use Rattle.uses.proofs.TreeViews.{Entry}
+use Rattle.uses.specs.Trees.{size, size_in}
+use Rattle.uses.specs.Documents.{view, members_view}
+use Rattle.uses.specs.declared.nested.Value.{Value, List as ListOf, Object}
+use Rattle.uses.proofs.TreeViews.{Entry, Map, items_view, view-List, view-Object}
 
-abbrev pub leaves_of : List Value → ℕ
-leaves_of [] = 0
-leaves_of (v ∷ vs) = leaves (view v) + leaves_of vs
+abbrev pub size_of : List Value → ℕ × ℕ
+size_of [] = (0, 1)
+size_of (v ∷ vs) = ((size (view v)).0 + (size_of vs).0, max ((size (view v)).1 + 1) (size_of vs).1)
 
-abbrev pub depth_of : List Value → ℕ
-depth_of [] = 0
-depth_of (v ∷ vs) = max (depth (view v)) (depth_of vs)
+size_in-items : (vs : List Value) → size_in (items_view vs) ≡ size_of vs
+size_in-items [] = refl
+size_in-items (v ∷ vs) = ap (λ n. ((size (view v)).0 + n.0, max ((size (view v)).1 + 1) n.1)) (size_in-items vs)
 
-pub item_leaves-view : (vs : List Value) → item_leaves (items_view vs) ≡ leaves_of vs
-item_leaves-view [] = refl
-item_leaves-view (v ∷ vs) = ap (λ n. leaves (view v) + n) (item_leaves-view vs)
+size_in-members : (pairs : List Entry) → size_in (members_view pairs) ≡ size_of (values_of pairs)
+size_in-members [] = refl
+size_in-members (pair ∷ pairs) = ap (λ n. ((size (view pair.1)).0 + n.0, max ((size (view pair.1)).1 + 1) n.1)) (size_in-members pairs)
 
-pub member_leaves-view : (pairs : List Entry) → member_leaves (members_view pairs) ≡ leaves_of (values_of pairs)
-member_leaves-view [] = refl
-member_leaves-view (pair ∷ pairs) = ap (λ n. leaves (view pair.1) + n) (member_leaves-view pairs)
+pub size-List : (v : Vec Value Global) → size (view (ListOf v)) ≡ size_of v.items
+size-List v = ap size (view-List v) ∙ size_in-items v.items
 
-pub item_depth-view : (vs : List Value) → item_depth (items_view vs) ≡ depth_of vs
-item_depth-view [] = refl
-item_depth-view (v ∷ vs) = ap (max (depth (view v))) (item_depth-view vs)
+pub size-Object : (m : Map) → size (view (Object m)) ≡ size_of (values_of m.pairs)
+size-Object m = ap size (view-Object m) ∙ size_in-members m.pairs
 
-pub member_depth-view : (pairs : List Entry) → member_depth (members_view pairs) ≡ depth_of (values_of pairs)
-member_depth-view [] = refl
-member_depth-view (pair ∷ pairs) = ap (max (depth (view pair.1))) (member_depth-view pairs)
+-- the size of all, up to the most, is what is added up so far with the rest
+abbrev pub most : ℕ
+most = 2 ^ 64 - 1
 
--- one value more, counted up to a limit
-pub leaves-next : (total total_next child a rest limit : ℕ) → child ≡ min a limit → total_next ≡ min (total + child) limit
-    → min (total_next + rest) limit ≡ min (total + (a + rest)) limit
-leaves-next total total_next child a rest limit child_is next_is = grind arith
+pub record IsSizeSoFar (all rest : List Value) (total : ℕ × ℕ) : Type 0 where
+  leaves : min (total.0 + (size_of rest).0) most ≡ min (size_of all).0 most
+  depth : min (max total.1 (size_of rest).1) most ≡ min (size_of all).1 most
+  within : max total.0 total.1 ≤ most
+  deep : 1 ≤ total.1
 
-pub depth-next : (most most_next child a rest limit : ℕ) → child ≡ min a limit → most_next ≡ max most child
-    → min (max most_next rest) limit ≡ min (max most (max a rest)) limit
-depth-next most most_next child a rest limit child_is next_is = grind arith
+pub starts : (all : List Value) → IsSizeSoFar all all (0, 1)
+starts all = record { leaves = omega arith; depth = omega (arith, deep all); within = omega arith; deep = omega arith }
+  where
+    deep : (vs : List Value) → 1 ≤ (size_of vs).1
+    deep [] = omega arith
+    deep (v ∷ vs) = omega arith
 
--- no value is left
-pub leaves-end : (total rest all limit : ℕ) → rest ≡ 0 → total ≤ limit
-    → min (total + rest) limit ≡ min all limit → total ≡ min all limit
-leaves-end total rest all limit none within is = omega arith
+leaves-next : (total total_next child a rest : ℕ) → child ≡ min a most → total_next ≡ min (total + child) most
+    → min (total_next + rest) most ≡ min (total + (a + rest)) most
+leaves-next total total_next child a rest child_is next_is = grind arith
 
-pub depth-end : (most rest all limit : ℕ) → rest ≡ 0
-    → min (max most rest) limit ≡ min all limit → min (most + 1) limit ≡ min (all + 1) limit
-depth-end most rest all limit none is = omega arith
+depth-next : (deep deep_next child a rest : ℕ) → child ≡ min a most → deep_next ≡ min (max deep (child + 1)) most
+    → min (max deep_next rest) most ≡ min (max deep (max (a + 1) rest)) most
+depth-next deep deep_next child a rest child_is next_is = grind arith
+
+pub goes_on : (all rest : List Value) (v : Value) (total inner after : ℕ × ℕ) → IsSizeSoFar all (v ∷ rest) total
+    → inner.0 ≡ min (size (view v)).0 most → inner.1 ≡ min (size (view v)).1 most
+    → after.0 ≡ min (total.0 + inner.0) most → after.1 ≡ min (max total.1 (inner.1 + 1)) most → IsSizeSoFar all rest after
+goes_on all rest v total inner after so leaves depth leaves_after depth_after = record {
+  leaves = leaves-next total.0 after.0 inner.0 (size (view v)).0 (size_of rest).0 leaves leaves_after ∙ so.leaves;
+  depth = depth-next total.1 after.1 inner.1 (size (view v)).1 (size_of rest).1 depth depth_after ∙ so.depth;
+  within = omega (arith, leaves_after, depth_after);
+  deep = omega (arith, so.deep, depth_after);
+}
+
+pub leaves-end : (all : List Value) (total : ℕ × ℕ) → IsSizeSoFar all [] total → total.0 ≡ min (size_of all).0 most
+leaves-end all total so = omega (arith, so.leaves, so.within)
+
+pub depth-end : (all : List Value) (total : ℕ × ℕ) → IsSizeSoFar all [] total → total.1 ≡ min (size_of all).1 most
+depth-end all total so = omega (arith, so.depth, so.deep, so.within)

@@ -1,15 +1,12 @@
 -- The tree that a document stands for.
-use Rattle.std.specs.Prelude.{ℕ, List, [], ◌∷◌, map, String, string_bytes}
-use Rattle.std.specs.Borrow.{Bor}
+use Rattle.std.specs.Prelude.{List, [], ◌∷◌, map, String, string_bytes}
 use Rattle.std.specs.declared.alloc.Global.{Global}
-use Rattle.uses.specs.Trees.{Tree, null, number, text, list, object, Items, no_items, item, Members}
-use Rattle.uses.specs.Trees.{no_members, member}
-use Rattle.uses.specs.declared.nested.Value.{Value, fold-Value}
-use Rattle.uses.specs.declared.nested.Value.TheOpen.{Value-F}
+use Rattle.uses.specs.Trees.{Tree, null, number, text, list, object, Members, no_members, member}
+use Rattle.uses.specs.declared.nested.Value.{Value, fold-Value, TheOpen.Value-F}
 
-abbrev pub items_of : List Tree → Items
-items_of [] = no_items
-items_of (t ∷ ts) = item t (items_of ts)
+abbrev pub items_of : List Tree → Members
+items_of [] = no_members
+items_of (t ∷ ts) = member [] t (items_of ts)
 
 abbrev pub members_of : List (String Global × Tree) → Members
 members_of [] = no_members
@@ -26,12 +23,5 @@ view_step (Value-F.Object m) = object (members_of m.pairs)
 abbrev pub view : Value → Tree
 view = fold-Value Tree view_step
 
-abbrev pub items_view : List Value → Items
-items_view vs = items_of (map view vs)
-
 abbrev pub members_view : List (String Global × Value) → Members
 members_view ms = members_of (map (λ m. (m.0, view m.1)) ms)
-
--- the names of a path
-abbrev pub names_of : List (Bor (List ℕ)) → List (List ℕ)
-names_of path = map (λ name. name.now) path

@@ -2,7 +2,6 @@ pub mod Counting
 pub mod Documents
 pub mod Groups
 pub mod Lending
-pub mod Numbers
 pub mod Places
 pub mod Replaying
 pub mod Texts

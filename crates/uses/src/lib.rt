@@ -2,47 +2,62 @@
 //! proved from the contracts of those calls alone.
 #![tactic(auto)]
 
-pub mod basket;
-pub mod bids;
-pub mod cache;
-pub mod clocks;
+// Calls of a map, by kind: insertion, loops, refusals, modes, memory, build hashers.
 pub mod collecting;
-pub mod count;
-pub mod document;
-#[tactic(auto, using(linked_hash_map::proofs::Callers::Groups::groups))]
-pub mod groups;
 pub mod hasher;
-pub mod interner;
-pub mod layers;
-pub mod listing;
 pub mod loops;
-#[tactic(auto, using(linked_hash_set::proofs::Callers::Rules::text_items))]
-pub mod members;
-pub mod memo;
 pub mod memory;
 pub mod modes;
-pub mod nested;
-pub mod numbered;
-#[tactic(auto, using(linked_hash_map::proofs::Callers::Rules::text_lookups))]
-pub mod options;
-pub mod pages;
-pub mod parsed;
-pub mod places;
-pub mod playlist;
-pub mod prices;
 pub mod printing;
-pub mod queue;
-pub mod recursive;
 pub mod refusal;
 pub mod replaying;
 pub mod retains;
-pub mod scheduler;
-#[tactic(auto, using(linked_hash_set::proofs::Callers::Rules::set_operations))]
-pub mod seen;
+
+// Counts, sums and groups.
+pub mod basket;
+pub mod bids;
+pub mod clocks;
+pub mod count;
+#[tactic(auto, using(linked_hash_map::proofs::Callers::Groups::groups))]
+pub mod groups;
+pub mod stock;
+
+// Lists in an order that their users choose.
+pub mod layers;
+pub mod listing;
+pub mod playlist;
+pub mod prices;
 #[tactic(auto, using(linked_hash_map::proofs::Callers::Rules::moved_to_front))]
 pub mod switcher;
+
+// What waits for its turn.
+pub mod queue;
+pub mod scheduler;
 pub mod tasks;
+
+// Texts, numbers and pairs as keys.
+pub mod document;
+pub mod interner;
+pub mod numbered;
+pub mod places;
 pub mod text;
+
+// What was used last.
+pub mod cache;
+pub mod memo;
+pub mod pages;
 #[tactic(auto, using(linked_hash_map::proofs::Callers::Rules::text_lookups))]
 pub mod thumbnails;
+pub mod tries;
 pub mod window;
+
+// Sets.
+#[tactic(auto, using(linked_hash_set::proofs::Callers::Rules::text_items))]
+pub mod members;
+#[tactic(auto, using(linked_hash_set::proofs::Callers::Rules::set_operations))]
+pub mod seen;
+pub mod selection;
+
+// Types that hold themselves.
+pub mod nested;
+pub mod recursive;

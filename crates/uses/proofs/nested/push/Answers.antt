@@ -1,7 +1,7 @@
 use Rattle.std.proofs.Common.{option_map, ap, ◌∙◌}
 use Rattle.linked_hash_map.proofs.Callers.Texts.{find-is_text}
 use Rattle.uses.proofs.TreeViews.{Entry}
-use Rattle.uses.proofs.nested.push_in.Goals as goal
+use Rattle.uses.proofs.nested.push.Goals as goal
 
 pub returns-in-Ok-insert-clause-pairs : goal.returns-in-Ok-insert-clause-pairs
 returns-in-Ok-insert-clause-pairs c =
