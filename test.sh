@@ -107,7 +107,7 @@ begin_part programs scripts/programs --from "$work/built"
 wait
 show_part model-tests '^model-tests: [1-9].* requests refused: as the model has it$'
 words=': 32 rows .* 5 inputs .* 40 res.* 200000 insertions.* 200002 lines .* 16384 lines'
-show_part programs "$words .* 3 pipes .* 3 arguments .* 45 workloads .* 42 workloads on 131072 pairs"
+show_part programs "$words .* 3 pipes .* 3 arguments .* 48 workloads .* 45 workloads on 131072 pairs"
 show_part refused-growths '^refused-growths: [1-9].* growths; leaks were looked for in each$'
 show_part doc-tests '^doc-tests: [2-9][0-9][0-9] examples of [1-9][0-9]* files passed, '
 show_part reference "^reference: [1-9][0-9]* $ends"

@@ -32,15 +32,16 @@ LIBRARIES = ("linked_hash_set", "lru_cache", "linked_hash_map", "lhm_ring", "equ
 PRODUCTS = ("cache_insert", "cache_hit", "set_insert", "set_contains", "set_iterate")
 BY_MAP = "_by_map"
 
-# The workloads of the calls that the original has not, which the twin has. The sort of a vector of
-# the pairs is timed beside the sorts, of which no peer has the last.
-MOVES = ("move_beside", "iter_from", "sort", "sort_cached")
-SORT_VECTOR = "sort_vector"
+# The workloads of the calls that the original has not, which the twin has, but for `sort_cached`,
+# and the sorts of a vector of the same pairs.
+MOVES = ("move_beside", "iter_from", "sort", "sort_cached", "sort_falling")
+SORT_VECTORS = {"sort": "sort_vector", "sort_falling": "sort_vector_falling"}
 
 # The workloads of changes of many pairs and of entries, and those of texts and documents.
 CHANGES = ("entry_new", "entry_present", "retain_half", "empty_refill", "extend", "with_capacity")
 TEXTS = ("text_insert", "text_hit", "text_miss", "text_refresh", "text_present", "text_reinsert",
-         "text_clone", "document_build", "document_read", "document_drop")
+         "text_clone", "document_build", "document_read", "document_drop", "document_with_capacity",
+         "document_cycle")
 
 # The workloads of small maps, the most pairs of one, and how many pairs tables have.
 SMALL = ("small_fill", "small_lookup", "small_iterate")

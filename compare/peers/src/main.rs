@@ -153,20 +153,28 @@ fn bench_moves<M: Moves>(order: &mut impl Order, rounds: u64, n: u64) {
     });
 }
 
-/// Times a sort.
+/// Times each sort.
 fn bench_sort<M: Sort>(order: &mut impl Order, rounds: u64, n: u64) {
     let mut map: M = small::fill(0, n);
     time("sort", rounds, n, || {
         moves::unsort(&mut map, order, n);
         timed(|| moves::sort(&mut map))
     });
+    time("sort_falling", rounds, n, || {
+        map.fall();
+        timed(|| moves::sort(&mut map))
+    });
 }
 
-/// Times the sort of a vector of the pairs of a map.
+/// Times each sort of a vector of the pairs of a map.
 fn bench_sort_vector<M: Sort>(order: &mut impl Order, rounds: u64, n: u64) {
     let mut map: M = small::fill(0, n);
     time("sort_vector", rounds, n, || {
         moves::unsort(&mut map, order, n);
+        timed(|| moves::sort_vector(&map))
+    });
+    time("sort_vector_falling", rounds, n, || {
+        map.fall();
         timed(|| moves::sort_vector(&map))
     });
 }
@@ -283,6 +291,18 @@ fn bench_documents<M: TextMap<String>>(order: &mut impl Order, rounds: u64, n: u
             held = Vec::new();
             0
         })
+    });
+    time("document_with_capacity", rounds, n, || {
+        texts = texts::texts_from(order.start(), n);
+        held = Vec::new();
+        timed(|| {
+            held = texts::all_with_capacity(&texts);
+            held.len() as u64
+        })
+    });
+    time("document_cycle", rounds, n, || {
+        texts = texts::texts_from(order.start(), n);
+        timed(|| texts::cycle::<M>(&texts))
     });
 }
 

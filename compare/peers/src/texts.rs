@@ -8,6 +8,7 @@ use std::collections::HashMap;
 /// A map whose keys are texts.
 pub trait TextMap<V> {
     fn new() -> Self;
+    fn with_capacity(capacity: usize) -> Self;
     fn len(&self) -> usize;
     fn get(&self, text: &str) -> Option<&V>;
     fn insert(&mut self, text: String, value: V) -> Option<V>;
@@ -25,6 +26,10 @@ macro_rules! text_map {
         impl<V, S: Build> TextMap<V> for $($map)::+<String, V, S> {
             fn new() -> Self {
                 Self::with_hasher(S::default())
+            }
+
+            fn with_capacity(capacity: usize) -> Self {
+                Self::with_capacity_and_hasher(capacity, S::default())
             }
 
             fn len(&self) -> usize {
@@ -51,10 +56,14 @@ text_map!(hashlink::LinkedHashMap, remove);
 text_map!(indexmap::IndexMap, swap_remove);
 text_map!(HashMap, remove);
 
-/// A cache with no limit.
+/// A cache with no limit, or with that for which it has memory.
 impl<V, S: Build> TextMap<V> for lru::LruCache<String, V, S> {
     fn new() -> Self {
         Self::unbounded_with_hasher(S::default())
+    }
+
+    fn with_capacity(capacity: usize) -> Self {
+        Self::with_hasher(capacity, S::default())
     }
 
     fn len(&self) -> usize {
@@ -177,6 +186,15 @@ fn document<M: TextMap<String>>(texts: &[String]) -> M {
     document
 }
 
+/// Makes such a document that has the capacity for its fields.
+fn with_capacity<M: TextMap<String>>(texts: &[String]) -> M {
+    let mut document = M::with_capacity(FIELDS.len());
+    for (field, text) in FIELDS.iter().zip(texts) {
+        document.insert(field.to_string(), text.clone());
+    }
+    document
+}
+
 /// Makes documents that have copies of all of some texts.
 pub fn documents<M: TextMap<String>>(texts: &[String]) -> Vec<M> {
     let mut documents = Vec::new();
@@ -186,15 +204,41 @@ pub fn documents<M: TextMap<String>>(texts: &[String]) -> Vec<M> {
     documents
 }
 
+/// Makes such documents that have the capacity for their fields.
+pub fn all_with_capacity<M: TextMap<String>>(texts: &[String]) -> Vec<M> {
+    let mut documents = Vec::new();
+    for part in texts.chunks(FIELDS.len()) {
+        documents.push(with_capacity(part));
+    }
+    documents
+}
+
+/// Looks up the fields of a document, and adds the bytes of their texts to `sink`.
+fn read_one<M: TextMap<String>>(document: &M, sink: u64) -> u64 {
+    let mut sink = sink;
+    for field in FIELDS {
+        if let Some(text) = document.get(field) {
+            sink = sink.wrapping_add(text.len() as u64);
+        }
+    }
+    sink
+}
+
 /// Looks up the fields of each document, and returns the bytes of their texts.
 pub fn read<M: TextMap<String>>(documents: &[M]) -> u64 {
-    let mut sink: u64 = 0;
+    let mut sink = 0;
     for document in documents {
-        for field in FIELDS {
-            if let Some(text) = document.get(field) {
-                sink = sink.wrapping_add(text.len() as u64);
-            }
-        }
+        sink = read_one(document, sink);
+    }
+    sink
+}
+
+/// Makes documents that have copies of all of some texts, looks up the fields of each and drops it
+/// before the next. Returns the bytes of their texts.
+pub fn cycle<M: TextMap<String>>(texts: &[String]) -> u64 {
+    let mut sink = 0;
+    for part in texts.chunks(FIELDS.len()) {
+        sink = read_one(&document::<M>(part), sink);
     }
     sink
 }

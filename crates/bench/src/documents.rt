@@ -18,11 +18,29 @@ fn document(alloc: Global, texts: &[String]) -> Result<Document, AllocError> {
     Ok(document)
 }
 
+/// Makes such a document that has the capacity for its fields.
+fn with_capacity(alloc: Global, texts: &[String]) -> Result<Document, AllocError> {
+    let mut document = LinkedHashMap::with_capacity(alloc, FIELDS.len())?;
+    for (field, text) in FIELDS.iter().zip(texts) {
+        document.insert(field.to_string(alloc)?, text.clone()?)?;
+    }
+    Ok(document)
+}
+
 /// Makes documents that have copies of all of some texts.
 pub fn documents(alloc: Global, texts: &[String]) -> Result<Vec<Document>, AllocError> {
     let mut documents = Vec::new(alloc);
     for part in texts.chunks(FIELDS.len()) {
         documents.push(document(alloc, part)?)?;
+    }
+    Ok(documents)
+}
+
+/// Makes such documents that have the capacity for their fields.
+pub fn all_with_capacity(alloc: Global, texts: &[String]) -> Result<Vec<Document>, AllocError> {
+    let mut documents = Vec::new(alloc);
+    for part in texts.chunks(FIELDS.len()) {
+        documents.push(with_capacity(alloc, part)?)?;
     }
     Ok(documents)
 }
@@ -45,4 +63,14 @@ pub fn read(documents: &[Document]) -> u64 {
         sink = read_one(document, sink);
     }
     sink
+}
+
+/// Makes documents that have copies of all of some texts, looks up the fields of each and drops it
+/// before the next. Returns the bytes of their texts.
+pub fn cycle(alloc: Global, texts: &[String]) -> Result<u64, AllocError> {
+    let mut sink = 0;
+    for part in texts.chunks(FIELDS.len()) {
+        sink = read_one(&document(alloc, part)?, sink);
+    }
+    Ok(sink)
 }

@@ -4,7 +4,7 @@ ghost use Rattle.std.specs.Prelude.{◌<◌};
 use super::maps::{Map, get_refresh};
 use super::order::{Order, mix};
 use linked_hash_map::IterFrom;
-use std::alloc::AllocError;
+use std::alloc::{AllocError, Global};
 
 /// How many pairs an iteration from a key goes over at most.
 const PAIRS: usize = 10;
@@ -77,6 +77,19 @@ pub fn unsort<O: Order>(map: &mut Map, order: &mut O, n: u64)
     }
 }
 
+/// Puts the pairs in the order of falling keys.
+pub fn fall(alloc: Global, map: &mut Map) -> Result<(), AllocError> {
+    let mut keys = Vec::new(alloc);
+    for key in map.keys() {
+        keys.push(*key)?;
+    }
+    keys.sort()?;
+    for key in keys.iter().rev() {
+        map.move_to_back(key);
+    }
+    Ok(())
+}
+
 /// Returns the exclusive or of the first key and the last.
 fn ends_of(map: &Map) -> u64 {
     match (map.front(), map.back()) {
@@ -86,6 +99,7 @@ fn ends_of(map: &Map) -> u64 {
 }
 
 /// Sorts the pairs by their keys, and returns the exclusive or of the first key and the last.
+#[inline(never)]
 pub fn sort(map: &mut Map) -> u64 {
     map.sort_keys();
     ends_of(map)

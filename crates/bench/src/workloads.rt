@@ -5,12 +5,12 @@ use super::calls::other_calls;
 use super::changes::{
     Counts, empty_refill, entry_new, entry_present, extend, retain_half, with_capacity,
 };
-use super::documents::{Document, documents, read};
+use super::documents::{self, Document, documents, read};
 use super::maps::{
     Map, fill, get_hit, get_miss, get_refresh, insert_present, iterate, lru_cycle, remove_reinsert,
     write_all,
 };
-use super::moves::{ends, iter_from, move_beside, sort, sort_cached, unsort};
+use super::moves::{ends, fall, iter_from, move_beside, sort, sort_cached, unsort};
 use super::order::Order;
 use super::products::{
     Cache, CacheMap, Set, SetMap, cache_hit, cache_map_hit, fill_cache, fill_cache_map, fill_set,
@@ -76,6 +76,8 @@ pub enum Workload {
     Sort,
     /// Sorts the pairs by their keys, which it copies first.
     SortCached,
+    /// Sorts pairs whose keys fall.
+    SortFalling,
     /// Inserts each of as many absent keys at the front, rotates the pairs and removes it.
     Ends,
     /// Fills a new map by its entries, and drops it.
@@ -110,6 +112,10 @@ pub enum Workload {
     DocumentRead,
     /// Drops the documents.
     DocumentDrop,
+    /// Makes documents that have the capacity for their fields.
+    DocumentWithCapacity,
+    /// Makes documents, and looks up the fields of each and drops it before the next.
+    DocumentCycle,
     /// Makes each call that no other workload makes, on a new map, cache and table of sessions.
     OtherCalls,
 }
@@ -195,7 +201,7 @@ impl Held {
 
 impl Workload {
     /// All workloads, in the order in which they are timed, each with the word that names it.
-    pub const ALL: [(Workload, &'static str); 45] = [
+    pub const ALL: [(Workload, &'static str); 48] = [
         (Workload::SmallFill, "small_fill"),
         (Workload::SmallLookup, "small_lookup"),
         (Workload::SmallIterate, "small_iterate"),
@@ -223,6 +229,7 @@ impl Workload {
         (Workload::IterFrom, "iter_from"),
         (Workload::Sort, "sort"),
         (Workload::SortCached, "sort_cached"),
+        (Workload::SortFalling, "sort_falling"),
         (Workload::Ends, "ends"),
         (Workload::EntryNew, "entry_new"),
         (Workload::EntryPresent, "entry_present"),
@@ -240,6 +247,8 @@ impl Workload {
         (Workload::DocumentBuild, "document_build"),
         (Workload::DocumentRead, "document_read"),
         (Workload::DocumentDrop, "document_drop"),
+        (Workload::DocumentWithCapacity, "document_with_capacity"),
+        (Workload::DocumentCycle, "document_cycle"),
         (Workload::OtherCalls, "other_calls"),
     ];
 
@@ -300,8 +309,10 @@ impl Workload {
             }
             Workload::Sort => unsort(&mut held.map, order, n),
             Workload::SortCached => unsort(&mut held.map, order, n),
+            Workload::SortFalling => fall(alloc, &mut held.map)?,
             Workload::RetainHalf => held.counts = entry_new(alloc, order.start(), n)?,
             Workload::DocumentBuild => held.documents = Vec::new(alloc),
+            Workload::DocumentWithCapacity => held.documents = Vec::new(alloc),
             Workload::DocumentDrop => held.documents = documents(alloc, held.texts.as_slice())?,
             _ => {}
         }
@@ -318,6 +329,8 @@ impl Workload {
             Workload::TextPresent => true,
             Workload::TextReinsert => true,
             Workload::DocumentBuild => true,
+            Workload::DocumentWithCapacity => true,
+            Workload::DocumentCycle => true,
             _ => false,
         }
     }
@@ -335,6 +348,8 @@ impl Workload {
             Workload::TextInsert => texts_from(alloc, order.start(), n),
             Workload::TextMiss => texts_from(alloc, order.start().wrapping_add(n), n),
             Workload::DocumentBuild => texts_from(alloc, order.start(), n),
+            Workload::DocumentWithCapacity => texts_from(alloc, order.start(), n),
+            Workload::DocumentCycle => texts_from(alloc, order.start(), n),
             _ => draw_texts(alloc, order, n),
         }
     }
@@ -383,6 +398,7 @@ impl Workload {
             Workload::IterFrom => Ok(iter_from(&held.map, order, n)),
             Workload::Sort => Ok(sort(&mut held.map)),
             Workload::SortCached => sort_cached(&mut held.map),
+            Workload::SortFalling => Ok(sort(&mut held.map)),
             Workload::Ends => ends(&mut held.map, n),
             Workload::EntryNew => Ok(entry_new(alloc, order.start(), n)?.len() as u64),
             Workload::EntryPresent => entry_present(&mut held.counts, order, n),
@@ -412,6 +428,11 @@ impl Workload {
                 held.documents = Vec::new(alloc);
                 Ok(0)
             }
+            Workload::DocumentWithCapacity => {
+                held.documents = documents::all_with_capacity(alloc, held.texts.as_slice())?;
+                Ok(held.documents.len() as u64)
+            }
+            Workload::DocumentCycle => documents::cycle(alloc, held.texts.as_slice()),
             Workload::OtherCalls => other_calls(alloc, n),
         }
     }
