@@ -1,0 +1,125 @@
+//! From a value to its text.
+ghost use Rattle.std.specs.Prelude.{◌≡◌, ◌≤◌, List, ◌∷◌, ◌++◌, [], Some, IfOk, OnOk, string_bytes};
+ghost use Rattle.std.specs.Str.{IsUtf8};
+ghost use Rattle.json.specs.Token.{Token as SpecToken};
+ghost use Rattle.json.specs.Reads.{token_of};
+ghost use Rattle.json.specs.Print.{print, IsPrintable};
+ghost use Rattle.json.specs.Layout.{pretty};
+ghost use Rattle.json.specs.Tree.{depth, json_tokens, items_tokens, members_tokens};
+ghost use Rattle.ordered_json.specs.Read.{read, max_depth};
+ghost use Rattle.ordered_json.specs.View.{items_view, members_view, view};
+
+use crate::value::{Map, Value};
+use json::{Pretty, Token, Writer};
+use std::alloc::{AllocError, Global};
+
+/// Returns the text of a value with no space, in O(n). Members and items are in order, and a number
+/// has the text that it was read from.
+///
+/// Returns an error if an allocation fails.
+pub fn to_string(alloc: Global, value: &Value) -> Result<String, AllocError>
+    ensures text { IfOk result (λ s. string_bytes s ≡ print (json_tokens (view value.now))) }
+    ensures reads_back { IfOk result (λ s. depth (view value.now) ≤ max_depth
+        → read (string_bytes s) ≡ Some (view value.now)) }
+{
+    let mut out = Writer::new(Vec::with_capacity(alloc, 128)?);
+    write(value, &mut out)?;
+    text_of(out.into_inner())
+}
+
+/// Returns the text of a value, a line for each item and member, two spaces deeper at each level,
+/// in O(n).
+///
+/// Returns an error if an allocation fails.
+pub fn to_string_pretty(alloc: Global, value: &Value) -> Result<String, AllocError>
+    ensures text { IfOk result (λ s. string_bytes s ≡ pretty (json_tokens (view value.now))) }
+    ensures reads_back { IfOk result (λ s. depth (view value.now) ≤ max_depth
+        → read (string_bytes s) ≡ Some (view value.now)) }
+{
+    let mut out = Pretty::new(alloc);
+    write(value, &mut out)?;
+    text_of(out.into_inner())
+}
+
+/// Makes a text of bytes that are one.
+fn text_of(bytes: Vec<u8>) -> Result<String, AllocError>
+    requires { IsUtf8 bytes.items }
+    ensures { IfOk result (λ s. string_bytes s ≡ bytes.items) }
+{
+    match String::from_utf8(bytes) {
+        Ok(text) => Ok(text),
+        Err(_) => unreachable!(),
+    }
+}
+
+/// What takes tokens, one behind another.
+trait Tokens {
+    ghost written: { Self → List SpecToken };
+
+    fn token(&mut self, token: Token<'_>) -> Result<(), AllocError>
+        requires { IsPrintable (token_of token) }
+        ensures { OnOk result (written self.new ≡ written self.old ++ token_of token.entry ∷ []) };
+}
+
+impl Tokens for Writer {
+    ghost written = { λ writer. writer.tokens };
+
+    fn token(&mut self, token: Token<'_>) -> Result<(), AllocError> {
+        Writer::token(self, token)
+    }
+}
+
+impl Tokens for Pretty {
+    ghost written = { λ tokens. tokens };
+
+    fn token(&mut self, token: Token<'_>) -> Result<(), AllocError> {
+        Pretty::token(self, token)
+    }
+}
+
+/// Writes a value, level by level.
+#[cycle(write)]
+fn write<W: Tokens>(value: &Value, out: &mut W) -> Result<(), AllocError>
+    ensures { OnOk result (W.Tokens.written out.new
+        ≡ W.Tokens.written out.old ++ json_tokens (view value.now)) }
+{
+    match value {
+        Value::Null => out.token(Token::Null),
+        Value::Bool(b) => out.token(Token::Bool(*b)),
+        Value::Number(number) => out.token(Token::Number(number.as_str())),
+        Value::String(text) => out.token(Token::String(text.as_str())),
+        Value::Array(items) => {
+            out.token(Token::BeginArray)?;
+            write_items(items, out)
+        }
+        Value::Object(members) => {
+            out.token(Token::BeginObject)?;
+            write_members(&**members, out)
+        }
+    }
+}
+
+/// Writes the items of an array, and the bracket that closes it.
+#[cycle(write)]
+fn write_items<W: Tokens>(items: &Vec<Value>, out: &mut W) -> Result<(), AllocError>
+    ensures { OnOk result (W.Tokens.written out.new
+        ≡ W.Tokens.written out.old ++ items_tokens (items_view items.now.items)) }
+{
+    for item in items {
+        write(item, out)?;
+    }
+    out.token(Token::EndArray)
+}
+
+/// Writes the members of an object, and the brace that closes it.
+#[cycle(write)]
+fn write_members<W: Tokens>(members: &Map, out: &mut W) -> Result<(), AllocError>
+    ensures { OnOk result (W.Tokens.written out.new
+        ≡ W.Tokens.written out.old ++ members_tokens (members_view members.now.pairs)) }
+{
+    for (name, member) in members.iter() {
+        out.token(Token::Key(name.as_str()))?;
+        write(member, out)?;
+    }
+    out.token(Token::EndObject)
+}
