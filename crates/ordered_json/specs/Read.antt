@@ -4,6 +4,7 @@ use Rattle.std.specs.Str.{bytes_eq}
 use Rattle.json.specs.Token.{Token}
 use Rattle.json.specs.Lex.{tokens}
 use Rattle.json.specs.Json.{Json, null, boolean, number, string, array, object, Items, no_items, item, Members, no_members, member, parse_map, value, if_last}
+use Rattle.ordered_json.specs.declared.read.TheConstants.{MAX_DEPTH}
 
 -- the members, with j at a name: in its place if it is there, and last if it is new
 abbrev pub put : List ℕ → Json → Members → Members
@@ -29,11 +30,10 @@ abbrev mutual
   put_each no_members before = before
   put_each (member name j ms) before = put_each ms (put name (resolved j) before)
 
-abbrev pub max_depth : ℕ
-max_depth = 127
-
+-- the value of a text that nests no deeper than the limit, and has nothing behind it
 abbrev pub read : List ℕ → Option Json
-read text = option_map resolved (option_and_then (λ p. if_last p.0 p.1) (value max_depth (tokens text)))
+read text =
+    option_map resolved (option_and_then (λ p. if_last p.0 p.1) (value MAX_DEPTH (tokens text)))
 
 -- ---- of what a part of a text has, and the tokens behind it; for private clauses
 

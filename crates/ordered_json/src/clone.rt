@@ -29,7 +29,7 @@ fn copy(value: &Value) -> Result<Value, AllocError>
         Value::Array(items) => Ok(Value::Array(copy_items(items)?)),
         Value::Object(members) => {
             let alloc = *Box::allocator(members);
-            Ok(Value::Object(Box::new(alloc, copy_members(&**members)?)?))
+            Ok(Value::of_members(alloc, copy_members(&**members)?)?)
         }
     }
 }
@@ -54,7 +54,7 @@ fn copy_members(members: &Map) -> Result<Map, AllocError>
     let mut copies = Map::emptied(members)?;
     for (name, member) in members.iter() {
         let name = name.clone()?;
-        drop(copies.insert(name, copy(member)?)?);
+        drop(copies.replace(name, copy(member)?)?);
     }
     Ok(copies)
 }

@@ -2,12 +2,14 @@
 #![tactic(auto)]
 
 mod clone;
+mod error;
 mod number;
 mod read;
 mod value;
 mod write;
 
+pub use error::ReadError;
 pub use number::Number;
-pub use read::{MAX_DEPTH, ReadError, from_str};
+pub use read::{MAX_DEPTH, from_str};
 pub use value::{Map, Value};
 pub use write::{to_string, to_string_pretty};

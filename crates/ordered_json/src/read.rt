@@ -5,65 +5,15 @@ ghost use Rattle.json.specs.Tree.{depth as nesting};
 ghost use Rattle.ordered_json.specs.Read.{read as value_of, resolved_value, resolved_items, resolved_members};
 ghost use Rattle.ordered_json.specs.View.{items_view, members_view, view};
 
+use crate::error::{Fault, ReadError};
 use crate::number::Number;
 use crate::value::{Map, Value};
 use json::{Reader, Scratch, Token};
-use std::alloc::{AllocError, AllocFailed, Global};
+use std::alloc::Global;
 use std::hash::RandomState;
 
 /// How deep arrays and objects nest at most in a text that is read.
 pub const MAX_DEPTH: usize = 127;
-
-/// Why a text was not read.
-#[derive(Clone, Copy, Debug, Drop, PartialEq, Eq)]
-pub enum ReadError {
-    /// The text is no JSON, or nests too deep.
-    Invalid {
-        /// The line, from 1 on, at which that shows.
-        line: usize,
-        /// The column in bytes, from 1 on.
-        column: usize,
-    },
-    /// An allocation failed.
-    NoRoom,
-}
-
-/// What ends a read, with no place yet.
-#[derive(Clone, Copy, Drop)]
-enum Fault {
-    Invalid,
-    NoRoom,
-}
-
-impl From<json::Invalid> for Fault {
-    ghost use Rattle.std.specs.Prelude.{◌≡◌};
-
-    ghost from_gives = { λ _ fault. fault ≡ Fault.Invalid };
-
-    fn from(_invalid: json::Invalid) -> Fault {
-        Fault::Invalid
-    }
-}
-
-impl From<AllocError> for Fault {
-    ghost use Rattle.std.specs.Prelude.{◌≡◌};
-
-    ghost from_gives = { λ _ fault. fault ≡ Fault.NoRoom };
-
-    fn from(_refused: AllocError) -> Fault {
-        Fault::NoRoom
-    }
-}
-
-impl<T: Drop> From<AllocFailed<T>> for Fault {
-    ghost use Rattle.std.specs.Prelude.{◌≡◌};
-
-    ghost from_gives = { λ _ fault. fault ≡ Fault.NoRoom };
-
-    fn from(_refused: AllocFailed<T>) -> Fault {
-        Fault::NoRoom
-    }
-}
 
 /// Returns the value that a text has, in O(n). A name that an object has twice keeps its first place
 /// and has its last value. Each object has the given hasher.
@@ -123,7 +73,8 @@ fn read(
     ensures shorter { OnOk result (length reader.new < length reader.old) }
     ensures invalid { result ≡ Err Fault.Invalid → resolved_value (value depth reader.old) ≡ None }
 {
-    match reader.next().ok_or(Fault::Invalid)? {
+    let token = reader.next().ok_or(Fault::Invalid)?;
+    match token {
         Token::Null => Ok(Value::Null),
         Token::Bool(b) => Ok(Value::Bool(b)),
         Token::Number(text) => Ok(Value::Number(Number::new(alloc, text)?)),
@@ -139,7 +90,7 @@ fn read(
                 return Err(Fault::Invalid);
             }
             let members = read_members(alloc, hasher, reader, depth - 1)?;
-            Ok(Value::Object(Box::new(alloc, members)?))
+            Ok(Value::of_members(alloc, members)?)
         }
         Token::EndObject | Token::EndArray | Token::Key(_) | Token::Bad => Err(Fault::Invalid),
     }

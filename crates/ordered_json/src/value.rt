@@ -1,11 +1,12 @@
 //! A value of JSON.
-ghost use Rattle.std.specs.Prelude.{◌≡◌, is_some, option_map};
-ghost use Rattle.json.specs.Json.{null};
+ghost use Rattle.std.specs.Prelude.{◌≡◌, is_some, option_map, IfOk};
+ghost use Rattle.json.specs.Json.{null, object};
 ghost use Rattle.json.specs.Find.{as_array, as_bool, as_number, as_object, as_str, is_null};
 ghost use Rattle.ordered_json.specs.View.{items_view, members_view, number_text, view};
 
 use crate::number::Number;
 use linked_hash_map::LinkedHashMap;
+use std::alloc::{AllocError, Global};
 use std::hash::RandomState;
 use std::mem;
 
@@ -109,6 +110,13 @@ impl Value {
             Value::Object(members) => Some(&mut **members),
             _ => None,
         }
+    }
+
+    /// Creates an object of these members. Returns an error if an allocation fails.
+    pub fn of_members(alloc: Global, members: Map) -> Result<Value, AllocError>
+        ensures { IfOk result (λ v. view v ≡ object (members_view members.pairs)) }
+    {
+        Ok(Value::Object(Box::new(alloc, members)?))
     }
 
     /// Takes the value out, and leaves `null`.

@@ -1,12 +1,14 @@
 //! From a value to its text.
 ghost use Rattle.std.specs.Prelude.{◌≡◌, ◌≤◌, List, ◌∷◌, ◌++◌, [], Some, IfOk, OnOk, string_bytes};
 ghost use Rattle.std.specs.Str.{IsUtf8};
+ghost use Rattle.json.specs.Json.{no_members};
 ghost use Rattle.json.specs.Token.{Token as SpecToken};
 ghost use Rattle.json.specs.Reads.{token_of};
 ghost use Rattle.json.specs.Print.{print, IsPrintable};
 ghost use Rattle.json.specs.Layout.{pretty};
 ghost use Rattle.json.specs.Tree.{depth, json_tokens, items_tokens, members_tokens};
-ghost use Rattle.ordered_json.specs.Read.{read, max_depth};
+ghost use Rattle.ordered_json.specs.Read.{each_resolved, put_each, read, resolved};
+ghost use Rattle.ordered_json.specs.declared.read.TheConstants.{MAX_DEPTH};
 ghost use Rattle.ordered_json.specs.View.{items_view, members_view, view};
 
 use crate::value::{Map, Value};
@@ -19,12 +21,15 @@ use std::alloc::{AllocError, Global};
 /// Returns an error if an allocation fails.
 pub fn to_string(alloc: Global, value: &Value) -> Result<String, AllocError>
     ensures text { IfOk result (λ s. string_bytes s ≡ print (json_tokens (view value.now))) }
-    ensures reads_back { IfOk result (λ s. depth (view value.now) ≤ max_depth
+    ensures reads_back { IfOk result (λ s. depth (view value.now) ≤ MAX_DEPTH
         → read (string_bytes s) ≡ Some (view value.now)) }
 {
-    let mut out = Writer::new(Vec::with_capacity(alloc, 128)?);
+    let mut out = Compact {
+        writer: Writer::new(Vec::new(alloc)),
+    };
     write(value, &mut out)?;
-    text_of(out.into_inner())
+    let Compact { writer, .. } = out;
+    text_of(writer.into_inner())
 }
 
 /// Returns the text of a value, a line for each item and member, two spaces deeper at each level,
@@ -33,7 +38,7 @@ pub fn to_string(alloc: Global, value: &Value) -> Result<String, AllocError>
 /// Returns an error if an allocation fails.
 pub fn to_string_pretty(alloc: Global, value: &Value) -> Result<String, AllocError>
     ensures text { IfOk result (λ s. string_bytes s ≡ pretty (json_tokens (view value.now))) }
-    ensures reads_back { IfOk result (λ s. depth (view value.now) ≤ max_depth
+    ensures reads_back { IfOk result (λ s. depth (view value.now) ≤ MAX_DEPTH
         → read (string_bytes s) ≡ Some (view value.now)) }
 {
     let mut out = Pretty::new(alloc);
@@ -61,11 +66,18 @@ trait Tokens {
         ensures { OnOk result (written self.new ≡ written self.old ++ token_of token.entry ∷ []) };
 }
 
-impl Tokens for Writer {
-    ghost written = { λ writer. writer.tokens };
+/// A writer of a text of its own.
+#[derive(Drop)]
+struct Compact {
+    writer: Writer,
+    ghost alone: { writer.before ≡ [] },
+}
+
+impl Tokens for Compact {
+    ghost written = { λ compact. compact.writer.tokens };
 
     fn token(&mut self, token: Token<'_>) -> Result<(), AllocError> {
-        Writer::token(self, token)
+        self.writer.token(token)
     }
 }
 
@@ -80,8 +92,9 @@ impl Tokens for Pretty {
 /// Writes a value, level by level.
 #[cycle(write)]
 fn write<W: Tokens>(value: &Value, out: &mut W) -> Result<(), AllocError>
-    ensures { OnOk result (W.Tokens.written out.new
+    ensures tokens { OnOk result (W.Tokens.written out.new
         ≡ W.Tokens.written out.old ++ json_tokens (view value.now)) }
+    ensures resolved { OnOk result (resolved (view value.now) ≡ view value.now) }
 {
     match value {
         Value::Null => out.token(Token::Null),
@@ -102,8 +115,10 @@ fn write<W: Tokens>(value: &Value, out: &mut W) -> Result<(), AllocError>
 /// Writes the items of an array, and the bracket that closes it.
 #[cycle(write)]
 fn write_items<W: Tokens>(items: &Vec<Value>, out: &mut W) -> Result<(), AllocError>
-    ensures { OnOk result (W.Tokens.written out.new
+    ensures tokens { OnOk result (W.Tokens.written out.new
         ≡ W.Tokens.written out.old ++ items_tokens (items_view items.now.items)) }
+    ensures resolved { OnOk result
+        (each_resolved (items_view items.now.items) ≡ items_view items.now.items) }
 {
     for item in items {
         write(item, out)?;
@@ -114,8 +129,10 @@ fn write_items<W: Tokens>(items: &Vec<Value>, out: &mut W) -> Result<(), AllocEr
 /// Writes the members of an object, and the brace that closes it.
 #[cycle(write)]
 fn write_members<W: Tokens>(members: &Map, out: &mut W) -> Result<(), AllocError>
-    ensures { OnOk result (W.Tokens.written out.new
+    ensures tokens { OnOk result (W.Tokens.written out.new
         ≡ W.Tokens.written out.old ++ members_tokens (members_view members.now.pairs)) }
+    ensures resolved { OnOk result (put_each (members_view members.now.pairs) no_members
+        ≡ members_view members.now.pairs) }
 {
     for (name, member) in members.iter() {
         out.token(Token::Key(name.as_str()))?;

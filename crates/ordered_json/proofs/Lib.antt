@@ -1,0 +1,4 @@
+pub mod Depths
+pub mod Reading
+pub mod Views
+pub mod Writing
