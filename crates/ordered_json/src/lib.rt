@@ -2,12 +2,15 @@
 #![tactic(auto)]
 
 mod clone;
+mod edit;
 mod error;
 mod number;
+mod pointer;
 mod read;
 mod value;
 mod write;
 
+pub use edit::{EditError, NotSet};
 pub use error::ReadError;
 pub use number::Number;
 pub use read::{MAX_DEPTH, from_str};

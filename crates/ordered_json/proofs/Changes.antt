@@ -1,0 +1,134 @@
+-- What a change of the value at the end of names leaves.
+use Rattle.std.proofs.Common.{◌≡◌, ℕ, zero, suc, List, [], ◌∷◌, ◌++◌, Option, Some, None, option_map, option_and_then, unwrap_or, is_some, length, ◌-◌, take, Result, Ok, Err}
+use Rattle.std.proofs.Common.{cond, Bool, true, false, refl, sym, ap, ◌∙◌, arith, length-append}
+use Rattle.std.proofs.Math.Seq.{take-append_seam}
+use Rattle.std.specs.Str.{bytes_eq}
+use Rattle.json.specs.Json.{Json, null, boolean, number, string, array, object, Items, no_items, item, Members, no_members, member}
+use Rattle.json.specs.Find.{get_item}
+use Rattle.linked_hash_map.specs.Pairs.{last, without_last}
+use Rattle.linked_hash_map.proofs.Callers.Lookups.{last-append}
+use Rattle.ordered_json.specs.Edits.{Edited, edit_at, edit_last, edit_parent, put_back, edit_found, put_child, set_names}
+use Rattle.ordered_json.specs.Pointers.{index, child, find_member, get_at, change_at, change_child, change_member, change_item, change_items}
+use Rattle.ordered_json.specs.declared.edit.EditError.{EditError}
+use Rattle.ordered_json.specs.declared.edit.EditError.TheVariants.{Absent}
+use Rattle.ordered_json.proofs.Children.{change_member-own, change_item-own}
+
+-- the document stays if the value found does
+pub change_at-own : (f : Json → Json) (path : List (List ℕ)) (j : Json) → ((k : Json) → get_at path j ≡ Some k → f k ≡ k)
+    → change_at f path j ≡ j
+change_at-own f [] j own = own j refl
+change_at-own f (name ∷ path) null own = refl
+change_at-own f (name ∷ path) (boolean b) own = refl
+change_at-own f (name ∷ path) (number s) own = refl
+change_at-own f (name ∷ path) (string s) own = refl
+change_at-own f (name ∷ path) (array js) own = ap array (by_index (index name) (λ k h. change_at-own f path k h) own)
+  where
+    by_index : (o : Option ℕ) → ((k : Json) → ((m : Json) → get_at path k ≡ Some m → f m ≡ m) → change_at f path k ≡ k)
+        → ((k : Json) → option_and_then (get_at path) (option_and_then (λ n. get_item n js) o) ≡ Some k → f k ≡ k)
+        → change_items (change_at f path) o js ≡ js
+    by_index None below h = refl
+    by_index (Some n) below h = change_item-own (change_at f path) n js
+        (λ k found. below k (λ m is. h m (ap (option_and_then (get_at path)) found ∙ is)))
+change_at-own f (name ∷ path) (object ms) own =
+    ap object (change_member-own (change_at f path) name ms
+    (λ k found. change_at-own f path k (λ m is. own m (ap (option_and_then (get_at path)) found ∙ is))))
+
+-- two changes in turn are one
+change_member-twice : (f g h : Json → Json) (name : List ℕ) (ms : Members) → ((j : Json) → f (g j) ≡ h j)
+    → change_member f name (change_member g name ms) ≡ change_member h name ms
+change_member-twice f g h name no_members both = refl
+change_member-twice f g h name (member other j ms) both =
+    by_test (change_member-twice f g h name ms both) (bytes_eq name other) refl
+  where
+    by_test : change_member f name (change_member g name ms) ≡ change_member h name ms
+        → (b : Bool) → bytes_eq name other ≡ b
+        → change_member f name (cond b (member other (g j) ms) (member other j (change_member g name ms)))
+        ≡ cond b (member other (h j) ms) (member other j (change_member h name ms))
+    by_test rest true same = rw same (ap (λ k. member other k ms) (both j))
+    by_test rest false apart = rw apart (ap (member other j) rest)
+
+change_item-twice : (f g h : Json → Json) (n : ℕ) (js : Items) → ((j : Json) → f (g j) ≡ h j)
+    → change_item f n (change_item g n js) ≡ change_item h n js
+change_item-twice f g h n no_items both = refl
+change_item-twice f g h zero (item j js) both = ap (λ k. item k js) (both j)
+change_item-twice f g h (suc n) (item j js) both = ap (item j) (change_item-twice f g h n js both)
+
+pub change_at-twice : (f g h : Json → Json) (path : List (List ℕ)) (j : Json) → ((k : Json) → f (g k) ≡ h k)
+    → change_at f path (change_at g path j) ≡ change_at h path j
+change_at-twice f g h [] j both = both j
+change_at-twice f g h (name ∷ path) null both = refl
+change_at-twice f g h (name ∷ path) (boolean b) both = refl
+change_at-twice f g h (name ∷ path) (number s) both = refl
+change_at-twice f g h (name ∷ path) (string s) both = refl
+change_at-twice f g h (name ∷ path) (array js) both = ap array (by_index (index name) (λ k. change_at-twice f g h path k both))
+  where
+    by_index : (o : Option ℕ) → ((k : Json) → change_at f path (change_at g path k) ≡ change_at h path k)
+        → change_items (change_at f path) o (change_items (change_at g path) o js) ≡ change_items (change_at h path) o js
+    by_index None below = refl
+    by_index (Some n) below = change_item-twice _ _ _ n js below
+change_at-twice f g h (name ∷ path) (object ms) both =
+    ap object (change_member-twice _ _ _ name ms (λ k. change_at-twice f g h path k both))
+
+-- an edit of the value that names lead to, which is taken out for it and put back
+module _ (f : Json → Edited) (path : List (List ℕ)) (hole old mid parent after new : Json) (there : is_some (get_at path old) ≡ true)
+    (mid_is : mid ≡ change_at (λ _. hole) path old) (parent_is : parent ≡ unwrap_or (get_at path old) hole)
+    (new_is : new ≡ change_at (λ _. after) path mid) where
+  pub get_at-taken : get_at path old ≡ Some parent
+  get_at-taken = by_found (get_at path old) there parent_is
+    where
+      by_found : (o : Option Json) → is_some o ≡ true → parent ≡ unwrap_or o hole → o ≡ Some parent
+      by_found None some is = absurd (cc)
+      by_found (Some j) some is = ap Some (sym is)
+
+  new-change : new ≡ change_at (λ _. after) path old
+  new-change = new_is ∙ ap (change_at (λ _. after) path) mid_is ∙ change_at-twice (λ _. after) (λ _. hole) (λ _. after) path old (λ k. refl)
+
+  pub edit_at-done : f parent ≡ Ok after → edit_at f path old ≡ Ok new
+  edit_at-done is = rw (get_at-taken, is) (ap Ok (sym new-change))
+
+  pub edit_at-refused : (error : EditError) → f parent ≡ Err error → edit_at f path old ≡ Err error
+  edit_at-refused error is = rw (get_at-taken, is) refl
+
+  pub edit_at-kept : after ≡ parent → new ≡ old
+  edit_at-kept same = new-change ∙ change_at-own (λ _. after) path old (λ k is. same ∙ by_some (sym get_at-taken ∙ is))
+    where
+      by_some : {k : Json} → Some parent ≡ Some k → parent ≡ k
+      by_some is = cc
+
+pub edit_at-absent : (f : Json → Edited) (path : List (List ℕ)) (j : Json) → is_some (get_at path j) ≡ false → edit_at f path j ≡ Err Absent
+edit_at-absent f path j none = by_found (get_at path j) none
+  where
+    by_found : (o : Option Json) → is_some o ≡ false → put_back path j (edit_found f o) ≡ Err Absent
+    by_found None is = refl
+    by_found (Some k) is = absurd (cc)
+
+-- and what was taken out is put back
+pub change_at-absent : (f : Json → Json) (path : List (List ℕ)) (j : Json) → is_some (get_at path j) ≡ false → change_at f path j ≡ j
+change_at-absent f path j none = change_at-own f path j (λ k is. absurd (cc (none, is)))
+
+without_last-append : {A : Type 0} (xs : List A) (x : A) → without_last (xs ++ x ∷ []) ≡ xs
+without_last-append xs x = ap (λ n. take n (xs ++ x ∷ [])) (omega (arith, length-append xs (x ∷ []))) ∙ take-append_seam xs (x ∷ [])
+
+pub edit_parent-append : (f : List ℕ → Json → Edited) (path : List (List ℕ)) (name : List ℕ) (j : Json)
+    → edit_parent f (path ++ name ∷ []) j ≡ edit_at (f name) path j
+edit_parent-append f path name j =
+    ap (λ o. edit_last f (without_last (path ++ name ∷ [])) o j) (last-append path name) ∙ ap (λ p. edit_at (f name) p j) (without_last-append path name)
+
+pub set_names-append : (u : Json) (path : List (List ℕ)) (name : List ℕ) (j : Json)
+    → set_names u (path ++ name ∷ []) j ≡ edit_at (put_child u name) path j
+set_names-append u [] name j = edit_parent-append (put_child u) [] name j
+set_names-append u (next ∷ path) name j = edit_parent-append (put_child u) (next ∷ path) name j
+
+pub get_at-append : (path : List (List ℕ)) (name : List ℕ) (j : Json)
+    → get_at (path ++ name ∷ []) j ≡ option_and_then (child name) (get_at path j)
+get_at-append [] name j = by_found (child name j)
+  where
+    by_found : (o : Option Json) → option_and_then (get_at []) o ≡ o
+    by_found None = refl
+    by_found (Some k) = refl
+get_at-append (next ∷ path) name j = by_found (child next j) (λ k. get_at-append path name k)
+  where
+    by_found : (o : Option Json) → ((k : Json) → get_at (path ++ name ∷ []) k ≡ option_and_then (child name) (get_at path k))
+        → option_and_then (get_at (path ++ name ∷ [])) o ≡ option_and_then (child name) (option_and_then (get_at path) o)
+    by_found None below = refl
+    by_found (Some k) below = below k
