@@ -4,10 +4,12 @@ use Rattle.std.proofs.Common.{is_some, cond, Bool, true, false, refl, sym, ap, �
 use Rattle.std.proofs.lemmas.Bool.{leb-true, leb-false}
 use Rattle.std.proofs.lemmas.Map.Keys.{IsDistinct-tail}
 use Rattle.std.proofs.lemmas.Option.{slice_get_past, slice_get_within}
+use Rattle.std.specs.Borrow.{Bor, MutBor}
 use Rattle.std.specs.Char.{is_ascii_digit}
 use Rattle.std.specs.Cmp.Lexicographic.{bytes_decides}
 use Rattle.std.specs.List.{IsDistinct, slice_get, slice_set}
 use Rattle.std.specs.Map.{keys_of}
+use Rattle.std.specs.Option.{option_copied, option_copied_mut}
 use Rattle.std.specs.Str.{bytes_eq}
 use Rattle.std.specs.String.{string_bytes, string_eq, string_eq_equiv}
 use Rattle.std.specs.declared.alloc.Global.{Global}
@@ -149,3 +151,16 @@ module _ (vs : List Value) (within : length vs < 2 ^ 64 - 1) where
             let gone : get_item n (items_view vs) ≡ None =
             get_item-view vs n ∙ ap (option_map view) (slice_get-capped n ∙ ap (slice_get vs) (sym at_is) ∙ none) in
             change_item-own f n (items_view vs) (λ j found. absurd (cc (gone, found)))
+
+pub capped-none : (o : Option ℕ) → None ≡ option_map capped o → o ≡ None
+capped-none None is = refl
+capped-none (Some n) is = absurd (cc)
+
+-- a value that is lent, seen as its data
+pub view-copied : (r : Option (Bor Value)) → option_map (λ v. view v.now) r ≡ option_map view (option_copied r)
+view-copied None = refl
+view-copied (Some v) = refl
+
+pub view-copied_mut : (r : Option (MutBor Value)) → option_map (λ v. view v.now) r ≡ option_map view (option_copied_mut r)
+view-copied_mut None = refl
+view-copied_mut (Some v) = refl

@@ -4,5 +4,6 @@ pub mod Depths
 mod Parts
 mod Puts
 pub mod Reading
+mod Renames
 pub mod Views
 pub mod Writing

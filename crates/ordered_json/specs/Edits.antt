@@ -1,12 +1,12 @@
 -- What the edits by a pointer leave of a document, or why they refuse.
-use Rattle.std.specs.Prelude.{ℕ, zero, suc, ◌-◌, length, cond, List, [], ◌∷◌, Option, Some, None, option_and_then, option_map, ok_or, Result, Ok, Err}
+use Rattle.std.specs.Prelude.{ℕ, zero, suc, ◌-◌, length, cond, List, [], ◌∷◌, Option, Some, None, is_some, option_and_then, option_map, ok_or, Result, Ok, Err}
 use Rattle.std.specs.Str.{bytes_eq}
 use Rattle.linked_hash_map.specs.Pairs.{last, without_last}
 use Rattle.json.specs.Json.{Json, null, boolean, number, string, array, object, Items, no_items, item, Members, no_members, member}
-use Rattle.ordered_json.specs.Pointers.{names, index, get_at, change_at}
+use Rattle.ordered_json.specs.Pointers.{names, index, find_member, get_at, change_at}
 use Rattle.ordered_json.specs.Read.{put}
 use Rattle.ordered_json.specs.declared.edit.EditError.{EditError}
-use Rattle.ordered_json.specs.declared.edit.EditError.TheVariants.{NotPointer, Absent, OutOfRange}
+use Rattle.ordered_json.specs.declared.edit.EditError.TheVariants.{NotPointer, Absent, OutOfRange, Taken}
 
 -- a document after an edit, or why it is refused
 abbrev pub Edited : Type 0
@@ -102,3 +102,28 @@ without_child name (object ms) = ok_or (option_map object (without_member name m
 -- the document without the value at a pointer
 abbrev pub remove_at : List ℕ → Json → Edited
 remove_at text j = by_names (edit_parent without_child) (names text) j
+
+-- ---- rename
+
+-- the members, with a name changed in its place
+abbrev pub rename_member : List ℕ → List ℕ → Members → Members
+rename_member to name no_members = no_members
+rename_member to name (member other j ms) =
+    member (cond (bytes_eq name other) to other) j (rename_member to name ms)
+
+-- the same of a value; nothing if the names are one
+abbrev pub rename_child : List ℕ → List ℕ → Json → Edited
+rename_child to name null = Err Absent
+rename_child to name (boolean b) = Err Absent
+rename_child to name (number s) = Err Absent
+rename_child to name (string s) = Err Absent
+rename_child to name (array js) = Err Absent
+rename_child to name (object ms) =
+    cond (is_some (find_member name ms))
+    (cond (bytes_eq name to) (Ok (object ms))
+    (cond (is_some (find_member to ms)) (Err Taken) (Ok (object (rename_member to name ms)))))
+    (Err Absent)
+
+-- the document, with another name for the member at a pointer
+abbrev pub rename_at : List ℕ → List ℕ → Json → Edited
+rename_at text to j = by_names (edit_parent (rename_child to)) (names text) j

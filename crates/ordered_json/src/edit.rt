@@ -20,6 +20,8 @@ pub enum EditError {
     Absent,
     /// The last name of the pointer is no index of its array.
     OutOfRange,
+    /// Another member of the object has the new name.
+    Taken,
     /// An allocation failed.
     NoRoom,
 }

@@ -3,6 +3,7 @@
 
 mod clone;
 mod edit;
+mod edit_rename;
 mod error;
 mod number;
 mod pointer;

@@ -78,7 +78,14 @@ fn item<'v>(items: &'v Vec<Value>, part: &str) -> Option<&'v Value>
     if part.contains('~') {
         return None;
     }
-    items.get(index_of(part)?)
+    let Some(at) = index_of(part) else {
+        return None;
+    };
+    if at < items.len() {
+        Some(&items[at])
+    } else {
+        None
+    }
 }
 
 /// Lends the item of a part of a pointer.
@@ -89,7 +96,14 @@ fn item_mut<'v>(items: &'v mut Vec<Value>, part: &str) -> Option<&'v mut Value>
     if part.contains('~') {
         return None;
     }
-    items.get_mut(index_of(part)?)
+    let Some(at) = index_of(part) else {
+        return None;
+    };
+    if at < items.len() {
+        Some(&mut items[at])
+    } else {
+        None
+    }
 }
 
 /// Returns the member of a part of a pointer.
