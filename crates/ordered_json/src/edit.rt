@@ -63,6 +63,25 @@ impl Value {
     ///
     /// If it is refused, the value comes back and nothing changes. It takes memory for the names,
     /// and for one member or item more.
+    ///
+    /// # Examples
+    ///
+    /// ```rust
+    /// use ordered_json::{EditError, Value, from_str, to_string};
+    /// use std::hash::RandomState;
+    ///
+    /// let hasher = RandomState::new(&rt)?;
+    /// let mut song = from_str(rt.alloc(), hasher, "{\"title\": \"Rain\", \"plays\": [1]}")?;
+    /// song.set("/plays/-", Value::Bool(true), rt.alloc())?;
+    /// song.set("/title", Value::Null, rt.alloc())?;
+    /// let text = to_string(rt.alloc(), &song)?;
+    /// assert_eq!(rt; text.as_str(), "{\"title\":null,\"plays\":[1,true]}");
+    ///
+    /// match song.set("/plays/7", Value::Null, rt.alloc()) {
+    ///     Ok(()) => panic!(rt; "the array has two items"),
+    ///     Err(refused) => assert_eq!(rt; refused.error, EditError::OutOfRange),
+    /// }
+    /// ```
     pub fn set(&mut self, pointer: &str, value: Value, alloc: Global) -> Result<(), NotSet>
         ensures document { OnOk result
             (set_at pointer.now (view value) (view self.old) ≡ Ok (view self.new)) }
@@ -95,6 +114,20 @@ impl Value {
     /// Removes the value at a pointer, and returns it. The others keep their order.
     ///
     /// If it is refused, nothing changes. It takes memory for the names alone.
+    ///
+    /// # Examples
+    ///
+    /// ```rust
+    /// use ordered_json::{EditError, Value, from_str, to_string};
+    /// use std::hash::RandomState;
+    ///
+    /// let hasher = RandomState::new(&rt)?;
+    /// let mut song = from_str(rt.alloc(), hasher, "{\"a\": 1, \"b\": true, \"c\": 3}")?;
+    /// assert_eq!(rt; song.remove("/b", rt.alloc())?, Value::Bool(true));
+    /// let text = to_string(rt.alloc(), &song)?;
+    /// assert_eq!(rt; text.as_str(), "{\"a\":1,\"c\":3}");
+    /// assert_eq!(rt; song.remove("/b", rt.alloc()).err(), Some(EditError::Absent));
+    /// ```
     pub fn remove(&mut self, pointer: &str, alloc: Global) -> Result<Value, EditError>
         ensures value { IfOk result (λ v. pointed pointer.now (view self.old) ≡ Some (view v)) }
         ensures document { OnOk result

@@ -21,6 +21,19 @@ impl Value {
     ///
     /// If there is none, or another member of its object has that name, it is refused and nothing
     /// changes. It takes memory for the names, and for one member more.
+    ///
+    /// # Examples
+    ///
+    /// ```rust
+    /// use ordered_json::{from_str, to_string};
+    /// use std::hash::RandomState;
+    ///
+    /// let hasher = RandomState::new(&rt)?;
+    /// let mut song = from_str(rt.alloc(), hasher, "{\"a\": 1, \"b\": 2, \"c\": 3}")?;
+    /// song.rename("/b", "title", rt.alloc())?;
+    /// let text = to_string(rt.alloc(), &song)?;
+    /// assert_eq!(rt; text.as_str(), "{\"a\":1,\"title\":2,\"c\":3}");
+    /// ```
     pub fn rename(&mut self, pointer: &str, to: &str, alloc: Global) -> Result<(), EditError>
         ensures document { OnOk result
             (rename_at pointer.now to.now (view self.old) ≡ Ok (view self.new)) }

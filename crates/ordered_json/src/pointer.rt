@@ -13,6 +13,17 @@ use std::mem;
 impl Value {
     /// Returns the value at a pointer, if it is there. A name with `~0` or `~1` is looked for among
     /// the members one by one.
+    ///
+    /// # Examples
+    ///
+    /// ```rust
+    /// use ordered_json::{Value, from_str};
+    /// use std::hash::RandomState;
+    ///
+    /// let song = from_str(rt.alloc(), RandomState::new(&rt)?, "{\"a/b\": [1, true]}")?;
+    /// assert_eq!(rt; song.pointer("/a~1b/1").and_then(Value::as_bool), Some(true));
+    /// assert!(rt; song.pointer("/a~1b/2").is_none());
+    /// ```
     pub fn pointer(&self, pointer: &str) -> Option<&Value>
         ensures { option_map (λ v. view v.now) result ≡ pointed pointer.now (view self.now) }
     {
@@ -30,6 +41,20 @@ impl Value {
 
     /// Lends the value at a pointer, if it is there. The contract says what the value is, and not
     /// what the document is after a write to it.
+    ///
+    /// # Examples
+    ///
+    /// ```rust
+    /// use ordered_json::{Value, from_str, to_string};
+    /// use std::hash::RandomState;
+    ///
+    /// let mut song = from_str(rt.alloc(), RandomState::new(&rt)?, "{\"plays\": [1, 2]}")?;
+    /// if let Some(plays) = song.pointer_mut("/plays/0") {
+    ///     *plays = Value::Bool(true);
+    /// }
+    /// let text = to_string(rt.alloc(), &song)?;
+    /// assert_eq!(rt; text.as_str(), "{\"plays\":[true,2]}");
+    /// ```
     pub fn pointer_mut(&mut self, pointer: &str) -> Option<&mut Value>
         ensures { option_map (λ v. view v.now) result ≡ pointed pointer.now (view self.old) }
     {
