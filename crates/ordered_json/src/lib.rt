@@ -3,6 +3,8 @@
 
 mod clone;
 mod edit;
+mod edit_move;
+mod edit_parent;
 mod edit_rename;
 mod error;
 mod number;
