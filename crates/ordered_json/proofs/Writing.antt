@@ -61,11 +61,12 @@ mutual
       let more = members_tokens ms ++ rest in
       let all : members_tokens (member name j ms) ++ rest ≡ Token.key name ∷ (json_tokens j ++ more) =
       ap (λ ts. Token.key name ∷ ts) (append_assoc (json_tokens j) (members_tokens ms) rest) in
-      let count = (ap length all, length-append (json_tokens j) more) in
+      let longer = ap length all in
+      let sum = length-append (json_tokens j) more in
       ap (members (value d) n) all
-      ∙ members_more (value d) n name (Token.key name ∷ (json_tokens j ++ more)) (json_tokens j ++ more) more j (omega (arith, enough, count.0)) refl
+      ∙ members_more (value d) n name (Token.key name ∷ (json_tokens j ++ more)) (json_tokens j ++ more) more j (omega (arith, enough, longer)) refl
       (value-json_tokens j d more (omega (arith, within)))
-      ∙ ap (parse_map (member name j)) (members-members_tokens ms d (n - 1) rest (omega (arith, within)) (omega (arith, enough, count.0, count.1)))
+      ∙ ap (parse_map (member name j)) (members-members_tokens ms d (n - 1) rest (omega (arith, within)) (omega (arith, enough, longer, sum)))
 
 pub read-tokens : (text : List ℕ) (j : Json) → tokens text ≡ json_tokens j → resolved j ≡ j → depth j ≤ MAX_DEPTH → read text ≡ Some j
 read-tokens text j written once within =

@@ -24,7 +24,7 @@ fn copy(value: &Value) -> Result<Value, AllocError>
     match value {
         Value::Null => Ok(Value::Null),
         Value::Bool(b) => Ok(Value::Bool(*b)),
-        Value::Number(number) => Ok(Value::Number(number.copy()?)),
+        Value::Number(number) => Ok(Value::Number(number.clone()?)),
         Value::String(text) => Ok(Value::String(text.clone()?)),
         Value::Array(items) => Ok(Value::Array(copy_items(items)?)),
         Value::Object(members) => {

@@ -15,6 +15,15 @@ impl Number {
     /// Creates a number of a text that is one, as `json::is_number` says, in O(n).
     ///
     /// Returns an error if an allocation fails.
+    ///
+    /// # Examples
+    ///
+    /// ```rust
+    /// use ordered_json::Number;
+    ///
+    /// let number = Number::new(rt.alloc(), "-2.50e3")?;
+    /// assert_eq!(rt; number.as_str(), "-2.50e3");
+    /// ```
     pub fn new(alloc: Global, text: &str) -> Result<Number, AllocError>
         requires { IsNumber text.now }
         ensures { IfOk result (λ number. string_bytes number.text ≡ text.now) }
@@ -31,11 +40,16 @@ impl Number {
     {
         self.text.as_str()
     }
+}
 
-    /// Clones the number, in O(n). Returns an error if an allocation fails.
-    pub(crate) fn copy(&self) -> Result<Number, AllocError>
-        ensures { IfOk result (λ number. string_bytes number.text ≡ string_bytes self.now.text) }
-    {
+/// Clones the text, in O(n). Returns an error if an allocation fails.
+impl Clone for Number {
+    ghost use Rattle.std.specs.Prelude.{◌≡◌};
+    ghost use Rattle.ordered_json.specs.View.{number_text};
+
+    ghost is_clone = { λ number other. number_text other ≡ number_text number };
+
+    fn clone(&self) -> Result<Number, AllocError> {
         Ok(Number {
             text: self.text.clone()?,
         })

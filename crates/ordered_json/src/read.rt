@@ -16,10 +16,26 @@ use std::hash::RandomState;
 pub const MAX_DEPTH: usize = 127;
 
 /// Returns the value that a text has, in O(n). A name that an object has twice keeps its first place
-/// and has its last value. Each object has the given hasher.
+/// and has its last value. Each object has the given hasher: by a random one, no text is slow to read
+/// because all its names hash alike.
 ///
 /// Returns `Invalid`, with a place, if the text is no JSON or nests deeper than [`MAX_DEPTH`], and
 /// `NoRoom` if an allocation fails.
+///
+/// # Examples
+///
+/// ```rust
+/// use ordered_json::{ReadError, from_str, to_string};
+/// use std::hash::RandomState;
+///
+/// let hasher = RandomState::new(&rt)?;
+/// let value = from_str(rt.alloc(), hasher, "{\"b\": 1, \"a\": 2.50, \"b\": 3}")?;
+/// let text = to_string(rt.alloc(), &value)?;
+/// assert_eq!(rt; text.as_str(), "{\"b\":3,\"a\":2.50}");
+///
+/// let error = from_str(rt.alloc(), hasher, "[1,\n 2 3]").err();
+/// assert_eq!(rt; error, Some(ReadError::Invalid { line: 2, column: 4 }));
+/// ```
 pub fn from_str(alloc: Global, hasher: RandomState, text: &str) -> Result<Value, ReadError>
     ensures value { IfOk result (λ v. value_of text.now ≡ Some (view v)) }
     ensures depth { IfOk result (λ v. nesting (view v) ≤ MAX_DEPTH) }

@@ -16,9 +16,20 @@ use json::{Pretty, Token, Writer};
 use std::alloc::{AllocError, Global};
 
 /// Returns the text of a value with no space, in O(n). Members and items are in order, and a number
-/// has the text that it was read from.
+/// has the text that it was read from. It recurses as deep as the value nests.
 ///
 /// Returns an error if an allocation fails.
+///
+/// # Examples
+///
+/// ```rust
+/// use ordered_json::{from_str, to_string};
+/// use std::hash::RandomState;
+///
+/// let value = from_str(rt.alloc(), RandomState::new(&rt)?, "[1e2, {\"tide\": \"low\"}]")?;
+/// let text = to_string(rt.alloc(), &value)?;
+/// assert_eq!(rt; text.as_str(), "[1e2,{\"tide\":\"low\"}]");
+/// ```
 pub fn to_string(alloc: Global, value: &Value) -> Result<String, AllocError>
     ensures text { IfOk result (λ s. string_bytes s ≡ print (json_tokens (view value.now))) }
     ensures reads_back { IfOk result (λ s. depth (view value.now) ≤ MAX_DEPTH
@@ -29,13 +40,24 @@ pub fn to_string(alloc: Global, value: &Value) -> Result<String, AllocError>
     };
     write(value, &mut out)?;
     let Compact { writer, .. } = out;
-    text_of(writer.into_inner())
+    Ok(text_of(writer.into_inner()))
 }
 
 /// Returns the text of a value, a line for each item and member, two spaces deeper at each level,
-/// in O(n).
+/// in O(n). It recurses as deep as the value nests.
 ///
 /// Returns an error if an allocation fails.
+///
+/// # Examples
+///
+/// ```rust
+/// use ordered_json::{from_str, to_string_pretty};
+/// use std::hash::RandomState;
+///
+/// let value = from_str(rt.alloc(), RandomState::new(&rt)?, "[7, {}]")?;
+/// let text = to_string_pretty(rt.alloc(), &value)?;
+/// assert_eq!(rt; text.as_str(), "[\n  7,\n  {}\n]");
+/// ```
 pub fn to_string_pretty(alloc: Global, value: &Value) -> Result<String, AllocError>
     ensures text { IfOk result (λ s. string_bytes s ≡ pretty (json_tokens (view value.now))) }
     ensures reads_back { IfOk result (λ s. depth (view value.now) ≤ MAX_DEPTH
@@ -43,16 +65,16 @@ pub fn to_string_pretty(alloc: Global, value: &Value) -> Result<String, AllocErr
 {
     let mut out = Pretty::new(alloc);
     write(value, &mut out)?;
-    text_of(out.into_inner())
+    Ok(text_of(out.into_inner()))
 }
 
 /// Makes a text of bytes that are one.
-fn text_of(bytes: Vec<u8>) -> Result<String, AllocError>
+fn text_of(bytes: Vec<u8>) -> String
     requires { IsUtf8 bytes.items }
-    ensures { IfOk result (λ s. string_bytes s ≡ bytes.items) }
+    ensures { string_bytes result ≡ bytes.items }
 {
     match String::from_utf8(bytes) {
-        Ok(text) => Ok(text),
+        Ok(text) => text,
         Err(_) => unreachable!(),
     }
 }

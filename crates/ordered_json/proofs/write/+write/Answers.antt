@@ -4,7 +4,7 @@ use Rattle.std.proofs.lemmas.Result.{on_ok_weaker}
 use Rattle.std.specs.List.{IsDistinct}
 use Rattle.std.specs.Map.{keys_of, values_of}
 use Rattle.std.specs.String.{string_eq}
-use Rattle.json.specs.Json.{object}
+use Rattle.json.specs.Json.{object, no_members}
 use Rattle.json.specs.Token.{begin_object, key}
 use Rattle.json.specs.Tree.{json_tokens, members_tokens}
 use Rattle.ordered_json.specs.Read.{put, put_each, resolved}
@@ -27,7 +27,9 @@ write-returns-in_ok-token-in-Object-clause-tokens g t c =
 pub write-returns-in_ok-token-in-Object-clause-resolved : goal.write-returns-in_ok-token-in-Object-clause-resolved
 write-returns-in_ok-token-in-Object-clause-resolved g t c =
     let seen = ap view c.in-Object.is ∙ view-Object c.in-Object.members in
-    on_ok_weaker c.write_members.result (λ once. ap resolved seen ∙ ap object once ∙ sym seen) c.write_members.ensures.resolved
+    let same : members_view c.deref.result.now.pairs ≡ members_view c.in-Object.members.value.pairs = search rules in
+    on_ok_weaker c.write_members.result (λ once.
+    ap resolved seen ∙ ap object (subst (λ ms. put_each ms no_members ≡ ms) same once) ∙ sym seen) c.write_members.ensures.resolved
 
 pub write_members-loop-name-preserved : goal.write_members-loop-name-preserved
 write_members-loop-name-preserved g t c =
