@@ -1,9 +1,9 @@
 -- What the edits by a pointer leave of a document, or why they refuse.
-use Rattle.std.specs.Prelude.{ℕ, zero, suc, ◌-◌, length, cond, List, [], ◌∷◌, Option, Some, None, is_some, option_and_then, option_map, ok_or, Result, Ok, Err}
+use Rattle.std.specs.Prelude.{ℕ, zero, suc, Bool, true, false, cond, List, [], ◌∷◌, Option, Some, None, is_some, option_and_then, option_map, ok_or, unwrap_or, Result, Ok, Err}
 use Rattle.std.specs.Str.{bytes_eq}
 use Rattle.linked_hash_map.specs.Pairs.{last, without_last}
-use Rattle.json.specs.Json.{Json, null, boolean, number, string, array, object, Items, no_items, item, Members, no_members, member}
-use Rattle.ordered_json.specs.Pointers.{names, index, find_member, get_at, change_at}
+use Rattle.json.specs.Json.{Json, array, object, Items, no_items, item, Members, no_members, member}
+use Rattle.ordered_json.specs.Pointers.{names, index, by_kind, find_member, get_at, change_at}
 use Rattle.ordered_json.specs.Read.{put}
 use Rattle.ordered_json.specs.declared.edit.EditError.{EditError}
 use Rattle.ordered_json.specs.declared.edit.EditError.TheVariants.{NotPointer, Absent, OutOfRange, Taken}
@@ -62,20 +62,14 @@ put_named u name js =
 
 -- the value, with u as the child of a name
 abbrev pub put_child : Json → List ℕ → Json → Edited
-put_child u name null = Err Absent
-put_child u name (boolean b) = Err Absent
-put_child u name (number s) = Err Absent
-put_child u name (string s) = Err Absent
-put_child u name (array js) = ok_or (option_map array (put_named u name js)) OutOfRange
-put_child u name (object ms) = Ok (object (put name u ms))
-
-abbrev pub set_names : Json → List (List ℕ) → Json → Edited
-set_names u [] j = Ok u
-set_names u (name ∷ path) j = edit_parent (put_child u) (name ∷ path) j
+put_child u name j =
+    by_kind (λ js. ok_or (option_map array (put_named u name js)) OutOfRange)
+    (λ ms. Ok (object (put name u ms))) (Err Absent) j
 
 -- the document, with u at a pointer
 abbrev pub set_at : List ℕ → Json → Json → Edited
-set_at text u j = by_names (set_names u) (names text) j
+set_at [] u j = Ok u
+set_at (x ∷ text) u j = by_names (edit_parent (put_child u)) (names (x ∷ text)) j
 
 -- ---- remove
 
@@ -91,13 +85,10 @@ without_member name (member other j ms) =
 
 -- the value without the child of a name
 abbrev pub without_child : List ℕ → Json → Edited
-without_child name null = Err Absent
-without_child name (boolean b) = Err Absent
-without_child name (number s) = Err Absent
-without_child name (string s) = Err Absent
-without_child name (array js) =
-    ok_or (option_map array (option_and_then (λ n. without_item n js) (index name))) OutOfRange
-without_child name (object ms) = ok_or (option_map object (without_member name ms)) Absent
+without_child name j =
+    by_kind
+    (λ js. ok_or (option_map array (option_and_then (λ n. without_item n js) (index name))) OutOfRange)
+    (λ ms. ok_or (option_map object (without_member name ms)) Absent) (Err Absent) j
 
 -- the document without the value at a pointer
 abbrev pub remove_at : List ℕ → Json → Edited
@@ -113,17 +104,41 @@ rename_member to name (member other j ms) =
 
 -- the same of a value; nothing if the names are one
 abbrev pub rename_child : List ℕ → List ℕ → Json → Edited
-rename_child to name null = Err Absent
-rename_child to name (boolean b) = Err Absent
-rename_child to name (number s) = Err Absent
-rename_child to name (string s) = Err Absent
-rename_child to name (array js) = Err Absent
-rename_child to name (object ms) =
-    cond (is_some (find_member name ms))
+rename_child to name j =
+    by_kind (λ js. Err Absent)
+    (λ ms. cond (is_some (find_member name ms))
     (cond (bytes_eq name to) (Ok (object ms))
     (cond (is_some (find_member to ms)) (Err Taken) (Ok (object (rename_member to name ms)))))
-    (Err Absent)
+    (Err Absent)) (Err Absent) j
 
 -- the document, with another name for the member at a pointer
 abbrev pub rename_at : List ℕ → List ℕ → Json → Edited
 rename_at text to j = by_names (edit_parent (rename_child to)) (names text) j
+
+-- ---- move
+
+-- the members, with a name and its value right before other, or behind it
+abbrev pub put_beside : Bool → List ℕ → Json → List ℕ → Members → Members
+put_beside behind name j other no_members = no_members
+put_beside behind name j other (member k i ms) =
+    cond (bytes_eq other k)
+    (cond behind (member k i (member name j ms)) (member name j (member k i ms)))
+    (member k i (put_beside behind name j other ms))
+
+-- the same of the value that a name has, if the other is there; nothing if the names are one
+abbrev pub moved : Bool → List ℕ → List ℕ → Members → Option Json → Bool → Edited
+moved behind other name ms None there = Err Absent
+moved behind other name ms (Some j) false = Err Absent
+moved behind other name ms (Some j) true =
+    Ok (object (cond (bytes_eq name other) ms
+    (put_beside behind name j other (unwrap_or (without_member name ms) ms))))
+
+abbrev pub move_child : Bool → List ℕ → List ℕ → Json → Edited
+move_child behind other name j =
+    by_kind (λ js. Err Absent)
+    (λ ms. moved behind other name ms (find_member name ms) (is_some (find_member other ms)))
+    (Err Absent) j
+
+-- the document, with the member at a pointer before another of its object, or behind it
+abbrev pub move_at : Bool → List ℕ → List ℕ → Json → Edited
+move_at behind text other j = by_names (edit_parent (move_child behind other)) (names text) j

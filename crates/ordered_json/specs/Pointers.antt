@@ -52,14 +52,19 @@ abbrev pub find_member : List ℕ → Members → Option Json
 find_member name no_members = None
 find_member name (member other j ms) = cond (bytes_eq name other) (Some j) (find_member name ms)
 
+-- f of the items of an array, g of the members of an object, and x of any other value
+abbrev pub by_kind : {A : Type 0} → (Items → A) → (Members → A) → A → Json → A
+by_kind f g x null = x
+by_kind f g x (boolean b) = x
+by_kind f g x (number s) = x
+by_kind f g x (string s) = x
+by_kind f g x (array js) = f js
+by_kind f g x (object ms) = g ms
+
 -- the value of a name, or none: a member of an object, an item of an array
 abbrev pub child : List ℕ → Json → Option Json
-child name null = None
-child name (boolean b) = None
-child name (number s) = None
-child name (string s) = None
-child name (array js) = option_and_then (λ n. get_item n js) (index name)
-child name (object ms) = find_member name ms
+child name j =
+    by_kind (λ js. option_and_then (λ n. get_item n js) (index name)) (find_member name) None j
 
 -- the value that names lead to, the outermost first, or none
 abbrev pub get_at : List (List ℕ) → Json → Option Json
@@ -86,12 +91,9 @@ change_items f (Some n) js = change_item f n js
 
 -- the value, with f of the child of a name in its place
 abbrev pub change_child : (Json → Json) → List ℕ → Json → Json
-change_child f name null = null
-change_child f name (boolean b) = boolean b
-change_child f name (number s) = number s
-change_child f name (string s) = string s
-change_child f name (array js) = array (change_items f (index name) js)
-change_child f name (object ms) = object (change_member f name ms)
+change_child f name j =
+    by_kind (λ js. array (change_items f (index name) js))
+    (λ ms. object (change_member f name ms)) j j
 
 -- the value, with f of the value that names lead to in its place
 abbrev pub change_at : (Json → Json) → List (List ℕ) → Json → Json

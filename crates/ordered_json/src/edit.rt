@@ -6,7 +6,8 @@ ghost use Rattle.ordered_json.specs.Pointers.{child, pointed};
 ghost use Rattle.ordered_json.specs.View.{items_view, members_view, view};
 ghost use Rattle.ordered_json.specs.declared.edit.EditError.TheVariants.{NoRoom};
 
-use crate::pointer::{index_of, names_of, swap_at};
+use crate::edit_parent::{put_back, take_parent};
+use crate::pointer::index_of;
 use crate::value::{Map, Value};
 use std::alloc::{AllocError, AllocFailed, Global};
 use std::mem;
@@ -90,24 +91,16 @@ impl Value {
         ensures value_back { IfErr result (λ refused. refused.value ≡ value) }
         ensures unchanged { OnErr result (view self.new ≡ view self.old) }
     {
-        let mut names = match names_of(alloc, pointer) {
-            Ok(names) => names,
-            Err(error) => return Err(NotSet { value, error }),
-        };
-        let Some(name) = names.pop() else {
+        if pointer.is_empty() {
             *self = value;
             return Ok(());
-        };
-        let path = names.as_slice();
-        let mut parent = Value::Null;
-        if !swap_at(self, path, &mut parent) {
-            return Err(NotSet {
-                value,
-                error: EditError::Absent,
-            });
         }
-        let done = put_in(&mut parent, name, value);
-        swap_at(self, path, &mut parent);
+        let (name, mut taken) = match take_parent(self, pointer, alloc) {
+            Ok(found) => found,
+            Err(error) => return Err(NotSet { value, error }),
+        };
+        let done = put_in(&mut taken.parent, name, value);
+        put_back(self, taken);
         done
     }
 
@@ -136,20 +129,9 @@ impl Value {
             → remove_at pointer.now (view self.old) ≡ Err error) }
         ensures unchanged { OnErr result (view self.new ≡ view self.old) }
     {
-        let mut names = match names_of(alloc, pointer) {
-            Ok(names) => names,
-            Err(error) => return Err(error),
-        };
-        let Some(name) = names.pop() else {
-            return Err(EditError::Absent);
-        };
-        let path = names.as_slice();
-        let mut parent = Value::Null;
-        if !swap_at(self, path, &mut parent) {
-            return Err(EditError::Absent);
-        }
-        let removed = take_from(&mut parent, name.as_str());
-        swap_at(self, path, &mut parent);
+        let (name, mut taken) = take_parent(self, pointer, alloc)?;
+        let removed = take_from(&mut taken.parent, name.as_str());
+        put_back(self, taken);
         removed
     }
 }

@@ -11,7 +11,7 @@ ghost use Rattle.ordered_json.specs.View.{members_view, view};
 ghost use Rattle.ordered_json.specs.declared.edit.EditError.TheVariants.{NoRoom};
 
 use crate::edit::EditError;
-use crate::pointer::{names_of, swap_at};
+use crate::edit_parent::{put_back, take_parent};
 use crate::value::{Map, Value};
 use std::alloc::Global;
 use std::mem;
@@ -41,20 +41,9 @@ impl Value {
             → rename_at pointer.now to.now (view self.old) ≡ Err error) }
         ensures unchanged { OnErr result (view self.new ≡ view self.old) }
     {
-        let mut names = match names_of(alloc, pointer) {
-            Ok(names) => names,
-            Err(error) => return Err(error),
-        };
-        let Some(name) = names.pop() else {
-            return Err(EditError::Absent);
-        };
-        let path = names.as_slice();
-        let mut parent = Value::Null;
-        if !swap_at(self, path, &mut parent) {
-            return Err(EditError::Absent);
-        }
-        let done = rename_in(&mut parent, name.as_str(), to, alloc);
-        swap_at(self, path, &mut parent);
+        let (name, mut taken) = take_parent(self, pointer, alloc)?;
+        let done = rename_in(&mut taken.parent, name.as_str(), to, alloc);
+        put_back(self, taken);
         done
     }
 }

@@ -25,6 +25,8 @@
 
 mod clone;
 mod edit;
+mod edit_move;
+mod edit_parent;
 mod edit_rename;
 mod error;
 mod number;
