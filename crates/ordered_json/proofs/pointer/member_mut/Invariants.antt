@@ -1,0 +1,10 @@
+use Rattle.std.proofs.Common.{◌≡◌, option_and_then}
+use Rattle.linked_hash_map.specs.ValueIterators.{pairs_left}
+use Rattle.ordered_json.specs.Pointers.{find_member, unescape}
+use Rattle.ordered_json.specs.View.{members_view}
+use Rattle.ordered_json.proofs.pointer.member_mut.Given as goal
+
+abbrev pub invariant-loop-name : goal.invariant-loop-name
+invariant-loop-name l =
+    option_and_then (λ name. find_member name (members_view l.fn.members.pairs)) (unescape l.part)
+    ≡ option_and_then (λ name. find_member name (members_view (pairs_left l.name-iterator))) (unescape l.part)

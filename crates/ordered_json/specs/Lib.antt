@@ -1,0 +1,4 @@
+pub mod Edits
+pub mod Pointers
+pub mod Read
+pub mod View

@@ -1,0 +1,296 @@
+//! Edits of a document by pointers.
+ghost use Rattle.std.specs.Prelude.{◌≡◌, ◌≢◌, ◌∷◌, ◌++◌, [], IfErr, IfOk, Ok, OnErr, OnOk, Err, Some, string_bytes};
+ghost use Rattle.json.specs.Json.{array, object};
+ghost use Rattle.ordered_json.specs.Edits.{put_child, remove_at, set_at, without_child};
+ghost use Rattle.ordered_json.specs.Pointers.{child, pointed};
+ghost use Rattle.ordered_json.specs.View.{items_view, members_view, view};
+ghost use Rattle.ordered_json.specs.declared.edit.EditError.TheVariants.{NoRoom};
+
+use crate::edit_parent::{put_back, take_parent};
+use crate::pointer::index_of;
+use crate::value::{Map, Value};
+use std::alloc::{AllocError, AllocFailed, Global};
+use std::mem;
+
+/// Why a document was not edited.
+#[derive(Clone, Copy, Debug, Drop, PartialEq, Eq)]
+pub enum EditError {
+    /// The text is no pointer.
+    NotPointer,
+    /// A member is not there, or what would have it is neither an array nor an object.
+    Absent,
+    /// The last name of the pointer is no index of its array.
+    OutOfRange,
+    /// Another member of the object has the new name.
+    Taken,
+    /// An allocation failed.
+    NoRoom,
+}
+
+impl From<AllocError> for EditError {
+    ghost use Rattle.std.specs.Prelude.{◌≡◌};
+    ghost use Rattle.ordered_json.specs.declared.edit.EditError.TheVariants.{NoRoom};
+
+    ghost from_gives = { λ _ error. error ≡ NoRoom };
+
+    fn from(_refused: AllocError) -> EditError {
+        EditError::NoRoom
+    }
+}
+
+impl<T: Drop> From<AllocFailed<T>> for EditError {
+    ghost use Rattle.std.specs.Prelude.{◌≡◌};
+    ghost use Rattle.ordered_json.specs.declared.edit.EditError.TheVariants.{NoRoom};
+
+    ghost from_gives = { λ _ error. error ≡ NoRoom };
+
+    fn from(_refused: AllocFailed<T>) -> EditError {
+        EditError::NoRoom
+    }
+}
+
+/// A value that was not set.
+#[derive(Debug, Drop)]
+pub struct NotSet {
+    /// The value.
+    pub value: Value,
+    /// Why it was not set.
+    pub error: EditError,
+}
+
+impl Value {
+    /// Sets the value at a pointer: in place if it is there, else as the last member of its object,
+    /// or behind the last item of its array, if the name is the length or `-`.
+    ///
+    /// If it is refused, the value comes back and nothing changes. It takes memory for the names,
+    /// and for one member or item more.
+    ///
+    /// # Examples
+    ///
+    /// ```rust
+    /// use ordered_json::{EditError, Value, from_str, to_string};
+    /// use std::hash::RandomState;
+    ///
+    /// let hasher = RandomState::new(&rt)?;
+    /// let mut song = from_str(rt.alloc(), hasher, "{\"title\": \"Rain\", \"plays\": [1]}")?;
+    /// song.set("/plays/-", Value::Bool(true), rt.alloc())?;
+    /// song.set("/title", Value::Null, rt.alloc())?;
+    /// let text = to_string(rt.alloc(), &song)?;
+    /// assert_eq!(rt; text.as_str(), "{\"title\":null,\"plays\":[1,true]}");
+    ///
+    /// match song.set("/plays/7", Value::Null, rt.alloc()) {
+    ///     Ok(()) => panic!(rt; "the array has two items"),
+    ///     Err(refused) => assert_eq!(rt; refused.error, EditError::OutOfRange),
+    /// }
+    /// ```
+    pub fn set(&mut self, pointer: &str, value: Value, alloc: Global) -> Result<(), NotSet>
+        ensures document { OnOk result
+            (set_at pointer.now (view value) (view self.old) ≡ Ok (view self.new)) }
+        ensures why { IfErr result (λ refused. refused.error ≢ NoRoom
+            → set_at pointer.now (view value) (view self.old) ≡ Err refused.error) }
+        ensures value_back { IfErr result (λ refused. refused.value ≡ value) }
+        ensures unchanged { OnErr result (view self.new ≡ view self.old) }
+    {
+        if pointer.is_empty() {
+            *self = value;
+            return Ok(());
+        }
+        let (name, mut taken) = match take_parent(self, pointer, alloc) {
+            Ok(found) => found,
+            Err(error) => return Err(NotSet { value, error }),
+        };
+        let done = put_in(&mut taken.parent, name, value);
+        put_back(self, taken);
+        done
+    }
+
+    /// Removes the value at a pointer, and returns it. The others keep their order.
+    ///
+    /// If it is refused, nothing changes. It takes memory for the names alone.
+    ///
+    /// # Examples
+    ///
+    /// ```rust
+    /// use ordered_json::{EditError, Value, from_str, to_string};
+    /// use std::hash::RandomState;
+    ///
+    /// let hasher = RandomState::new(&rt)?;
+    /// let mut song = from_str(rt.alloc(), hasher, "{\"a\": 1, \"b\": true, \"c\": 3}")?;
+    /// assert_eq!(rt; song.remove("/b", rt.alloc())?, Value::Bool(true));
+    /// let text = to_string(rt.alloc(), &song)?;
+    /// assert_eq!(rt; text.as_str(), "{\"a\":1,\"c\":3}");
+    /// assert_eq!(rt; song.remove("/b", rt.alloc()).err(), Some(EditError::Absent));
+    /// ```
+    pub fn remove(&mut self, pointer: &str, alloc: Global) -> Result<Value, EditError>
+        ensures value { IfOk result (λ v. pointed pointer.now (view self.old) ≡ Some (view v)) }
+        ensures document { OnOk result
+            (remove_at pointer.now (view self.old) ≡ Ok (view self.new)) }
+        ensures why { IfErr result (λ error. error ≢ NoRoom
+            → remove_at pointer.now (view self.old) ≡ Err error) }
+        ensures unchanged { OnErr result (view self.new ≡ view self.old) }
+    {
+        let (name, mut taken) = take_parent(self, pointer, alloc)?;
+        let removed = take_from(&mut taken.parent, name.as_str());
+        put_back(self, taken);
+        removed
+    }
+}
+
+/// Sets the child of a name.
+fn put_in(parent: &mut Value, name: String, value: Value) -> Result<(), NotSet>
+    ensures child { OnOk result
+        (put_child (view value) (string_bytes name) (view parent.old) ≡ Ok (view parent.new)) }
+    ensures why { IfErr result (λ refused. refused.error ≢ NoRoom
+        → put_child (view value) (string_bytes name) (view parent.old) ≡ Err refused.error) }
+    ensures value_back { IfErr result (λ refused. refused.value ≡ value) }
+    ensures unchanged { OnErr result (view parent.new ≡ view parent.old) }
+{
+    match mem::replace(parent, Value::Null) {
+        Value::Array(mut items) => {
+            let done = put_item(&mut items, name.as_str(), value);
+            *parent = Value::Array(items);
+            done
+        }
+        Value::Object(mut members) => {
+            let done = put_member(&mut *members, name, value);
+            *parent = Value::Object(members);
+            done
+        }
+        taken => {
+            *parent = taken;
+            Err(NotSet {
+                value,
+                error: EditError::Absent,
+            })
+        }
+    }
+}
+
+/// Sets the member of a name.
+fn put_member(members: &mut Map, name: String, value: Value) -> Result<(), NotSet>
+    ensures child { OnOk result (put_child (view value) (string_bytes name)
+        (object (members_view members.old.pairs)) ≡ Ok (object (members_view members.new.pairs))) }
+    ensures why { IfErr result (λ refused. refused.error ≡ NoRoom) }
+    ensures value_back { IfErr result (λ refused. refused.value ≡ value) }
+    ensures unchanged { OnErr result (members.new ≡ members.old) }
+{
+    match members.replace(name, value) {
+        Ok(old) => {
+            drop(old);
+            Ok(())
+        }
+        Err(refused) => Err(NotSet {
+            value: refused.value,
+            error: EditError::NoRoom,
+        }),
+    }
+}
+
+/// Sets the item of a name.
+fn put_item(items: &mut Vec<Value>, name: &str, value: Value) -> Result<(), NotSet>
+    ensures child { OnOk result (put_child (view value) name.now
+        (array (items_view items.old.items)) ≡ Ok (array (items_view items.new.items))) }
+    ensures why { IfErr result (λ refused. refused.error ≢ NoRoom → put_child (view value) name.now
+        (array (items_view items.old.items)) ≡ Err refused.error) }
+    ensures value_back { IfErr result (λ refused. refused.value ≡ value) }
+    ensures unchanged { OnErr result (items.new.items ≡ items.old.items) }
+{
+    if name == "-" {
+        return push_item(items, value);
+    }
+    let Some(at) = index_of(name) else {
+        return Err(NotSet {
+            value,
+            error: EditError::OutOfRange,
+        });
+    };
+    if at == items.len() {
+        return push_item(items, value);
+    }
+    if at > items.len() {
+        return Err(NotSet {
+            value,
+            error: EditError::OutOfRange,
+        });
+    }
+    items[at] = value;
+    Ok(())
+}
+
+/// Pushes an item.
+fn push_item(items: &mut Vec<Value>, value: Value) -> Result<(), NotSet>
+    ensures items { OnOk result (items.new.items ≡ items.old.items ++ value ∷ []) }
+    ensures why { IfErr result (λ refused. refused.error ≡ NoRoom) }
+    ensures value_back { IfErr result (λ refused. refused.value ≡ value) }
+    ensures unchanged { OnErr result (items.new.items ≡ items.old.items) }
+{
+    match items.push(value) {
+        Ok(()) => Ok(()),
+        Err(refused) => Err(NotSet {
+            value: refused.value,
+            error: EditError::NoRoom,
+        }),
+    }
+}
+
+/// Removes the child of a name.
+fn take_from(parent: &mut Value, name: &str) -> Result<Value, EditError>
+    ensures value { IfOk result (λ v. child name.now (view parent.old) ≡ Some (view v)) }
+    ensures rest { OnOk result
+        (without_child name.now (view parent.old) ≡ Ok (view parent.new)) }
+    ensures why { IfErr result (λ error. without_child name.now (view parent.old) ≡ Err error) }
+    ensures unchanged { OnErr result (view parent.new ≡ view parent.old) }
+{
+    match mem::replace(parent, Value::Null) {
+        Value::Array(mut items) => {
+            let taken = take_item(&mut items, name);
+            *parent = Value::Array(items);
+            taken
+        }
+        Value::Object(mut members) => {
+            let taken = take_member(&mut *members, name);
+            *parent = Value::Object(members);
+            taken
+        }
+        taken => {
+            *parent = taken;
+            Err(EditError::Absent)
+        }
+    }
+}
+
+/// Removes the member of a name.
+fn take_member(members: &mut Map, name: &str) -> Result<Value, EditError>
+    ensures value { IfOk result (λ v.
+        child name.now (object (members_view members.old.pairs)) ≡ Some (view v)) }
+    ensures rest { OnOk result (without_child name.now (object (members_view members.old.pairs))
+        ≡ Ok (object (members_view members.new.pairs))) }
+    ensures why { IfErr result (λ error.
+        without_child name.now (object (members_view members.old.pairs)) ≡ Err error) }
+    ensures unchanged { OnErr result (members.new.pairs ≡ members.old.pairs) }
+{
+    match members.remove(name) {
+        Some(value) => Ok(value),
+        None => Err(EditError::Absent),
+    }
+}
+
+/// Removes the item of a name.
+fn take_item(items: &mut Vec<Value>, name: &str) -> Result<Value, EditError>
+    ensures value { IfOk result (λ v.
+        child name.now (array (items_view items.old.items)) ≡ Some (view v)) }
+    ensures rest { OnOk result (without_child name.now (array (items_view items.old.items))
+        ≡ Ok (array (items_view items.new.items))) }
+    ensures why { IfErr result (λ error.
+        without_child name.now (array (items_view items.old.items)) ≡ Err error) }
+    ensures unchanged { OnErr result (items.new.items ≡ items.old.items) }
+{
+    let Some(at) = index_of(name) else {
+        return Err(EditError::OutOfRange);
+    };
+    if at < items.len() {
+        Ok(items.remove(at))
+    } else {
+        Err(EditError::OutOfRange)
+    }
+}
