@@ -9,21 +9,27 @@ pub type Document = LinkedHashMap<String, String>;
 /// The names of its fields.
 const FIELDS: [&str; 5] = ["id", "name", "email", "city", "created_at"];
 
-/// Makes a document whose fields have copies of some texts, one each.
+/// Inserts the fields of a document, with copies of some texts, one each. All documents are filled
+/// here, so that each workload is compiled as without the others.
+#[inline(never)]
+fn fill(alloc: Global, document: &mut Document, texts: &[String]) -> Result<(), AllocError> {
+    for (field, text) in FIELDS.iter().zip(texts) {
+        document.insert((*field).to_string(alloc)?, text.clone()?)?;
+    }
+    Ok(())
+}
+
+/// Makes a document whose fields have copies of some texts.
 fn document(alloc: Global, texts: &[String]) -> Result<Document, AllocError> {
     let mut document = LinkedHashMap::new(alloc);
-    for (field, text) in FIELDS.iter().zip(texts) {
-        document.insert(field.to_string(alloc)?, text.clone()?)?;
-    }
+    fill(alloc, &mut document, texts)?;
     Ok(document)
 }
 
 /// Makes such a document that has the capacity for its fields.
 fn with_capacity(alloc: Global, texts: &[String]) -> Result<Document, AllocError> {
     let mut document = LinkedHashMap::with_capacity(alloc, FIELDS.len())?;
-    for (field, text) in FIELDS.iter().zip(texts) {
-        document.insert(field.to_string(alloc)?, text.clone()?)?;
-    }
+    fill(alloc, &mut document, texts)?;
     Ok(document)
 }
 
@@ -46,6 +52,7 @@ pub fn all_with_capacity(alloc: Global, texts: &[String]) -> Result<Vec<Document
 }
 
 /// Looks up the fields of a document, and adds the bytes of their texts to `sink`.
+#[inline(always)]
 fn read_one(document: &Document, sink: u64) -> u64 {
     let mut sink = sink;
     for field in FIELDS {

@@ -57,10 +57,10 @@ const ONE_BUCKET: BuildMultiple = BuildMultiple {
     factor: 4_295_000_064,
 };
 
-/// Makes a map of 2^15 keys in one of as many buckets. It has 2^20 buckets first, so that the keys
-/// are inserted into 32 shorter chains.
+/// Makes a map of 2^15 keys in one of as many buckets. It has 2^21 buckets first, so that the keys
+/// are inserted into 64 shorter chains.
 fn in_one_bucket(rt: &impl Abort, alloc: Global) -> LargeMap {
-    let mut map = given!(rt; LinkedHashMap::with_capacity_and_hasher(alloc, 1_048_576, ONE_BUCKET));
+    let mut map = given!(rt; LinkedHashMap::with_capacity_and_hasher(alloc, 2_097_152, ONE_BUCKET));
     for key in 0..32_768u64 {
         check_eq!(rt; map.insert(key, ()), Ok(None));
     }
@@ -68,10 +68,10 @@ fn in_one_bucket(rt: &impl Abort, alloc: Global) -> LargeMap {
     map
 }
 
-/// Looks up and removes 2^20 absent keys of this bucket, whose upper four bits are 1: the filter
-/// lacks them. If either followed the chain, it would reach 2^35 pairs, and a test has a minute.
+/// Looks up and removes 2^21 absent keys of this bucket, whose upper four bits are 1: the filter
+/// lacks them. If either followed the chain, it would reach 2^36 pairs, and a test has a minute.
 fn remove_absent(rt: &impl Abort, map: &mut LargeMap) {
-    for key in 268_435_456..269_484_032u64 {
+    for key in 268_435_456..270_532_608u64 {
         check!(rt; !map.contains_key(&key));
         check_eq!(rt; map.remove(&key), None);
     }
