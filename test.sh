@@ -100,6 +100,7 @@ begin_part doc-tests scripts/doc-tests
 begin_part refused-growths scripts/refused-growths
 begin_part reference scripts/reference --self-test
 begin_part vendor-self-test scripts/vendor --self-test
+begin_part json-texts scripts/json-texts
 wait $builds
 show_part builds '^programs: 4 built with no proof$'
 begin_part model-tests scripts/model-tests --from "$work/built"
@@ -110,11 +111,12 @@ words=': 32 rows .* 5 inputs .* 40 res.* 200000 insertions.* 200002 lines .* 163
 show_part programs "$words .* 3 pipes .* 3 arguments .* 45 workloads .* 42 workloads on 131072 pairs"
 show_part refused-growths '^refused-growths: [1-9].* growths; leaks were looked for in each$'
 show_part doc-tests '^doc-tests: [2-9][0-9][0-9] examples of [1-9][0-9]* files passed, '
+show_part json-texts '^json-texts: [1-9].*: no difference$'
 show_part reference "^reference: [1-9][0-9]* $ends"
 show_part vendor-self-test "^vendor: [1-9][0-9]* $ends"
 end_if_failed
 
-for name in documents clauses doc-tests model-tests refused-growths programs; do
+for name in documents clauses doc-tests model-tests refused-growths programs json-texts; do
     begin_part "$name-self-test" "scripts/$name" --self-test
 done
 wait
@@ -124,6 +126,7 @@ show_part doc-tests-self-test '^doc-tests finds each of [1-9][0-9]* planted faul
 show_part model-tests-self-test "^model-tests: [1-9][0-9]* $ends"
 show_part refused-growths-self-test "^refused-growths: [1-9][0-9]* $ends"
 show_part programs-self-test "^programs: [1-9][0-9]* $ends"
+show_part json-texts-self-test "^json-texts: [1-9][0-9]* $ends"
 end_if_failed
 show_table
 echo "$passed passed, 0 failed; nothing is proved yet"
