@@ -23,6 +23,8 @@ OF_RUST = ("synthetic-implementations", "blanket-implementations", "dyn-compatib
 same = functools.partial(re.compile(r"\w+::(?=[A-Z])").sub, "")
 IMPL = re.compile(r"(?m)^impl\b[^{]* for [^{]*(?= \{)")
 DERIVE = re.compile(r"(?m)^#\[derive\((.*)\)\]\n(?:#.*\n)*pub \w+ (\w+)")
+# A type or a trait that is not public, which has no page.
+PRIVATE = re.compile(r"(?m)^(?:pub\(crate\) )?(?:struct|enum|trait) (\w+)")
 PUBLIC = re.compile(r"(?m)^ *pub (?:unsafe |const |final )*fn \w+")
 LEMMA = re.compile(r"(?m)^ *(pub (?:record |data |ruleset )?(?!use |mod )([^\s:]+) .*)")
 PASSED_ON = re.compile(r"pub use Rattle\.(?!std)\w+\.proofs\.(?!Callers)[\w.]+\.\{([^}]*)\}")
@@ -64,7 +66,8 @@ def faults_of_calls(texts, pages, counts):
     for library, text in texts:
         # Of each public function, also of one without clauses.
         functions = {it[0] for it in read_clauses(PUBLIC.sub(r"\g<0> ensures named {}", text)) if it[1] == "ensures named"}
-        found = read_clauses(text)
+        of_private = re.compile(rf"\b({'|'.join(PRIVATE.findall(text)) or '(?!)'})\b")
+        found = [it for it in read_clauses(text) if not of_private.search(it[0])]
         counts.update(functions=len(functions), clauses=len(found))
         yield from (f"{library} | {it}: no section" for it in functions if (library, same(it)) not in sections)
         for call, name, begins, ends in found:

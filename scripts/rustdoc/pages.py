@@ -24,6 +24,7 @@ DERIVED = re.compile(r'(<h3 class=\\?"code-header\\?">)(?:(?!</h3>).)*(</h3><div
 IO_ERROR = re.compile(r"(?<= for )Error(?=</h3>)|(?<=-&gt; )Error(?=</h4>)")
 CODE = re.compile(r"<code>.*</code>(?=</pre></div></section>)", re.S)
 COMMENT = re.compile(r"(?://|-- ).*")
+MODULES = re.compile(r"\b(\w+)/(?:\w+/)+(\w+\.\w+\.html)")
 NAMED = re.compile(r"<code>((?:docs/)?[A-Z]+\.md)</code>")
 # Returns a text as a literal of Rust, on one line.
 quoted = functools.partial(json.dumps, ensure_ascii=False)
@@ -151,6 +152,12 @@ def link_to(it, path, documents):
     return f'<a href="site:{page}">{it[0]}</a>' if page else it[0]
 
 
+def public_path(it, site):
+    """Returns a link of a script to the page itself, not to that of a private module, which has no anchors."""
+    page = f"{it[1]}/{it[2]}"
+    return page if (site / page).is_file() else it[0]
+
+
 def put_right(root, site, documents):
     """Changes the links from contracts, derives, what is Rust's alone, and sources on pages, and
     the links of documents."""
@@ -160,6 +167,11 @@ def put_right(root, site, documents):
             text = first_page(text, root, documents)
         elif not path.startswith(("documents/", "src/")):
             text = NAMED.sub(lambda it, path=path: link_to(it, path, documents), text)
+        # On some pages rustdoc counts the first heading of its name as the second.
+        if 'id="examples"' not in text:
+            text = text.replace('examples-1"', 'examples"')
+        if page.suffix == ".js":
+            text = MODULES.sub(functools.partial(public_path, site=site), text)
         # A script of impls has links from the root of the site.
         text = re.sub(r'(?<=href=")site:|(?<=src=")site:|(?<=href=\\")site:', "../" * path.count("/") if page.suffix == ".html" else "", text)
         text = DERIVED.sub(r"\1#[derive(Drop)]\2", RUST.sub(r"\1Rattle", IO_ERROR.sub("io::Error", DYN.sub("", text))))

@@ -1,5 +1,6 @@
-//! What the signatures of the libraries name of Rattle's std. rustdoc reads it, and no page shows
-//! it. It stands on no std of Rust, so no page gets a trait, an impl or a link from there.
+//! What the signatures of the libraries name of Rattle's std, and of the kit's `json`. rustdoc reads
+//! it, and no page shows it. It stands on no std of Rust, so no page gets a trait, an impl or a link
+//! from there.
 #![feature(no_core, lang_items, rustc_attrs, unboxed_closures)]
 #![no_core]
 macro_rules! modules { ($($name:ident)*) => { $(pub mod $name { pub use crate::*; })* } }
@@ -34,10 +35,12 @@ alike! { PartialEq Eq Hash }
 impl<T: MetaSized> LegacyReceiver for &T {} impl<T: MetaSized> LegacyReceiver for &mut T {}
 impl<T: MetaSized> Copy for &T {} impl<T: MetaSized> Copy for PhantomData<T> {} impl Copy for usize {}
 impl Drop for () {} impl Allocator for Global {} impl Hasher for FoldHasher {}
-impl<H: Hasher> BuildHasher for BuildHasherDefault<H> { type Hasher = H; }
+impl<H: Hasher> BuildHasher for BuildHasherDefault<H> { type Hasher = H; } impl BuildHasher for RandomState { type Hasher = FoldHasher; }
 
 pub enum Option<T> { None, Some(T) } pub enum Result<T, E> { Ok(T), Err(E) } pub enum Ordering { Less, Equal, Greater }
-pub struct AllocError; pub struct Global; pub struct FoldHasher;
+pub struct AllocError; pub struct Global; pub struct FoldHasher; pub struct RandomState;
+pub struct Invalid; pub struct Pretty; pub struct Token<'a>(PhantomData<&'a ()>); pub struct Reader<'a>(PhantomData<&'a ()>);
+pub struct AllocFailed<T>(PhantomData<T>); pub struct Box<T, A: Allocator = Global>(PhantomData<(T, A)>); pub struct Scratch; pub struct Writer;
 pub struct Vec<T, A: Allocator = Global>(PhantomData<(T, A)>);
 pub struct String<A: Allocator = Global>(PhantomData<A>);
 pub struct BoxedSlice<T, A: Allocator = Global>(PhantomData<(T, A)>);
