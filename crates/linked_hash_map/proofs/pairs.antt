@@ -1,11 +1,13 @@
 pub mod Calls
 pub mod Clones
+pub mod CountedItems
 pub mod Ends
 pub mod EntryMaps
 pub mod ExtendSteps
 pub mod Indexes
 pub mod Inserts
 pub mod IteratorLaws
+pub mod NextPair
 pub mod OccupiedEntries
 pub mod Places
 pub mod RehashCounts

@@ -1,61 +1,12 @@
 -- For callers: a count for each item of a list, one item after another, and the keys in the order
 -- in which they first come.
-use Rattle.std.proofs.Common.{◌≡◌, ℕ, ◌+◌, ◌<◌, Bool, true, false, cond, List, [], ◌∷◌, ◌++◌, length, take, get_or, fold, Option, Some}
-use Rattle.std.proofs.Common.{None, option_map, unwrap_or, refl, sym, ap, subst, ◌∙◌, arith, length-take}
-use Rattle.std.proofs.lemmas.List.Sums.{count_by_more_yes, count_by_more_no, count_by-le-length, fold_more}
+use Rattle.std.proofs.Common.{◌≡◌, ℕ, ◌+◌, ◌<◌, Bool, true, false, List, [], ◌∷◌, ◌++◌, length, take, get_or, fold, Option, Some, None}
+use Rattle.std.proofs.Common.{option_map, unwrap_or, refl, sym, ap, subst, ◌∙◌, arith, length-take}
+use Rattle.std.proofs.lemmas.List.Sums.{count_by_more_yes, count_by_more_no, count_by-le-length}
 use Rattle.std.specs.{Prelude.if◌then◌else◌, List.count_by, List.list_any, Map.keys_of, Cmp.IsEquivalence}
 use Rattle.linked_hash_map.specs.{Pairs.value_at, Pairs.set_or_push, Pairs.ActsAs, Updates.Updates}
-use Rattle.linked_hash_map.proofs.Callers.{Lookups.value_at-same, Lookups.value_at-set_or_push, Keys.keys_of-set_or_push, Keys.is_some-find}
-
-module _ {A K : Type 0} {eq : K → K → Bool} (laws : IsEquivalence eq) (key_of : A → K) (pairs : List (K × ℕ)) (items : List A) where
-  -- the next item is counted
-  count_by-set_or_push : (d : A) (q : K) {n : ℕ} (i : ℕ) → i < length items
-      → ((q : K) → unwrap_or (value_at eq pairs q) 0 ≡ count_by (λ item. eq q (key_of item)) (take i items))
-      → n ≡ unwrap_or (value_at eq pairs (key_of (get_or items i d))) 0 + 1
-      → unwrap_or (value_at eq (set_or_push eq pairs (key_of (get_or items i d)) n) q) 0
-      ≡ count_by (λ item. eq q (key_of item)) (take (i + 1) items)
-  count_by-set_or_push d q {n} i within before more = by_test (eq key q) refl
-    where
-      key : K
-      key = key_of (get_or items i d)
-
-      by_test : (b : Bool) → eq key q ≡ b
-          → unwrap_or (value_at eq (set_or_push eq pairs key n) q) 0
-          ≡ count_by (λ item. eq q (key_of item)) (take (i + 1) items)
-      by_test true same =
-          ap (λ o. unwrap_or o 0) (value_at-set_or_push laws pairs key q n)
-          ∙ ap (λ b. unwrap_or (cond b (Some n) (value_at eq pairs q)) 0) same
-          ∙ more
-          ∙ ap (λ o. unwrap_or o 0 + 1) (value_at-same laws pairs key q same)
-          ∙ ap (λ m. m + 1) (before q)
-          ∙ sym (count_by_more_yes (λ item. eq q (key_of item)) items i d within (laws.symm q key ∙ same))
-      by_test false apart =
-          ap (λ o. unwrap_or o 0) (value_at-set_or_push laws pairs key q n)
-          ∙ ap (λ b. unwrap_or (cond b (Some n) (value_at eq pairs q)) 0) apart
-          ∙ before q
-          ∙ sym (count_by_more_no (λ item. eq q (key_of item)) items i d within (laws.symm q key ∙ apart))
-
-  -- a count is at most the number of items so far
-  count-lt-length : (d : A) (i : ℕ) → i < length items
-      → ((q : K) → unwrap_or (value_at eq pairs q) 0 ≡ count_by (λ item. eq q (key_of item)) (take i items))
-      → unwrap_or (value_at eq pairs (key_of (get_or items i d))) 0 < length items
-  count-lt-length d i within before = let few = count_by-le-length (λ item. eq (key_of (get_or items i d)) (key_of item)) (take i items) in
-      omega (arith, few, before (key_of (get_or items i d)), length-take i items)
-
-  -- and its key stands behind the others, if it is new
-  keys_of-set_or_push_first_seen : (d : A) (n i : ℕ) → i < length items
-      → keys_of pairs ≡ fold (λ seen item.
-      if list_any (eq (key_of item)) seen then seen else seen ++ key_of item ∷ []) [] (take i items)
-      → keys_of (set_or_push eq pairs (key_of (get_or items i d)) n)
-      ≡ fold (λ seen item. if list_any (eq (key_of item)) seen then seen else seen ++ key_of item ∷ []) []
-      (take (i + 1) items)
-  keys_of-set_or_push_first_seen d n i within before =
-      let seen_with = λ (seen : List K) (item : A). if list_any (eq (key_of item)) seen then seen else seen ++ key_of item ∷ [] in
-      let key = key_of (get_or items i d) in
-      keys_of-set_or_push eq pairs key n
-      ∙ ap (λ b. cond b (keys_of pairs) (keys_of pairs ++ key ∷ [])) (is_some-find eq pairs key)
-      ∙ ap (λ seen. seen_with seen (get_or items i d)) before
-      ∙ sym (fold_more seen_with [] items i d within)
+use Rattle.linked_hash_map.proofs.{Callers.Lookups.value_at-same, pairs.CountedItems.count_by-set_or_push, pairs.CountedItems.count-lt-length}
+use Rattle.linked_hash_map.proofs.pairs.CountedItems.{keys_of-set_or_push_first_seen}
 
 -- each key has as its count of how many items it is the key, which is 0 if it has none; the keys stand
 -- in the order in which they first come
@@ -71,23 +22,27 @@ CountsItemsBy-start eq key_of counts empty = grind arith
 -- a step of the loop, as the clauses of `entry` and of `or_insert` say it: the key k of an item is
 -- counted, and `stored` is the key of its entry
 module _ {A K : Type 0} {eq : K → K → Bool} (laws : IsEquivalence eq) {key_of : A → K} {before : List (K × ℕ)} (items : List A) (i : ℕ)
-    (w : CountsItemsBy eq key_of before (take i items)) (within : i < length items) {k : K} (d : A) (key_is : k ≡ key_of (get_or items i d)) where
+    (w : CountsItemsBy eq key_of before (take i items)) (within : i < length items) {k : K} {item : A} (d : A)
+    (item_is : item ≡ get_or items i d) (key_is : k ≡ key_of item) where
+  next_is : k ≡ key_of (get_or items i d)
+  next_is = key_is ∙ ap key_of item_is
+
   pub CountsItemsBy-counted : {after : List (K × ℕ)} {stored : K} → ActsAs eq before stored k
       → after ≡ set_or_push eq before stored (unwrap_or (value_at eq before k) 0 + 1) → CountsItemsBy eq key_of after (take (i + 1) items)
   CountsItemsBy-counted {after} acts written =
       let n = unwrap_or (value_at eq before k) 0 + 1 in
       let is : after ≡ set_or_push eq before (key_of (get_or items i d)) n =
-      written ∙ acts.sets_or_pushes n ∙ ap (λ j. set_or_push eq before j n) key_is in
+      written ∙ acts.sets_or_pushes n ∙ ap (λ j. set_or_push eq before j n) next_is in
       record {
         count = λ q. ap (λ ps. unwrap_or (value_at eq ps q) 0) is ∙ count_by-set_or_push laws key_of before items d q i within w.count
-            (ap (λ j. unwrap_or (value_at eq before j) 0 + 1) key_is);
+            (ap (λ j. unwrap_or (value_at eq before j) 0 + 1) next_is);
         order = ap keys_of is ∙ keys_of-set_or_push_first_seen laws key_of before items d n i within w.order;
       }
 
   -- its count so far is below the number of items
   pub CountsItemsBy-below : unwrap_or (value_at eq before k) 0 < length items
   CountsItemsBy-below = let few = count-lt-length laws key_of before items d i within w.count in
-      subst (λ j. unwrap_or (value_at eq before j) 0 < length items) (sym key_is) few
+      subst (λ j. unwrap_or (value_at eq before j) 0 < length items) (sym next_is) few
 
 -- each item has as its count how often it comes, which is 0 if it has none; the keys stand in the
 -- order in which the items first come
@@ -109,12 +64,12 @@ module _ {K : Type 0} {eq : K → K → Bool} (laws : IsEquivalence eq) {before 
 
   pub CountsItems-counted : {after : List (K × ℕ)} {stored : K} → ActsAs eq before stored k
       → after ≡ set_or_push eq before stored (unwrap_or (value_at eq before k) 0 + 1) → CountsItems eq after (take (i + 1) items)
-  CountsItems-counted acts written = let next = CountsItemsBy-counted laws items i so_far within k item_is acts written in
+  CountsItems-counted acts written = let next = CountsItemsBy-counted laws items i so_far within k item_is refl acts written in
       record { count = next.count; order = next.order }
 
   -- its count so far is below the number of items
   pub CountsItems-below : unwrap_or (value_at eq before k) 0 < length items
-  CountsItems-below = CountsItemsBy-below laws items i so_far within k item_is
+  CountsItems-below = CountsItemsBy-below laws items i so_far within k item_is refl
 
 -- a step of the loop in the form that `grind` applies by itself, with no clause named
 pub CountsItems-set_or_push : {K : Type 0} {eq : K → K → Bool} → IsEquivalence eq

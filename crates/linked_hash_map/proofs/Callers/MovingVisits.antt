@@ -1,10 +1,9 @@
 -- For callers: a visit that moves some of the pairs to the back, step by step.
-use Rattle.std.proofs.Common.{◌≡◌, ℕ, Bool, true, false, cond, not, List, [], ◌∷◌, ◌++◌, filter, option_map, option_to_list, Some, sym, ap}
-use Rattle.std.proofs.Common.{subst, ◌∙◌, arith, append_assoc, append-nil, nat_eq}
-use Rattle.std.{proofs.lemmas.List.Elements.filter-append, specs.Cmp.IsEquivalence, specs.Cmp.nat_eq_equiv, specs.List.IsDistinct, specs.Map.keys_of}
-use Rattle.lhm_ring.proofs.lists.{Options.Some-injective, Splits.SplitFirst}
-use Rattle.linked_hash_map.specs.Pairs.{find, value_at, without, to_back_as_is}
-use Rattle.linked_hash_map.proofs.Callers.{Cuts.find-cut, Cuts.without-cut, Visits.Next, Visits.next_of}
+use Rattle.std.proofs.Common.{◌≡◌, Bool, true, false, cond, not, List, [], ◌∷◌, ◌++◌, filter, Some, sym, ap, subst, ◌∙◌, arith, append_assoc}
+use Rattle.std.{proofs.Common.append-nil, proofs.lemmas.List.Elements.filter-append, specs.Cmp.IsEquivalence, specs.Cmp.nat_eq_equiv}
+use Rattle.std.specs.{List.IsDistinct, Map.keys_of}
+use Rattle.linked_hash_map.specs.Pairs.{value_at, to_back_as_is}
+use Rattle.linked_hash_map.proofs.pairs.NextPair.{IsNext, IsNext-first}
 
 -- the pairs at the start are those passed and the rest, whose keys are left to visit; the pairs now
 -- are those of the passed that stay, the rest, and those of the passed that were moved
@@ -19,47 +18,30 @@ pub record VisitMoves {K V : Type 0} (moves : K × V → Bool) (start now : List
 module _ {K V : Type 0} {eq : K → K → Bool} (laws : IsEquivalence eq) {moves : K × V → Bool} {start now : List (K × V)} {k : K}
     {to_come left : List K} {v : V} (w : VisitMoves moves start now to_come) (visits : to_come ≡ k ∷ left)
     (distinct : IsDistinct eq (keys_of now)) (has : value_at eq now k ≡ Some v) where
-  abbrev n : SplitFirst (λ pair. pair.0) w.rest k
-  n = (next_of k left w.rest (sym visits ∙ w.left_is)).split
+  at : IsNext eq (filter (λ pair. not (moves pair)) w.passed) w.rest (filter moves w.passed) k left v
+  at = IsNext-first laws _ w.rest _ (sym visits ∙ w.left_is) (subst (λ ps. IsDistinct eq (keys_of ps)) w.now_is distinct)
+      (ap (λ ps. value_at eq ps k) (sym w.now_is) ∙ has)
 
-  abbrev stayed : List (K × V)
-  stayed = filter (λ pair. not (moves pair)) w.passed
-
-  abbrev behind : List (K × V)
-  behind = n.after ++ filter moves w.passed
-
-  seam : now ≡ stayed ++ n.node ∷ behind
-  seam = w.now_is ∙ ap (λ r. stayed ++ (r ++ filter moves w.passed)) n.is
-
-  differ : IsDistinct eq (keys_of (stayed ++ n.node ∷ behind))
-  differ = subst (λ ps. IsDistinct eq (keys_of ps)) seam distinct
-
-  found : find eq now k ≡ Some n.node
-  found = (λ i. find eq (seam i) (sym n.at_is i)) ∙ find-cut laws stayed n.node behind differ
-
-  pair_is : (k, v) ≡ n.node
-  pair_is = λ i. (sym n.at_is i, Some-injective _ _ (sym has ∙ ap (option_map (λ p. p.1)) found) i)
-
-  -- what becomes of the pair at hand
-  step : (b : Bool) → moves (k, v) ≡ b → {after : List (K × V)} {to_come_after : List K}
-      → after ≡ cond b ((stayed ++ behind) ++ n.node ∷ []) now → to_come_after ≡ left → VisitMoves moves start after to_come_after
-  step b moved {after} is stays = record {
-    passed = w.passed ++ n.node ∷ [];
-    rest = n.after;
-    start_is = w.start_is ∙ ap (λ r. w.passed ++ r) n.is ∙ sym (append_assoc w.passed (n.node ∷ []) n.after);
-    now_is = grind (arith, seam, pair_is, filter-append, append_assoc, append-nil);
-    left_is = stays ∙ (next_of k left w.rest (sym visits ∙ w.left_is)).behind;
+  step : {after : List (K × V)} {to_come_after : List K} → to_come_after ≡ left
+      → after ≡ filter (λ pair. not (moves pair)) (w.passed ++ (k, v) ∷ []) ++ (at.others ++ filter moves (w.passed ++ (k, v) ∷ []))
+      → VisitMoves moves start after to_come_after
+  step stays is = record {
+    passed = w.passed ++ (k, v) ∷ [];
+    rest = at.others;
+    start_is = w.start_is ∙ ap (λ ps. w.passed ++ ps) at.is ∙ sym (append_assoc w.passed ((k, v) ∷ []) at.others);
+    now_is = is;
+    left_is = stays ∙ at.left_is;
   }
 
   pub VisitMoves-passed : {pairs after : List (K × V)} {to_come_after : List K} → pairs ≡ now → moves (k, v) ≡ false → after ≡ pairs
       → to_come_after ≡ left → VisitMoves moves start after to_come_after
-  VisitMoves-passed same stands is stays = step false stands (is ∙ same) stays
+  VisitMoves-passed same stands is stays = let whole = w.now_is in let rest = at.is in
+      step stays (grind (arith, whole, rest, filter-append, append_assoc, append-nil))
 
   pub VisitMoves-moved : {pairs after : List (K × V)} {to_come_after : List K} → pairs ≡ now → moves (k, v) ≡ true
       → after ≡ to_back_as_is eq pairs k → to_come_after ≡ left → VisitMoves moves start after to_come_after
-  VisitMoves-moved same moved is stays = step true moved (is ∙ ap (λ ps. to_back_as_is eq ps k) same
-      ∙ (λ i. (without eq (seam i) (sym n.at_is i)) ++ option_to_list (found i))
-      ∙ ap (λ ps. ps ++ n.node ∷ []) (without-cut laws stayed n.node behind differ)) stays
+  VisitMoves-moved same moved is stays = let whole = w.now_is in let back = at.moved in
+      step stays (grind (arith, whole, back, filter-append, append_assoc, append-nil))
 
 -- a visit that moves the pairs which a test tells, at numbers
 pub ruleset moving_numbers = (VisitMoves-passed, VisitMoves-moved, nat_eq_equiv)

@@ -7,7 +7,7 @@ use Rattle.std.specs.{Cmp.nat_eq_equiv, List.All, List.IsDistinct, Map.keys_of}
 use Rattle.linked_hash_map.specs.Pairs.{find, from, value_at, without, set_value, set_or_push, count_before, to_behind, to_before, to_after}
 use Rattle.linked_hash_map.specs.{declared.map.Mode.Mode, declared.map.Mode.TheVariants.Keep, Inserts.insert_each, Visits.VisitMaps}
 use Rattle.linked_hash_map.proofs.Callers.Cuts.{find-cut, from-cut, count_before-cut, to_before-cut}
-use Rattle.linked_hash_map.proofs.Callers.FromKeys.{length-from_most, length-from_some}
+use Rattle.linked_hash_map.proofs.Callers.FromKeys.{length-from}
 use Rattle.linked_hash_map.proofs.Callers.Keys.{find-none, set_value-none, without-absent}
 use Rattle.linked_hash_map.proofs.Callers.WritingVisits.{VisitMaps-written, VisitMaps-removed, length-changed}
 use Rattle.linked_hash_map.proofs.Callers.{Collected.insert_each-apart, Lookups.lookup_entry-append, Lookups.value_at-set_or_push_here}
@@ -95,10 +95,6 @@ pub value_at-set_value_number : {V : Type 0} (pairs : List (ℕ × V)) (k : ℕ)
 value_at-set_value_number pairs k v = (refl, value_at-set_value pairs k v)
 
 -- the pairs from a number on, and what is left if those behind it go
-pub length-from_number : {V : Type 0} (pairs : List (ℕ × V)) (k : ℕ) → (from nat_eq pairs k ≡ from nat_eq pairs k)
-    × (length (from nat_eq pairs k) ≤ length pairs) × (is_some (find nat_eq pairs k) ≡ true → 0 < length (from nat_eq pairs k))
-length-from_number pairs k = (refl, length-from_most nat_eq pairs k, length-from_some nat_eq pairs k)
-
 pub cut_number : {V : Type 0} (xs ys : List (ℕ × V)) (one : ℕ × V) → IsDistinct nat_eq (keys_of (xs ++ one ∷ ys))
     → (xs ++ one ∷ ys ≡ xs ++ one ∷ ys) × (find nat_eq (xs ++ one ∷ ys) one.0 ≡ Some one)
     × (from nat_eq (xs ++ one ∷ ys) one.0 ≡ one ∷ ys) × (length (xs ++ one ∷ ys) ≡ length xs + (length ys + 1))
@@ -111,7 +107,7 @@ cut_number xs ys one distinct = (
   ap₂ take (sym (length-append xs (one ∷ []))) (sym (append_assoc xs (one ∷ []) ys)) ∙ take-append_seam (xs ++ one ∷ []) ys,
 )
 
-pub ruleset cut = (length-from_number, cut_number)
+pub ruleset cut = (length-from, cut_number)
 
 -- a value that is written only if its key is there
 pub ruleset written = (find-none, set_value-none, value_at-set_value_number)
