@@ -1,5 +1,5 @@
 -- A value, level by level, and the pairs of a map beside the members that they stand for.
-use Rattle.std.proofs.Common.{◌≡◌, ℕ, List, [], ◌∷◌, ◌++◌, Option, Some, None, is_some, cond, Bool, true, false, refl, sym, ap, ◌∙◌, rules}
+use Rattle.std.proofs.Common.{◌≡◌, List, [], ◌∷◌, ◌++◌, is_some, cond, Bool, true, false, refl, ap, rules}
 use Rattle.std.proofs.Common.{String, Vec}
 use Rattle.std.specs.Global.{Box}
 use Rattle.std.proofs.lemmas.Map.Keys.{IsDistinct-tail}
@@ -39,13 +39,16 @@ members_view-put (p ∷ ps) k v distinct =
     first : Members → Members
     first = member (string_bytes p.0) (view p.1)
 
-    by_found : (b : Bool) → members_view (cond b (set_value string_eq ps k v) (ps ++ (k, v) ∷ [])) ≡ put (string_bytes k) (view v) (members_view ps)
-        → members_view (cond b (p ∷ set_value string_eq ps k v) (p ∷ (ps ++ (k, v) ∷ []))) ≡ first (put (string_bytes k) (view v) (members_view ps))
+    set : Members → Members
+    set = put (string_bytes k) (view v)
+
+    by_found : (b : Bool) → members_view (cond b (set_value string_eq ps k v) (ps ++ (k, v) ∷ [])) ≡ set (members_view ps)
+        → members_view (cond b (p ∷ set_value string_eq ps k v) (p ∷ (ps ++ (k, v) ∷ []))) ≡ first (set (members_view ps))
     by_found true rest = ap first rest
     by_found false rest = ap first rest
 
-    by_test : (b : Bool) → string_eq k p.0 ≡ b → members_view (pairs.put string_eq Keep ps k v) ≡ put (string_bytes k) (view v) (members_view ps)
-        → members_view (pairs.put string_eq Keep (p ∷ ps) k v) ≡ put (string_bytes k) (view v) (members_view (p ∷ ps))
+    by_test : (b : Bool) → string_eq k p.0 ≡ b → members_view (pairs.put string_eq Keep ps k v) ≡ set (members_view ps)
+        → members_view (pairs.put string_eq Keep (p ∷ ps) k v) ≡ set (members_view (p ∷ ps))
     by_test true same rest =
         rw (same, set_value-none string_eq ps k v (find-others (string_eq_equiv {Z = Global}) ps k p distinct same)) refl
     by_test false apart rest = rw apart (by_found (is_some (find string_eq ps k)) rest)

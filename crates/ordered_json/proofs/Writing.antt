@@ -1,11 +1,11 @@
 -- The tokens of a value read back as the value.
-use Rattle.std.proofs.Common.{◌≡◌, ℕ, ◌+◌, ◌-◌, ◌<◌, ◌≤◌, List, [], ◌∷◌, ◌++◌, length, Option, Some, None, option_map, option_and_then}
+use Rattle.std.proofs.Common.{◌≡◌, ℕ, ◌-◌, ◌<◌, ◌≤◌, List, [], ◌∷◌, ◌++◌, length, Some, None}
 use Rattle.std.proofs.Common.{refl, sym, ap, ◌∙◌, arith, append_assoc, append-nil}
 use Rattle.std.proofs.lemmas.List.{length-append}
 use Rattle.json.specs.Token.{Token}
 use Rattle.json.specs.Lex.{tokens}
 use Rattle.json.specs.Json.{Json, null, boolean, number, string, array, object, Items, no_items, item, Members, no_members, member}
-use Rattle.json.specs.Json.{parse_map, after_end_array, items, members, value, if_last}
+use Rattle.json.specs.Json.{parse_map, after_end_array, items, members, value}
 use Rattle.json.specs.Tree.{json_tokens, items_tokens, members_tokens, depth, items_depth, members_depth}
 use Rattle.json.proofs.Grammar.{value_is, value-begin_array, value-begin_object, items_end, items_more, members_end, members_more}
 use Rattle.ordered_json.specs.Read.{resolved, read}
@@ -40,7 +40,8 @@ mutual
       ∙ ap (parse_map array) (items-items_tokens js (d - 1) (length (items_tokens js ++ rest)) rest (omega (arith, within)) (omega arith))
   value-json_tokens (object ms) d rest within =
       value-begin_object d (members_tokens ms ++ rest) (omega (arith, within))
-      ∙ ap (parse_map object) (members-members_tokens ms (d - 1) (length (members_tokens ms ++ rest)) rest (omega (arith, within)) (omega arith))
+      ∙ ap (parse_map object)
+      (members-members_tokens ms (d - 1) (length (members_tokens ms ++ rest)) rest (omega (arith, within)) (omega arith))
 
   items-items_tokens : (js : Items) (d n : ℕ) (rest : List Token) → items_depth js ≤ d → length (items_tokens js ++ rest) ≤ n
       → items (value d) n (items_tokens js ++ rest) ≡ Some (js, rest)
@@ -64,9 +65,11 @@ mutual
       let longer = ap length all in
       let sum = length-append (json_tokens j) more in
       ap (members (value d) n) all
-      ∙ members_more (value d) n name (Token.key name ∷ (json_tokens j ++ more)) (json_tokens j ++ more) more j (omega (arith, enough, longer)) refl
+      ∙ members_more (value d) n name (Token.key name ∷ (json_tokens j ++ more)) (json_tokens j ++ more) more j
+      (omega (arith, enough, longer)) refl
       (value-json_tokens j d more (omega (arith, within)))
-      ∙ ap (parse_map (member name j)) (members-members_tokens ms d (n - 1) rest (omega (arith, within)) (omega (arith, enough, longer, sum)))
+      ∙ ap (parse_map (member name j))
+      (members-members_tokens ms d (n - 1) rest (omega (arith, within)) (omega (arith, enough, longer, sum)))
 
 pub read-tokens : (text : List ℕ) (j : Json) → tokens text ≡ json_tokens j → resolved j ≡ j → depth j ≤ MAX_DEPTH → read text ≡ Some j
 read-tokens text j written once within =

@@ -1,9 +1,11 @@
--- The value that a text has, on the grammar of the library `json`, with each name of an object once.
+-- The value that a text has, by the grammar of `json`, with each name of an object once.
 use Rattle.std.specs.Prelude.{ℕ, cond, List, Option, option_and_then, option_map}
 use Rattle.std.specs.Str.{bytes_eq}
 use Rattle.json.specs.Token.{Token}
 use Rattle.json.specs.Lex.{tokens}
-use Rattle.json.specs.Json.{Json, null, boolean, number, string, array, object, Items, no_items, item, Members, no_members, member, parse_map, value, if_last}
+use Rattle.json.specs.Json.{Json, null, boolean, number, string, array, object}
+use Rattle.json.specs.Json.{Items, no_items, item, Members, no_members, member}
+use Rattle.json.specs.Json.{parse_map, value, if_last}
 use Rattle.ordered_json.specs.declared.read.TheConstants.{MAX_DEPTH}
 
 -- the members, with j at a name: in its place if it is there, and last if it is new
@@ -43,5 +45,6 @@ resolved_value = parse_map resolved
 abbrev pub resolved_items : Option (Items × List Token) → Option (Items × List Token)
 resolved_items = parse_map each_resolved
 
-abbrev pub resolved_members : Members → Option (Members × List Token) → Option (Members × List Token)
+abbrev pub resolved_members : Members → Option (Members × List Token)
+    → Option (Members × List Token)
 resolved_members before = parse_map (λ ms. put_each ms before)

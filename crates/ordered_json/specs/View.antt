@@ -1,7 +1,8 @@
--- The data that a value stands for: the `Json` of the library `json`, with each name of an object once.
+-- The data that a value stands for: the `Json` of `json`.
 use Rattle.std.specs.Prelude.{ℕ, List, [], ◌∷◌, map, String, string_bytes}
 use Rattle.std.specs.declared.alloc.Global.{Global}
-use Rattle.json.specs.Json.{Json, null, boolean, number, string, array, object, Items, no_items, item, Members, no_members, member}
+use Rattle.json.specs.Json.{Json, null, boolean, number, string, array, object}
+use Rattle.json.specs.Json.{Items, no_items, item, Members, no_members, member}
 use Rattle.ordered_json.specs.declared.number.Number.{Number}
 use Rattle.ordered_json.specs.declared.value.Value.{Value, fold-Value}
 use Rattle.ordered_json.specs.declared.value.Value.TheOpen.{Value-F}

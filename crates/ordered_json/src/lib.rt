@@ -1,5 +1,5 @@
-//! JSON documents whose objects keep their members in order: a text is read to a [`Value`], which is
-//! looked into and edited, and written again with all else as it was.
+//! JSON documents whose objects keep their members in order: a text is read to a [`Value`], which
+//! can be looked into and edited, and written again with all else as it was.
 //!
 //! # Examples
 //!
@@ -8,7 +8,8 @@
 //! use std::hash::RandomState;
 //!
 //! let hasher = RandomState::new(&rt)?;
-//! let mut boat = from_str(rt.alloc(), hasher, "{\"sail\": 7, \"mast\": 2, \"oars\": null}")?;
+//! let text = "{\"sail\": 7, \"mast\": 2, \"oars\": null}";
+//! let mut boat = from_str(rt.alloc(), hasher, text)?;
 //! if let Some(members) = boat.as_object_mut() {
 //!     let mast = members.remove("mast");
 //!     assert!(rt; mast.is_some());

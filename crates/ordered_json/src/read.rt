@@ -15,9 +15,9 @@ use std::hash::RandomState;
 /// How deep arrays and objects nest at most in a text that is read.
 pub const MAX_DEPTH: usize = 127;
 
-/// Returns the value that a text has, in O(n). A name that an object has twice keeps its first place
-/// and has its last value. Each object has the given hasher: by a random one, no text is slow to read
-/// because all its names hash alike.
+/// Returns the value that a text has, in O(n). A name that comes twice in an object keeps its first
+/// place and has its last value. Each object has the given hasher: with a random one no text can be
+/// made whose names all hash alike.
 ///
 /// Returns `Invalid`, with a place, if the text is no JSON or nests deeper than [`MAX_DEPTH`], and
 /// `NoRoom` if an allocation fails.

@@ -31,7 +31,8 @@ copy_members-loop-name-preserved t c =
       done ++ e ∷ [],
       next,
       ap members_view c.in_ok-replace.ensures.pairs ∙ members_view-put l.copies.pairs name v c.replace.ensures.valid.distinct
-          ∙ ap (λ n. put n (view v) (members_view l.copies.pairs)) named ∙ ap (λ j. put (string_bytes e.0) j (members_view l.copies.pairs)) c.in_ok-copy.ensures
+          ∙ ap (λ n. put n (view v) (members_view l.copies.pairs)) named
+          ∙ ap (λ j. put (string_bytes e.0) j (members_view l.copies.pairs)) c.in_ok-copy.ensures
           ∙ ap (put (string_bytes e.0) (view e.1)) l.invariant.2 ∙ members_view-next done e left distinct,
       values_of (done ++ e ∷ []),
       ap values_of next ∙ map-append (λ (p : Entry). p.1) (done ++ e ∷ []) left,

@@ -1,4 +1,4 @@
-use Rattle.std.proofs.Common.{◌≡◌, ℕ, ◌-◌, ◌<◌, [], ◌∷◌, length, Some, None, sym, ap, ap₂, ◌∙◌, string_bytes, arith, rules}
+use Rattle.std.proofs.Common.{◌≡◌, ◌-◌, ◌<◌, [], ◌∷◌, length, Some, None, sym, ap, ap₂, ◌∙◌, string_bytes, arith, rules}
 use Rattle.json.specs.Token.{Token}
 use Rattle.json.specs.Json.{null, boolean, number, string, array, object, parse_map, after_end_array, read_key, items, members, value}
 use Rattle.json.specs.Reads.{token_of}
@@ -66,7 +66,8 @@ read-returns-in_ok-new-in-Number-clause-value t c =
     let first : c.args.reader.now ≡ token_of c.in_ok-token.token ∷ c.next.new.self = grind arith in
     let is : c.args.reader.now ≡ Token.number c.in-Number.text.now ∷ c.next.new.self = grind (arith, first) in
     let made : number_text c.in_ok-new-in-Number.field-0 ≡ c.in-Number.text.now = search rules in
-    let seen : view (Number c.in_ok-new-in-Number.field-0) ≡ number (number_text c.in_ok-new-in-Number.field-0) = search (rules, the_lemmas) in
+    let n = c.in_ok-new-in-Number.field-0 in
+    let seen : view (Number n) ≡ number (number_text n) = search (rules, the_lemmas) in
     ap resolved_value (ap (value c.args.depth) is ∙ value_is c.args.depth _)
     ∙ ap (λ j. Some (j, c.next.new.self)) (sym (seen ∙ ap number made))
 
@@ -105,7 +106,8 @@ read-returns-in_ok-of_members-in-BeginObject-clause-value t c =
 pub read_items-items-init : goal.read_items-items-init
 read_items-items-init t c =
     let all = resolved_items (items (value c.args.depth) (length c.args.reader.now) c.args.reader.now) in
-    (length c.args.reader.now, omega arith, no_item_yet all ∙ ap (λ vs. parse_map (items_behind vs) all) (sym c.new-found.ensures.items), omega arith)
+    let none = ap (λ vs. parse_map (items_behind vs) all) (sym c.new-found.ensures.items) in
+    (length c.args.reader.now, omega arith, no_item_yet all ∙ none, omega arith)
 
 pub read_items-returns-in_err-item-clause-invalid : goal.read_items-returns-in_err-item-clause-invalid
 read_items-returns-in_err-item-clause-invalid t c refused =
@@ -113,7 +115,8 @@ read_items-returns-in_err-item-clause-invalid t c refused =
     let l = c.items in
     let going : (after_end_array l.reader ≡ None) × (c.take_end_array.new.self ≡ l.reader) = grind arith in
     l.invariant.2
-    ∙ ap (parse_map (items_behind l.found.items)) (item_refused p l.invariant.0 l.reader going.0 (rw (← going.1) (c.read.ensures.invalid (grind arith))))
+    ∙ ap (parse_map (items_behind l.found.items))
+    (item_refused p l.invariant.0 l.reader going.0 (rw (← going.1) (c.read.ensures.invalid (grind arith))))
 
 pub read_items-items-preserved : goal.read_items-items-preserved
 read_items-items-preserved t c =
@@ -162,7 +165,8 @@ read_members-returns-in_err-member-clause-invalid t c refused =
     let s = c.next_key.new.self in
     let named : read_key l.reader ≡ Some (Some name, s) = grind arith in
     l.invariant.2
-    ∙ member_refused (value c.args.depth) (members_view l.found.pairs) l.invariant.0 name l.reader s named (c.read.ensures.invalid (grind arith))
+    ∙ member_refused (value c.args.depth) (members_view l.found.pairs) l.invariant.0 name l.reader s named
+    (c.read.ensures.invalid (grind arith))
 
 pub read_members-members-preserved : goal.read_members-members-preserved
 read_members-members-preserved t c =

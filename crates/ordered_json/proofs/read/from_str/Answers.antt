@@ -8,4 +8,5 @@ use Rattle.ordered_json.proofs.read.from_str.Goals as goal
 pub returns-in-None-clause-depth : goal.returns-in-None-clause-depth
 returns-in-None-clause-depth c =
     let none : c.read.new.reader ≡ [] = search rules in
-    depth-read c.args.text.now _ (whole_read (value 127 (tokens c.args.text.now)) _ (rw (c.in-Ok.ensures.ok, none) at c.in-Ok-read.ensures.value))
+    let read = rw (c.in-Ok.ensures.ok, none) at c.in-Ok-read.ensures.value in
+    depth-read c.args.text.now _ (whole_read (value 127 (tokens c.args.text.now)) _ read)

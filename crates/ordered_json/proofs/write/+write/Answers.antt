@@ -48,7 +48,8 @@ write_members-loop-name-preserved g t c =
       done ++ e ∷ [],
       next,
       ap (λ ts. ts ++ rest) c.in_ok-write.ensures.tokens ∙ append_assoc (g.W.Tokens.written c.token.new.self) (json_tokens (view e.1)) rest
-          ∙ ap (λ ts. ts ++ (json_tokens (view e.1) ++ rest)) named ∙ append_assoc before (key (string_bytes e.0) ∷ []) (json_tokens (view e.1) ++ rest)
+          ∙ ap (λ ts. ts ++ (json_tokens (view e.1) ++ rest)) named
+          ∙ append_assoc before (key (string_bytes e.0) ∷ []) (json_tokens (view e.1) ++ rest)
           ∙ ap (λ es. before ++ members_tokens (members_view es)) (sym steps) ∙ l.invariant.2,
       l.invariant.3 ∙ ap (λ es. put_each (members_view es) (members_view done)) steps
           ∙ ap (λ j. put_each (members_view left) (put (string_bytes e.0) j (members_view done))) c.in_ok-write.ensures.resolved

@@ -11,4 +11,5 @@ returns-clause-reads_back c within =
     let j = view c.args.value.now in
     let text : string_bytes c.text_of.result ≡ print (json_tokens j) = search rules in
     let made = c.in_ok-write.ensures.tokens ∙ ap (λ ts. ts ++ json_tokens j) c.new-2.ensures.tokens in
-    read-tokens _ j (ap tokens text ∙ subst (λ ts. tokens (print ts) ≡ ts) made c.into_inner.ensures.reads_back) c.in_ok-write.ensures.resolved within
+    let back = subst (λ ts. tokens (print ts) ≡ ts) made c.into_inner.ensures.reads_back in
+    read-tokens _ j (ap tokens text ∙ back) c.in_ok-write.ensures.resolved within
