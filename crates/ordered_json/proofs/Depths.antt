@@ -1,10 +1,10 @@
 -- A value that was read nests no deeper than its text may.
-use Rattle.std.proofs.Common.{◌≡◌, ℕ, ◌≤◌, max, List, [], ◌∷◌, Option, Some, None, Bool, true, false, cond}
+use Rattle.std.proofs.Common.{◌≡◌, ℕ, ◌≤◌, max, List, [], ◌∷◌, Option, Some, None, Bool, true, false, cond, option_map, option_and_then}
 use Rattle.std.proofs.Common.{refl, ap, subst, arith}
 use Rattle.std.specs.Str.{bytes_eq}
 use Rattle.json.specs.Token.{Token}
 use Rattle.json.specs.Lex.{tokens}
-use Rattle.json.specs.Json.{Json, null, boolean, number, string, array, object, Items, no_items, item, Members, no_members, member}
+use Rattle.json.specs.Json.{Json, null, boolean, number, string, array, object, Items, no_items, item, Members, no_members, member, if_last}
 use Rattle.json.specs.Tree.{depth, items_depth, members_depth}
 use Rattle.json.proofs.Nesting.{value-depth}
 use Rattle.ordered_json.specs.Read.{put, resolved, each_resolved, put_each, read}

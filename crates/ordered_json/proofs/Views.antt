@@ -1,5 +1,5 @@
 -- A value, level by level, and the pairs of a map beside the members that they stand for.
-use Rattle.std.proofs.Common.{◌≡◌, List, [], ◌∷◌, ◌++◌, is_some, cond, Bool, true, false, refl, ap, rules}
+use Rattle.std.proofs.Common.{◌≡◌, ℕ, List, [], ◌∷◌, ◌++◌, Option, Some, None, is_some, cond, Bool, true, false, refl, sym, ap, ◌∙◌, rules}
 use Rattle.std.proofs.Common.{String, Vec}
 use Rattle.std.specs.Global.{Box}
 use Rattle.std.proofs.lemmas.Map.Keys.{IsDistinct-tail}
