@@ -1,5 +1,5 @@
 //! Moving a member by a pointer.
-ghost use Rattle.std.specs.Prelude.{◌≡◌, ◌≢◌, ◌&&◌, Err, IfErr, IsFalse, IsTrue, Ok, OnErr, OnOk, String, cond, false, is_some, string_bytes, string_eq, true};
+ghost use Rattle.std.specs.Prelude.{◌≡◌, ◌≢◌, ◌&&◌, Err, IfErr, IsFalse, IsTrue, Ok, OnErr, OnOk, cond, false, is_some, string_bytes, string_eq, true};
 ghost use Rattle.std.specs.List.{IsDistinct};
 ghost use Rattle.std.specs.Map.{keys_of};
 ghost use Rattle.std.specs.Str.{bytes_eq};
