@@ -1,14 +1,14 @@
 -- What a change of the value at the end of names leaves.
-use Rattle.std.proofs.Common.{◌≡◌, ℕ, zero, suc, List, [], ◌∷◌, ◌++◌, Option, Some, None, option_map, option_and_then, is_some, unwrap_or, length, ◌-◌, ◌<◌, ◌==◌, take, Result, Ok, Err}
+use Rattle.std.proofs.Common.{◌≡◌, ℕ, zero, suc, List, [], ◌∷◌, ◌++◌, Option, Some, None, option_and_then, is_some, unwrap_or, length, ◌<◌, ◌==◌, take, Ok, Err}
 use Rattle.std.proofs.Common.{cond, Bool, true, false, refl, sym, ap, ◌∙◌, arith, length-append, eqb-true}
 use Rattle.std.proofs.Math.Seq.{take-append_seam}
 use Rattle.std.specs.Str.{bytes_eq}
 use Rattle.json.specs.Json.{Json, null, boolean, number, string, array, object, Items, no_items, item, Members, no_members, member}
 use Rattle.json.specs.Find.{get_item}
-use Rattle.linked_hash_map.specs.Pairs.{last, without_last}
+use Rattle.linked_hash_map.specs.Pairs.{without_last}
 use Rattle.linked_hash_map.proofs.Callers.Lookups.{last-append}
 use Rattle.ordered_json.specs.Edits.{Edited, by_names, edit_at, edit_last, edit_parent, put_back, edit_found, put_child, set_at}
-use Rattle.ordered_json.specs.Pointers.{names, index, child, find_member, get_at, change_at, change_child, change_member, change_item, change_items}
+use Rattle.ordered_json.specs.Pointers.{names, index, child, find_member, get_at, change_at, change_member, change_item, change_items}
 use Rattle.ordered_json.specs.declared.edit.EditError.{EditError}
 use Rattle.ordered_json.specs.declared.edit.EditError.TheVariants.{Absent}
 use Rattle.ordered_json.proofs.Children.{change_member-own, change_item-own}

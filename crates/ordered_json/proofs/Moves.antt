@@ -2,7 +2,7 @@
 use Rattle.std.proofs.Common.{◌≡◌, ℕ, suc, ◌&&◌, take, drop, List, [], ◌∷◌, ◌++◌, Option, Some, None, is_some, option_map, unwrap_or, cond}
 use Rattle.std.proofs.Common.{Bool, true, false, refl, sym, ap, ap₂, ◌∙◌, one-add, Ok, Err}
 use Rattle.std.proofs.Math.Numerals.{add-one}
-use Rattle.std.specs.Cmp.Lexicographic.{bytes_decides, nat_list_eq_equiv}
+use Rattle.std.specs.Cmp.Lexicographic.{bytes_decides}
 use Rattle.std.specs.List.{IsDistinct}
 use Rattle.std.specs.Option.{option_to_list}
 use Rattle.std.specs.Map.{keys_of}

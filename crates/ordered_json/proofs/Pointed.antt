@@ -1,6 +1,6 @@
 -- For callers: what pointers find after an edit.
-use Rattle.std.proofs.Common.{◌≡◌, ℕ, zero, suc, ◌==◌, List, [], ◌∷◌, ◌++◌, Option, Some, None, option_map, option_and_then, Result, Ok, Err, ◌<◌, length}
-use Rattle.std.proofs.Common.{cond, Bool, true, false, ◌||◌, refl, sym, ap, ◌∙◌, arith, eqb-true}
+use Rattle.std.proofs.Common.{◌≡◌, ℕ, zero, suc, ◌==◌, List, [], ◌∷◌, ◌++◌, Option, Some, None, option_map, option_and_then, Ok, Err, ◌<◌, length}
+use Rattle.std.proofs.Common.{cond, Bool, true, false, ◌||◌, refl, sym, ap, ◌∙◌, arith}
 use Rattle.std.specs.Cmp.Lexicographic.{bytes_decides, nat_list_eq_equiv}
 use Rattle.std.proofs.lemmas.Bool.{eqb-false}
 use Rattle.std.specs.Option.{ok_or}
@@ -8,10 +8,9 @@ use Rattle.std.specs.Result.{result_unwrap_or}
 use Rattle.std.specs.Str.{bytes_eq}
 use Rattle.json.specs.Json.{Json, null, boolean, number, string, array, object, Items, no_items, item, Members, no_members, member}
 use Rattle.json.specs.Find.{get_item}
-use Rattle.ordered_json.specs.Edits.{Edited, by_names, edit_at, edit_found, put_back, put_child, put_item, put_named, push_item, set_at}
+use Rattle.ordered_json.specs.Edits.{Edited, edit_found, put_back, put_child, put_item, set_at}
 use Rattle.ordered_json.specs.Pointers.{names, index, child, find_member, get_at, pointed, change_at, change_child, change_member, change_item, change_items}
 use Rattle.ordered_json.specs.Read.{put}
-use Rattle.ordered_json.specs.declared.edit.EditError.{EditError}
 use Rattle.ordered_json.specs.declared.edit.EditError.TheVariants.{OutOfRange}
 use Rattle.ordered_json.proofs.Changes.{by_names-append, change_at-found, get_at-append, set_at-some}
 
@@ -95,13 +94,13 @@ child-put u name (array js) k apart is = by_index (index name) refl (rw apart at
 child-put u name (object ms) k apart is =
     let same : object (put name u ms) ≡ k = cc in ap (child name) (sym same) ∙ find_member-put name u ms
 
-some : (text : List ℕ) {path : List (List ℕ)} {name : List ℕ} → names text ≡ Some (path ++ name ∷ []) → 0 < length text
-some [] is = absurd (not_empty _ _ is)
+some : (text : List ℕ) (path : List (List ℕ)) (name : List ℕ) → names text ≡ Some (path ++ name ∷ []) → 0 < length text
+some [] path name is = absurd (not_empty path name is)
   where
     not_empty : (path : List (List ℕ)) (name : List ℕ) → Some [] ≡ Some (path ++ name ∷ []) → ⊥
     not_empty [] name e = cc
     not_empty (p ∷ path) name e = cc
-some (x ∷ text) is = omega arith
+some (x ∷ text) path name is = omega arith
 
 -- what was set is there
 pub pointed-set_at : (text : List ℕ) (path : List (List ℕ)) (name : List ℕ) (u j k : Json) → names text ≡ Some (path ++ name ∷ [])
@@ -109,7 +108,7 @@ pub pointed-set_at : (text : List ℕ) (path : List (List ℕ)) (name : List ℕ
 pointed-set_at text path name u j k is apart done =
     ap (option_and_then (λ p. get_at p k)) is ∙ get_at-append path name k
     ∙ by_found (get_at path j) refl
-    (sym (set_at-some text u j (some text is) ∙ by_names-append (put_child u) text path name j is) ∙ done)
+    (sym (set_at-some text u j (some text path name is) ∙ by_names-append (put_child u) text path name j is) ∙ done)
   where
     by_put : (p : Json) → get_at path j ≡ Some p → (r : Edited) → put_child u name p ≡ r → put_back path j r ≡ Ok k
         → option_and_then (child name) (get_at path k) ≡ Some u
@@ -299,7 +298,7 @@ pub pointed-set_apart : (text other : List ℕ) (path more : List (List ℕ)) (n
     → lead_apart (path ++ name ∷ []) more ≡ true → set_at text u j ≡ Ok k → pointed other k ≡ pointed other j
 pointed-set_apart text other path more name u j k is more_is dash apart done =
     ap (option_and_then (λ p. get_at p k)) more_is
-    ∙ by_found (get_at path j) refl (sym (set_at-some text u j (some text is) ∙ by_names-append (put_child u) text path name j is) ∙ done)
+    ∙ by_found (get_at path j) refl (sym (set_at-some text u j (some text path name is) ∙ by_names-append (put_child u) text path name j is) ∙ done)
     ∙ sym (ap (option_and_then (λ p. get_at p j)) more_is)
   where
     after : Json → Json

@@ -1,5 +1,5 @@
 -- The items and members of a value that one is put into, or taken from.
-use Rattle.std.proofs.Common.{◌≡◌, ℕ, zero, suc, ◌+◌, ◌-◌, ◌^◌, ◌<◌, ◌≤◌, min, length, take, drop, List, [], ◌∷◌, ◌++◌, Option, Some, None, option_map, option_and_then}
+use Rattle.std.proofs.Common.{◌≡◌, ℕ, zero, suc, ◌-◌, ◌^◌, ◌<◌, ◌≤◌, length, List, [], ◌∷◌, ◌++◌, Option, Some, None, option_map, option_and_then}
 use Rattle.std.proofs.Common.{cond, Bool, true, false, refl, sym, ap, ◌∙◌, arith, nat_le}
 use Rattle.std.proofs.lemmas.Bool.{leb-true, leb-false}
 use Rattle.std.proofs.lemmas.Map.Keys.{IsDistinct-tail}
@@ -7,12 +7,11 @@ use Rattle.std.specs.List.{IsDistinct, slice_set, remove}
 use Rattle.std.specs.Map.{keys_of}
 use Rattle.std.specs.Str.{bytes_eq}
 use Rattle.std.specs.String.{string_bytes, string_eq}
-use Rattle.json.specs.Json.{Json, Items, item, member}
+use Rattle.json.specs.Json.{Json, item, member}
 use Rattle.linked_hash_map.specs.Pairs.{value_at, without, find}
 use Rattle.linked_hash_map.proofs.Callers.Keys.{without-absent}
 use Rattle.linked_hash_map.proofs.Callers.Texts.{is_text}
-use Rattle.ordered_json.specs.Edits.{push_item, put_item, put_named, without_item, without_member}
-use Rattle.ordered_json.specs.Pointers.{index}
+use Rattle.ordered_json.specs.Edits.{push_item, put_item, without_item, without_member}
 use Rattle.ordered_json.specs.View.{view, items_view, members_view}
 use Rattle.ordered_json.specs.declared.value.Value.{Value}
 use Rattle.ordered_json.proofs.Children.{capped, find-behind}

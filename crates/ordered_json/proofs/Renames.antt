@@ -11,7 +11,7 @@ use Rattle.std.specs.declared.alloc.Global.{Global}
 use Rattle.linked_hash_map.specs.Pairs.{find, value_at, set_value, without, to_before}
 use Rattle.linked_hash_map.proofs.Callers.Keys.{set_value-none, without-absent}
 use Rattle.linked_hash_map.proofs.Callers.Texts.{is_text}
-use Rattle.json.specs.Json.{Json, Members, no_members, member}
+use Rattle.json.specs.Json.{Members, no_members, member}
 use Rattle.ordered_json.specs.Edits.{rename_member}
 use Rattle.ordered_json.specs.Pointers.{find_member}
 use Rattle.ordered_json.specs.View.{view, members_view}

@@ -10,22 +10,37 @@ use crate::edit_parent::{put_back, take_parent};
 use crate::pointer::index_of;
 use crate::value::{Map, Value};
 use std::alloc::{AllocError, AllocFailed, Global};
-use std::mem;
+use std::error::Error;
+use std::{fmt, mem};
 
-/// Why a document was not edited.
+/// Why a value was not edited.
 #[derive(Clone, Copy, Debug, Drop, PartialEq, Eq)]
 pub enum EditError {
     /// The text is no pointer.
     NotPointer,
-    /// A member is not there, or what would have it is neither an array nor an object.
+    /// A member is absent, or what should have it is neither an array nor an object.
     Absent,
-    /// The last name of the pointer is no index of its array.
+    /// The last name is no index of its array.
     OutOfRange,
     /// Another member of the object has the new name.
     Taken,
     /// An allocation failed.
     NoRoom,
 }
+
+impl fmt::Display for EditError {
+    fn fmt<W: fmt::Write>(&self, f: &mut fmt::Formatter<W>) -> fmt::Result {
+        match self {
+            EditError::NotPointer => f.write_str("no pointer"),
+            EditError::Absent => f.write_str("absent"),
+            EditError::OutOfRange => f.write_str("no index of the array"),
+            EditError::Taken => f.write_str("a name that is taken"),
+            EditError::NoRoom => f.write_str("no memory for the edit"),
+        }
+    }
+}
+
+impl Error for EditError {}
 
 impl From<AllocError> for EditError {
     ghost use Rattle.std.specs.Prelude.{◌≡◌};
@@ -62,8 +77,26 @@ impl Value {
     /// Sets the value at a pointer: in place if it is there, else as the last member of its object,
     /// or behind the last item of its array, if the name is the length or `-`.
     ///
-    /// If it is refused, the value comes back and nothing changes. It takes memory for the names,
-    /// and for one member or item more.
+    /// If the text is no pointer, or what the names before the last one lead to is absent, neither
+    /// an array nor an object, or an array that has no such index, or if an allocation fails, the
+    /// value comes back and nothing changes. It takes memory for the names, and for one member or
+    /// item more.
+    ///
+    /// # Examples
+    ///
+    /// ```rust
+    /// use ordered_json::{Value, from_str, to_string};
+    /// use std::hash::RandomState;
+    ///
+    /// let hasher = RandomState::new(&rt)?;
+    /// let mut boat = from_str(rt.alloc(), hasher, "{\"sails\": [7]}")?;
+    /// let done = boat.set("/sails/-", Value::Bool(true), rt.alloc());
+    /// assert!(rt; done.is_ok());
+    /// let done = boat.set("/mast/height", Value::Null, rt.alloc());
+    /// assert!(rt; done.is_err());
+    /// let text = to_string(rt.alloc(), &boat)?;
+    /// assert_eq!(rt; text.as_str(), "{\"sails\":[7,true]}");
+    /// ```
     pub fn set(&mut self, pointer: &str, value: Value, alloc: Global) -> Result<(), NotSet>
         ensures document { OnOk result
             (set_at pointer.now (view value) (view self.old) ≡ Ok (view self.new)) }
@@ -87,7 +120,22 @@ impl Value {
 
     /// Removes the value at a pointer, and returns it. The others keep their order.
     ///
-    /// If it is refused, nothing changes. It takes memory for the names alone.
+    /// If the text is no pointer, if the value is absent or the document itself, or if an allocation
+    /// fails, nothing changes. It takes memory for the names alone.
+    ///
+    /// # Examples
+    ///
+    /// ```rust
+    /// use ordered_json::{from_str, to_string};
+    /// use std::hash::RandomState;
+    ///
+    /// let hasher = RandomState::new(&rt)?;
+    /// let mut boat = from_str(rt.alloc(), hasher, "{\"sails\": [7, 2], \"sold\": null}")?;
+    /// let sail = boat.remove("/sails/0", rt.alloc())?;
+    /// assert_eq!(rt; sail.as_u64(), Some(7));
+    /// let text = to_string(rt.alloc(), &boat)?;
+    /// assert_eq!(rt; text.as_str(), "{\"sails\":[2],\"sold\":null}");
+    /// ```
     pub fn remove(&mut self, pointer: &str, alloc: Global) -> Result<Value, EditError>
         ensures value { IfOk result (λ v. pointed pointer.now (view self.old) ≡ Some (view v)) }
         ensures document { OnOk result

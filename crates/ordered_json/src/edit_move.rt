@@ -19,7 +19,21 @@ impl Value {
     /// Moves the member at a pointer right before another one of its object. Beside itself it
     /// stays, and the others keep their order.
     ///
-    /// If one is absent, it is refused and nothing changes. It takes memory for the names alone.
+    /// If one is absent, or an allocation fails, nothing changes. It takes memory for the names
+    /// alone.
+    ///
+    /// # Examples
+    ///
+    /// ```rust
+    /// use ordered_json::{from_str, to_string};
+    /// use std::hash::RandomState;
+    ///
+    /// let hasher = RandomState::new(&rt)?;
+    /// let mut boat = from_str(rt.alloc(), hasher, "{\"sail\": 7, \"sold\": null}")?;
+    /// boat.move_before("/sold", "sail", rt.alloc())?;
+    /// let text = to_string(rt.alloc(), &boat)?;
+    /// assert_eq!(rt; text.as_str(), "{\"sold\":null,\"sail\":7}");
+    /// ```
     pub fn move_before(
         &mut self,
         pointer: &str,
@@ -37,12 +51,7 @@ impl Value {
 
     /// Moves the member at a pointer right behind another one of its object, as
     /// [`move_before`](Value::move_before) does before it.
-    pub fn move_after(
-        &mut self,
-        pointer: &str,
-        other: &str,
-        alloc: Global,
-    ) -> Result<(), EditError>
+    pub fn move_after(&mut self, pointer: &str, other: &str, alloc: Global) -> Result<(), EditError>
         ensures document { OnOk result
             (move_at true pointer.now other.now (view self.old) ≡ Ok (view self.new)) }
         ensures why { IfErr result (λ error. error ≢ NoRoom

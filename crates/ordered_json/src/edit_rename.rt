@@ -19,8 +19,21 @@ use std::mem;
 impl Value {
     /// Gives the member at a pointer another name, in its place. Its own name changes nothing.
     ///
-    /// If there is none, or another member of its object has that name, it is refused and nothing
-    /// changes. It takes memory for the names, and for one member more.
+    /// If there is none, if another member of its object has that name, or if an allocation fails,
+    /// nothing changes. It takes memory for the names, and for one member more.
+    ///
+    /// # Examples
+    ///
+    /// ```rust
+    /// use ordered_json::{from_str, to_string};
+    /// use std::hash::RandomState;
+    ///
+    /// let hasher = RandomState::new(&rt)?;
+    /// let mut boat = from_str(rt.alloc(), hasher, "{\"sail\": 7, \"sold\": null}")?;
+    /// boat.rename("/sail", "sails", rt.alloc())?;
+    /// let text = to_string(rt.alloc(), &boat)?;
+    /// assert_eq!(rt; text.as_str(), "{\"sails\":7,\"sold\":null}");
+    /// ```
     pub fn rename(&mut self, pointer: &str, to: &str, alloc: Global) -> Result<(), EditError>
         ensures document { OnOk result
             (rename_at pointer.now to.now (view self.old) ≡ Ok (view self.new)) }

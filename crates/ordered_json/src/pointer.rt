@@ -11,8 +11,23 @@ use std::alloc::Global;
 use std::mem;
 
 impl Value {
-    /// Returns the value at a pointer, if it is there. A name with `~0` or `~1` is looked for among
-    /// the members one by one.
+    /// Returns the value at a pointer, if it is there: `""` is the value itself, and `/` and a name
+    /// lead on to a member or, by its index, to an item. In a name `~1` is a `/` and `~0` a `~`.
+    ///
+    /// Each name takes O(1), or O(n) of the members if it has a `~`. Nothing is allocated.
+    ///
+    /// # Examples
+    ///
+    /// ```rust
+    /// use ordered_json::from_str;
+    /// use std::hash::RandomState;
+    ///
+    /// let hasher = RandomState::new(&rt)?;
+    /// let boat = from_str(rt.alloc(), hasher, "{\"a/b\": [7, 8]}")?;
+    /// let Some(second) = boat.pointer("/a~1b/1") else { panic!(rt; "absent") };
+    /// assert_eq!(rt; second.as_u64(), Some(8));
+    /// assert!(rt; boat.pointer("/a~1b/2").is_none());
+    /// ```
     pub fn pointer(&self, pointer: &str) -> Option<&Value>
         ensures { option_map (λ v. view v.now) result ≡ pointed pointer.now (view self.now) }
     {
@@ -28,8 +43,8 @@ impl Value {
         step(target, rest)
     }
 
-    /// Lends the value at a pointer, if it is there. The contract says what the value is, and not
-    /// what the document is after a write to it.
+    /// Lends the value at a pointer, if it is there, as [`pointer`](Value::pointer) returns it. The
+    /// contract says what the value is, and not what the document is after a write to it.
     pub fn pointer_mut(&mut self, pointer: &str) -> Option<&mut Value>
         ensures { option_map (λ v. view v.now) result ≡ pointed pointer.now (view self.old) }
     {
@@ -314,7 +329,9 @@ fn number_of(bytes: &[u8]) -> Option<usize>
         if !byte.is_ascii_digit() {
             return None;
         }
-        number = number.saturating_mul(10).saturating_add((*byte - b'0') as usize);
+        number = number
+            .saturating_mul(10)
+            .saturating_add((*byte - b'0') as usize);
     }
     Some(number)
 }

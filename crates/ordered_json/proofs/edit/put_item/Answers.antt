@@ -1,7 +1,7 @@
-use Rattle.std.proofs.Common.{◌≡◌, ◌<◌, ◌-◌, ◌^◌, min, Some, None, Ok, Option, cond, option_and_then, option_map, length, ap, sym, ◌∙◌, arith}
+use Rattle.std.proofs.Common.{◌≡◌, ◌<◌, ◌-◌, ◌^◌, Some, cond, option_and_then, option_map, length, ap, sym, ◌∙◌, arith}
 use Rattle.std.specs.Option.{ok_or}
 use Rattle.std.proofs.lemmas.Result.{on_ok_weaker}
-use Rattle.json.specs.Json.{Items, array}
+use Rattle.json.specs.Json.{array}
 use Rattle.ordered_json.specs.Edits.{push_item as pushed, put_item, put_named}
 use Rattle.ordered_json.specs.Pointers.{index}
 use Rattle.ordered_json.specs.View.{items_view, view}

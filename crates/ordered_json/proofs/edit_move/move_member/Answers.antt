@@ -1,4 +1,4 @@
-use Rattle.std.proofs.Common.{◌≡◌, ◌&&◌, is_some, true, false, Bool, refl, ap, ap₂, sym, ◌∙◌}
+use Rattle.std.proofs.Common.{◌&&◌, is_some, ap, sym, ◌∙◌}
 use Rattle.linked_hash_map.specs.Pairs.{find}
 use Rattle.linked_hash_map.proofs.Callers.Texts.{is_text}
 use Rattle.ordered_json.proofs.Moves.{move_child-absent, move_child-moved, move_child-own}

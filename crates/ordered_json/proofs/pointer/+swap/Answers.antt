@@ -1,12 +1,10 @@
-use Rattle.std.proofs.Common.{◌≡◌, ◌∷◌, List, ℕ, ◌<◌, ◌-◌, ◌^◌, min, Option, Some, None, map, length, is_some, unwrap_or, option_and_then, option_map, refl, sym, ap, ap₂, ◌∙◌, arith, rules}
+use Rattle.std.proofs.Common.{◌≡◌, ◌∷◌, ◌<◌, ◌-◌, ◌^◌, min, Some, None, map, length, is_some, unwrap_or, option_and_then, option_map, refl, sym, ap, ap₂, ◌∙◌, arith}
 use Rattle.std.proofs.lemmas.Option.{slice_get_read, slice_get_past}
 use Rattle.std.specs.String.{string_bytes}
 use Rattle.std.specs.List.{slice_get}
-use Rattle.json.specs.Json.{Json, array, object}
-use Rattle.json.specs.Find.{get_item}
+use Rattle.json.specs.Json.{array, object}
 use Rattle.ordered_json.specs.Pointers.{change_at, find_member, get_at, index}
-use Rattle.ordered_json.specs.View.{items_view, members_view, view}
-use Rattle.ordered_json.specs.declared.value.Value.{Object}
+use Rattle.ordered_json.specs.View.{members_view, view}
 use Rattle.ordered_json.proofs.Views.{view-Object}
 use Rattle.ordered_json.proofs.Children.{Map, find_member-view, change_member-view, change_member-own, item-found, items-changed, items-kept}
 use Rattle.ordered_json.proofs.pointer.+swap.Goals as goal

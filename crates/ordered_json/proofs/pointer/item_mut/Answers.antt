@@ -1,10 +1,9 @@
-use Rattle.std.proofs.Common.{◌≡◌, ◌<◌, ◌≤◌, ◌-◌, ◌^◌, None, Some, length, option_and_then, option_map, refl, sym, ap, ◌∙◌, arith, true≢false}
+use Rattle.std.proofs.Common.{◌<◌, ◌≤◌, ◌-◌, ◌^◌, length, option_and_then, option_map, refl, sym, ap, ◌∙◌, arith, true≢false}
 use Rattle.std.proofs.lemmas.Option.{slice_get_read, slice_get_past}
 use Rattle.std.proofs.lemmas.Str.Pattern.{contains_char}
-use Rattle.std.specs.List.{slice_get}
 use Rattle.json.specs.Find.{get_item}
 use Rattle.json.specs.Json.{array}
-use Rattle.ordered_json.specs.Pointers.{child, index, unescape}
+use Rattle.ordered_json.specs.Pointers.{child, index}
 use Rattle.ordered_json.specs.View.{items_view, view}
 use Rattle.ordered_json.proofs.Children.{capped-none, item-found}
 use Rattle.ordered_json.proofs.Parts.{child-escaped, unescape-same}

@@ -1,4 +1,4 @@
-use Rattle.std.proofs.Common.{◌≡◌, option_and_then, option_map, sym, ap, ◌∙◌, arith, true≢false}
+use Rattle.std.proofs.Common.{option_and_then, option_map, sym, ap, ◌∙◌, arith, true≢false}
 use Rattle.std.proofs.lemmas.Str.Pattern.{contains_char}
 use Rattle.json.specs.Json.{object}
 use Rattle.ordered_json.specs.Pointers.{child}

@@ -1,8 +1,7 @@
-use Rattle.std.proofs.Common.{◌≡◌, ◌<◌, [], ◌∷◌, ◌++◌, map, length, None, Some, Err, option_map, option_and_then, string_bytes, sym, ap, ◌∙◌, arith, rules}
+use Rattle.std.proofs.Common.{◌≡◌, ◌<◌, [], ◌∷◌, ◌++◌, map, length, None, Some, option_map, option_and_then, string_bytes, sym, ap, ◌∙◌, arith, rules}
 use Rattle.std.proofs.lemmas.List.{map-append}
 use Rattle.std.proofs.lemmas.Str.Pattern.{strip_prefix_char, split_parts}
-use Rattle.ordered_json.specs.Pointers.{names, names_after, unescape}
-use Rattle.ordered_json.specs.declared.edit.EditError.TheVariants.{NotPointer}
+use Rattle.ordered_json.specs.Pointers.{names_after, unescape}
 use Rattle.ordered_json.proofs.Parts.{in_front, names_after-cut, names_after-last, names-none}
 use Rattle.ordered_json.proofs.pointer.names_of.Goals as goal
 
