@@ -45,6 +45,20 @@ impl Value {
 
     /// Lends the value at a pointer, if it is there, as [`pointer`](Value::pointer) returns it. The
     /// contract says what the value is, and not what the document is after a write to it.
+    ///
+    /// # Examples
+    ///
+    /// ```rust
+    /// use ordered_json::{Value, from_str, to_string};
+    /// use std::hash::RandomState;
+    ///
+    /// let mut boat = from_str(rt.alloc(), RandomState::new(&rt)?, "{\"sails\": [7, 8]}")?;
+    /// if let Some(second) = boat.pointer_mut("/sails/1") {
+    ///     *second = Value::Null;
+    /// }
+    /// let text = to_string(rt.alloc(), &boat)?;
+    /// assert_eq!(rt; text.as_str(), "{\"sails\":[7,null]}");
+    /// ```
     pub fn pointer_mut(&mut self, pointer: &str) -> Option<&mut Value>
         ensures { option_map (λ v. view v.now) result ≡ pointed pointer.now (view self.old) }
     {
