@@ -52,12 +52,12 @@ impl Value {
     /// use ordered_json::{Value, from_str, to_string};
     /// use std::hash::RandomState;
     ///
-    /// let mut song = from_str(rt.alloc(), RandomState::new(&rt)?, "{\"plays\": [1, 2]}")?;
-    /// if let Some(plays) = song.pointer_mut("/plays/0") {
-    ///     *plays = Value::Bool(true);
+    /// let mut boat = from_str(rt.alloc(), RandomState::new(&rt)?, "{\"sails\": [7, 8]}")?;
+    /// if let Some(second) = boat.pointer_mut("/sails/1") {
+    ///     *second = Value::Null;
     /// }
-    /// let text = to_string(rt.alloc(), &song)?;
-    /// assert_eq!(rt; text.as_str(), "{\"plays\":[true,2]}");
+    /// let text = to_string(rt.alloc(), &boat)?;
+    /// assert_eq!(rt; text.as_str(), "{\"sails\":[7,null]}");
     /// ```
     pub fn pointer_mut(&mut self, pointer: &str) -> Option<&mut Value>
         ensures { option_map (λ v. view v.now) result ≡ pointed pointer.now (view self.old) }

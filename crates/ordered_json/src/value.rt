@@ -22,7 +22,7 @@ pub type Map = LinkedHashMap<String, Value, RandomState>;
 /// # Examples
 ///
 /// ```rust
-/// use ordered_json::{Value, from_str};
+/// use ordered_json::{Number, Value, from_str};
 /// use std::hash::RandomState;
 ///
 /// let hasher = RandomState::new(&rt)?;
@@ -34,6 +34,7 @@ pub type Map = LinkedHashMap<String, Value, RandomState>;
 /// let sails = members.get("sails").and_then(Value::as_array);
 /// let Some(sails) = sails else { panic!(rt; "no array") };
 /// assert_eq!(rt; (sails[0].as_u64(), sails[1].as_u64()), (Some(7), None));
+/// assert_eq!(rt; sails[1].as_number().map(Number::as_str), Some("2.5"));
 /// assert_eq!(rt; (sails[1].as_f64(), sails[1].as_bool()), (Some(2.5), None));
 /// assert_eq!(rt; (sails[0].is_array(), boat.is_object()), (false, true));
 /// ```
