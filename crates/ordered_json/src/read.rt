@@ -45,7 +45,8 @@ pub fn from_str(alloc: Global, hasher: RandomState, text: &str) -> Result<Value,
     let Ok(mut reader) = Reader::new(text, &mut scratch) else {
         return Err(ReadError::NoRoom);
     };
-    match read(alloc, hasher, &mut reader, MAX_DEPTH) {
+    let mut at: usize = 0;
+    match read(alloc, hasher, &mut reader, &mut at, MAX_DEPTH) {
         Ok(value) => {
             let end = reader.offset();
             match reader.next() {
@@ -53,7 +54,7 @@ pub fn from_str(alloc: Global, hasher: RandomState, text: &str) -> Result<Value,
                 Some(_) => Err(invalid_at(text.as_bytes(), end)),
             }
         }
-        Err(Fault::Invalid) => Err(invalid_at(text.as_bytes(), reader.offset())),
+        Err(Fault::Invalid) => Err(invalid_at(text.as_bytes(), at)),
         Err(Fault::NoRoom) => Err(ReadError::NoRoom),
     }
 }
@@ -76,12 +77,13 @@ fn invalid_at(text: &[u8], offset: usize) -> ReadError
     ReadError::Invalid { line, column }
 }
 
-/// Reads a value that nests no deeper than `depth`.
+/// Reads a value that nests no deeper than `depth`. Leaves in `at` where the last token began.
 #[cycle(read)]
 fn read(
     alloc: Global,
     hasher: RandomState,
     reader: &mut Reader<'_>,
+    at: &mut usize,
     depth: usize,
 ) -> Result<Value, Fault>
     ensures value { IfOk result
@@ -89,6 +91,7 @@ fn read(
     ensures shorter { OnOk result (length reader.new < length reader.old) }
     ensures invalid { result ≡ Err Fault.Invalid → resolved_value (value depth reader.old) ≡ None }
 {
+    *at = reader.offset();
     let token = reader.next().ok_or(Fault::Invalid)?;
     match token {
         Token::Null => Ok(Value::Null),
@@ -99,13 +102,13 @@ fn read(
             if depth == 0 {
                 return Err(Fault::Invalid);
             }
-            Ok(Value::Array(read_items(alloc, hasher, reader, depth - 1)?))
+            Ok(Value::Array(read_items(alloc, hasher, reader, at, depth - 1)?))
         }
         Token::BeginObject => {
             if depth == 0 {
                 return Err(Fault::Invalid);
             }
-            let members = read_members(alloc, hasher, reader, depth - 1)?;
+            let members = read_members(alloc, hasher, reader, at, depth - 1)?;
             Ok(Value::of_members(alloc, members)?)
         }
         Token::EndObject | Token::EndArray | Token::Key(_) | Token::Bad => Err(Fault::Invalid),
@@ -118,6 +121,7 @@ fn read_items(
     alloc: Global,
     hasher: RandomState,
     reader: &mut Reader<'_>,
+    at: &mut usize,
     depth: usize,
 ) -> Result<Vec<Value>, Fault>
     ensures value { IfOk result
@@ -129,7 +133,7 @@ fn read_items(
 {
     let mut found = Vec::new(alloc);
     'items: while !reader.take_end_array() {
-        let item = read(alloc, hasher, reader, depth)?;
+        let item = read(alloc, hasher, reader, at, depth)?;
         found.push(item)?;
     }
     Ok(found)
@@ -141,6 +145,7 @@ fn read_members(
     alloc: Global,
     hasher: RandomState,
     reader: &mut Reader<'_>,
+    at: &mut usize,
     depth: usize,
 ) -> Result<Map, Fault>
     ensures value { IfOk result
@@ -152,13 +157,15 @@ fn read_members(
         ≡ None }
 {
     let mut found = Map::with_hasher(alloc, hasher);
+    *at = reader.offset();
     'members: while let Some(name) = reader.next_key()? {
         let key = String::from_str(alloc, name)?;
-        let member = read(alloc, hasher, reader, depth)?;
+        let member = read(alloc, hasher, reader, at, depth)?;
         match found.replace(key, member) {
             Ok(old) => drop(old),
             Err(_) => return Err(Fault::NoRoom),
         }
+        *at = reader.offset();
     }
     Ok(found)
 }
