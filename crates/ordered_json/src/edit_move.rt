@@ -51,6 +51,19 @@ impl Value {
 
     /// Moves the member at a pointer right behind another one of its object, as
     /// [`move_before`](Value::move_before) does before it.
+    ///
+    /// # Examples
+    ///
+    /// ```rust
+    /// use ordered_json::{from_str, to_string};
+    /// use std::hash::RandomState;
+    ///
+    /// let hasher = RandomState::new(&rt)?;
+    /// let mut boat = from_str(rt.alloc(), hasher, "{\"sail\": 7, \"sold\": null}")?;
+    /// boat.move_after("/sail", "sold", rt.alloc())?;
+    /// let text = to_string(rt.alloc(), &boat)?;
+    /// assert_eq!(rt; text.as_str(), "{\"sold\":null,\"sail\":7}");
+    /// ```
     pub fn move_after(&mut self, pointer: &str, other: &str, alloc: Global) -> Result<(), EditError>
         ensures document { OnOk result
             (move_at true pointer.now other.now (view self.old) ≡ Ok (view self.new)) }

@@ -45,6 +45,21 @@ impl Value {
 
     /// Lends the value at a pointer, if it is there, as [`pointer`](Value::pointer) returns it. The
     /// contract says what the value is, and not what the document is after a write to it.
+    ///
+    /// # Examples
+    ///
+    /// ```rust
+    /// use ordered_json::{Value, from_str, to_string};
+    /// use std::hash::RandomState;
+    ///
+    /// let hasher = RandomState::new(&rt)?;
+    /// let mut boat = from_str(rt.alloc(), hasher, "{\"sails\": [7, 2]}")?;
+    /// if let Some(sail) = boat.pointer_mut("/sails/0") {
+    ///     *sail = Value::Null;
+    /// }
+    /// let text = to_string(rt.alloc(), &boat)?;
+    /// assert_eq!(rt; text.as_str(), "{\"sails\":[null,2]}");
+    /// ```
     pub fn pointer_mut(&mut self, pointer: &str) -> Option<&mut Value>
         ensures { option_map (λ v. view v.now) result ≡ pointed pointer.now (view self.old) }
     {
