@@ -1,5 +1,6 @@
 -- What a change of the value at the end of names leaves.
-use Rattle.std.proofs.Common.{◌≡◌, ℕ, zero, suc, List, [], ◌∷◌, ◌++◌, Option, Some, None, option_and_then, is_some, unwrap_or, length, ◌<◌, ◌==◌, take, Ok, Err}
+use Rattle.std.proofs.Common.{◌≡◌, ℕ, zero, suc, List, [], ◌∷◌, ◌++◌, Option, Some, None, option_and_then, is_some, unwrap_or}
+use Rattle.std.proofs.Common.{length, ◌<◌, ◌==◌, take, Ok, Err}
 use Rattle.std.proofs.Common.{cond, Bool, true, false, refl, sym, ap, ◌∙◌, arith, length-append, eqb-true}
 use Rattle.std.proofs.Math.Seq.{take-append_seam}
 use Rattle.std.specs.Str.{bytes_eq}

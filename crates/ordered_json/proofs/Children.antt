@@ -1,5 +1,6 @@
 -- The members and items of a value beside what they stand for.
-use Rattle.std.proofs.Common.{◌≡◌, ℕ, zero, suc, ◌+◌, ◌*◌, ◌-◌, ◌^◌, ◌<◌, min, length, List, [], ◌∷◌, Option, Some, None, option_map, option_and_then}
+use Rattle.std.proofs.Common.{◌≡◌, ℕ, zero, suc, ◌+◌, ◌*◌, ◌-◌, ◌^◌, ◌<◌, min, length, List, [], ◌∷◌, Option, Some, None}
+use Rattle.std.proofs.Common.{option_map, option_and_then}
 use Rattle.std.proofs.Common.{cond, Bool, true, false, refl, sym, ap, ◌∙◌, arith, rules, String, nat_le}
 use Rattle.std.proofs.lemmas.Bool.{leb-true, leb-false}
 use Rattle.std.proofs.lemmas.Map.Keys.{IsDistinct-tail}
@@ -142,7 +143,8 @@ module _ (vs : List Value) (within : length vs < 2 ^ 64 - 1) where
         by_index (Some n) h =
             let at_is : at ≡ capped n = cc in
             let inside = slice_get_within vs at found there in
-            change_item-view f vs at found v there changed ∙ ap (λ k. change_item f k (items_view vs)) (omega (arith, at_is, inside, within))
+            change_item-view f vs at found v there changed ∙ ap (λ k. change_item f k (items_view vs)) (omega
+                  (arith, at_is, inside, within))
 
     pub items-kept : (f : Json → Json) → slice_get vs at ≡ None → change_items f index (items_view vs) ≡ items_view vs
     items-kept f none = by_index index is

@@ -1,5 +1,6 @@
 -- A pointer, a part at a time.
-use Rattle.std.proofs.Common.{◌≡◌, ◌≢◌, ℕ, zero, suc, ◌+◌, ◌*◌, ◌-◌, ◌<◌, ◌==◌, List, [], ◌∷◌, ◌++◌, length, get_or, Option, Some, None, option_map, option_and_then, cond}
+use Rattle.std.proofs.Common.{◌≡◌, ◌≢◌, ℕ, zero, suc, ◌+◌, ◌*◌, ◌-◌, ◌<◌, ◌==◌, List, [], ◌∷◌, ◌++◌, length, get_or, Option}
+use Rattle.std.proofs.Common.{Some, None, option_map, option_and_then, cond}
 use Rattle.std.proofs.Common.{Bool, true, false, refl, sym, ap, ◌∙◌, arith, append_assoc, append-nil, ne_eqb}
 use Rattle.std.specs.Char.{is_ascii_digit}
 use Rattle.std.specs.Cmp.Lexicographic.{bytes_decides, nat_list_eq_equiv}
@@ -52,13 +53,15 @@ unescape-plain (x ∷ xs) rest lacks =
     rw (ne_eqb x 126 (lacks 0 (omega arith)))
     (ap (option_map (λ name. x ∷ name)) (unescape-plain xs rest (λ i less. lacks (suc i) (omega arith))) ∙ by_rest (unescape rest))
   where
-    by_rest : (o : Option (List ℕ)) → option_map (λ name. x ∷ name) (option_map (λ more. xs ++ more) o) ≡ option_map (λ more. x ∷ (xs ++ more)) o
+    by_rest : (o : Option (List ℕ)) → option_map (λ name. x ∷ name) (option_map (λ more. xs ++ more) o) ≡ option_map (λ more. x ∷
+          (xs ++ more)) o
     by_rest None = refl
     by_rest (Some more) = refl
 
 -- a part up to its first `~`, with what was before it in front
 pub unescape-cut : (done plain after : List ℕ) → Lacks 126 plain
-    → option_map (λ more. done ++ more) (unescape (plain ++ 126 ∷ after)) ≡ option_map (λ more. (done ++ plain) ++ more) (unescape_tilde after)
+    → option_map (λ more. done ++ more) (unescape (plain ++ 126 ∷ after)) ≡ option_map (λ more. (done ++ plain) ++ more)
+          (unescape_tilde after)
 unescape-cut done plain after lacks =
     ap (option_map (λ more. done ++ more)) (unescape-plain plain (126 ∷ after) lacks) ∙ in_front_all done plain (unescape_tilde after)
 
@@ -71,7 +74,8 @@ unescape_tilde-none (x ∷ xs) tilde slash =
 -- what a pointer leads to, a part at a time
 pub get_at-names_cut : (part rest : List ℕ) (j : Json) → Lacks 47 part
     → option_and_then (λ path. get_at path j) (names_after [] (part ++ 47 ∷ rest))
-    ≡ option_and_then (λ k. option_and_then (λ path. get_at path k) (names_after [] rest)) (option_and_then (λ name. child name j) (unescape part))
+    ≡ option_and_then (λ k. option_and_then (λ path. get_at path k) (names_after [] rest)) (option_and_then (λ name. child name j)
+          (unescape part))
 get_at-names_cut part rest j lacks =
     ap (option_and_then (λ path. get_at path j)) (names_after-cut part rest lacks) ∙ by_name (unescape part) (names_after [] rest)
   where

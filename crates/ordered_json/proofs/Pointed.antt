@@ -1,5 +1,6 @@
 -- For callers: what pointers find after an edit.
-use Rattle.std.proofs.Common.{◌≡◌, ℕ, zero, suc, ◌==◌, List, [], ◌∷◌, ◌++◌, Option, Some, None, option_map, option_and_then, Ok, Err, ◌<◌, length}
+use Rattle.std.proofs.Common.{◌≡◌, ℕ, zero, suc, ◌==◌, List, [], ◌∷◌, ◌++◌, Option, Some, None, option_map, option_and_then, Ok}
+use Rattle.std.proofs.Common.{Err, ◌<◌, length}
 use Rattle.std.proofs.Common.{cond, Bool, true, false, ◌||◌, refl, sym, ap, ◌∙◌, arith}
 use Rattle.std.specs.Cmp.Lexicographic.{bytes_decides, nat_list_eq_equiv}
 use Rattle.std.proofs.lemmas.Bool.{eqb-false}
@@ -9,7 +10,8 @@ use Rattle.std.specs.Str.{bytes_eq}
 use Rattle.json.specs.Json.{Json, null, boolean, number, string, array, object, Items, no_items, item, Members, no_members, member}
 use Rattle.json.specs.Find.{get_item}
 use Rattle.ordered_json.specs.Edits.{Edited, edit_found, put_back, put_child, put_item, set_at}
-use Rattle.ordered_json.specs.Pointers.{names, index, child, find_member, get_at, pointed, change_at, change_child, change_member, change_item, change_items}
+use Rattle.ordered_json.specs.Pointers.{names, index, child, find_member, get_at, pointed, change_at, change_child}
+use Rattle.ordered_json.specs.Pointers.{change_member, change_item, change_items}
 use Rattle.ordered_json.specs.Read.{put}
 use Rattle.ordered_json.specs.declared.edit.EditError.TheVariants.{OutOfRange}
 use Rattle.ordered_json.proofs.Changes.{by_names-append, change_at-found, get_at-append, set_at-some}
@@ -39,7 +41,8 @@ child-change f name (array js) = by_index (index name)
     by_index (Some n) = get_item-change f n js
 child-change f name (object ms) = find_member-change f name ms
 
-pub get_at-change : (f : Json → Json) (path : List (List ℕ)) (j k : Json) → get_at path j ≡ Some k → get_at path (change_at f path j) ≡ Some (f k)
+pub get_at-change : (f : Json → Json) (path : List (List ℕ)) (j k : Json) → get_at path j ≡ Some k
+      → get_at path (change_at f path j) ≡ Some (f k)
 get_at-change f [] j k there = let same : j ≡ k = cc in ap (λ m. Some (f m)) same
 get_at-change f (name ∷ path) j k there =
     ap (option_and_then (get_at path)) (child-change (change_at f path) name j)
@@ -298,7 +301,8 @@ pub pointed-set_apart : (text other : List ℕ) (path more : List (List ℕ)) (n
     → lead_apart (path ++ name ∷ []) more ≡ true → set_at text u j ≡ Ok k → pointed other k ≡ pointed other j
 pointed-set_apart text other path more name u j k is more_is dash apart done =
     ap (option_and_then (λ p. get_at p k)) more_is
-    ∙ by_found (get_at path j) refl (sym (set_at-some text u j (some text path name is) ∙ by_names-append (put_child u) text path name j is) ∙ done)
+    ∙ by_found (get_at path j) refl (sym (set_at-some text u j (some text path name is)
+          ∙ by_names-append (put_child u) text path name j is) ∙ done)
     ∙ sym (ap (option_and_then (λ p. get_at p j)) more_is)
   where
     after : Json → Json

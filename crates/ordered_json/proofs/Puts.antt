@@ -1,5 +1,6 @@
 -- The items and members of a value that one is put into, or taken from.
-use Rattle.std.proofs.Common.{◌≡◌, ℕ, zero, suc, ◌-◌, ◌^◌, ◌<◌, ◌≤◌, length, List, [], ◌∷◌, ◌++◌, Option, Some, None, option_map, option_and_then}
+use Rattle.std.proofs.Common.{◌≡◌, ℕ, zero, suc, ◌-◌, ◌^◌, ◌<◌, ◌≤◌, length, List, [], ◌∷◌, ◌++◌, Option, Some, None}
+use Rattle.std.proofs.Common.{option_map, option_and_then}
 use Rattle.std.proofs.Common.{cond, Bool, true, false, refl, sym, ap, ◌∙◌, arith, nat_le}
 use Rattle.std.proofs.lemmas.Bool.{leb-true, leb-false}
 use Rattle.std.proofs.lemmas.Map.Keys.{IsDistinct-tail}
@@ -81,7 +82,8 @@ without_member-view (pair ∷ pairs) name v distinct there =
   where
     by_test : (b : Bool) → bytes_eq name (string_bytes pair.0) ≡ b
         → option_map (λ (p : Entry). p.1) (cond b (Some pair) (find is_text pairs name)) ≡ Some v
-        → (value_at is_text pairs name ≡ Some v → without_member name (members_view pairs) ≡ Some (members_view (without is_text pairs name)))
+        → (value_at is_text pairs name ≡ Some v → without_member name (members_view pairs) ≡ Some (members_view
+              (without is_text pairs name)))
         → without_member name (members_view (pair ∷ pairs)) ≡ Some (members_view (without is_text (pair ∷ pairs) name))
     by_test true same here rest =
         rw (same, without-absent is_text pairs name (find-behind pair pairs name distinct same)) refl

@@ -1,5 +1,6 @@
 -- What the edits by a pointer leave of a document, or why they refuse.
-use Rattle.std.specs.Prelude.{ℕ, zero, suc, Bool, true, false, cond, List, [], ◌∷◌, Option, Some, None, is_some, option_and_then, option_map, ok_or, unwrap_or, Result, Ok, Err}
+use Rattle.std.specs.Prelude.{ℕ, zero, suc, Bool, true, false, cond, List, [], ◌∷◌, Option, Some, None, is_some}
+use Rattle.std.specs.Prelude.{option_and_then, option_map, ok_or, unwrap_or, Result, Ok, Err}
 use Rattle.std.specs.Str.{bytes_eq}
 use Rattle.linked_hash_map.specs.Pairs.{last, without_last}
 use Rattle.json.specs.Json.{Json, array, object, Items, no_items, item, Members, no_members, member}

@@ -12,7 +12,8 @@ pub returns-clause-document : goal.returns-clause-document
 returns-clause-document c =
     let r = c.in_ok-name in let path = map string_bytes r.taken.path.items in let name = c.as_str.result.now in
     let is = r.ensures.names ∙ ap (λ n. Some (path ++ n ∷ [])) (sym c.as_str.ensures.value) in
-    on_ok_weaker c.move_in-done.result (edited-done (move_child c.args.behind c.args.other.now) c.args.pointer.now path name null (view c.args.target.now)
+    on_ok_weaker c.move_in-done.result (edited-done (move_child c.args.behind c.args.other.now) c.args.pointer.now path name null
+          (view c.args.target.now)
     (view c.take_parent.new.document) (view r.taken.parent) (view c.move_in-done.new.parent) (view c.put_back.new.document)
     is r.ensures.parent r.ensures.rest c.put_back.ensures) c.move_in-done.ensures.child
 
@@ -30,6 +31,7 @@ pub returns-clause-unchanged : goal.returns-clause-unchanged
 returns-clause-unchanged c =
     let r = c.in_ok-name in let path = map string_bytes r.taken.path.items in let name = c.as_str.result.now in
     let is = r.ensures.names ∙ ap (λ n. Some (path ++ n ∷ [])) (sym c.as_str.ensures.value) in
-    on_err_weaker c.move_in-done.result (edited-kept (move_child c.args.behind c.args.other.now) c.args.pointer.now path name null (view c.args.target.now)
+    on_err_weaker c.move_in-done.result (edited-kept (move_child c.args.behind c.args.other.now) c.args.pointer.now path name null
+          (view c.args.target.now)
     (view c.take_parent.new.document) (view r.taken.parent) (view c.move_in-done.new.parent) (view c.put_back.new.document)
     is r.ensures.parent r.ensures.rest c.put_back.ensures) c.move_in-done.ensures.unchanged

@@ -1,4 +1,5 @@
-use Rattle.std.proofs.Common.{◌≡◌, ◌∷◌, ◌<◌, ◌-◌, ◌^◌, min, Some, None, map, length, is_some, unwrap_or, option_and_then, option_map, refl, sym, ap, ap₂, ◌∙◌, arith}
+use Rattle.std.proofs.Common.{◌≡◌, ◌∷◌, ◌<◌, ◌-◌, ◌^◌, min, Some, None, map, length, is_some, unwrap_or, option_and_then}
+use Rattle.std.proofs.Common.{option_map, refl, sym, ap, ap₂, ◌∙◌, arith}
 use Rattle.std.proofs.lemmas.Option.{slice_get_read, slice_get_past}
 use Rattle.std.specs.String.{string_bytes}
 use Rattle.std.specs.List.{slice_get}
@@ -6,7 +7,8 @@ use Rattle.json.specs.Json.{array, object}
 use Rattle.ordered_json.specs.Pointers.{change_at, find_member, get_at, index}
 use Rattle.ordered_json.specs.View.{members_view, view}
 use Rattle.ordered_json.proofs.Views.{view-Object}
-use Rattle.ordered_json.proofs.Children.{Map, find_member-view, change_member-view, change_member-own, item-found, items-changed, items-kept}
+use Rattle.ordered_json.proofs.Children.{Map, find_member-view, change_member-view, change_member-own, item-found}
+use Rattle.ordered_json.proofs.Children.{items-changed, items-kept}
 use Rattle.ordered_json.proofs.pointer.+swap.Goals as goal
 
 pub swap_at-returns-in-Object-clause-there : goal.swap_at-returns-in-Object-clause-there
