@@ -144,7 +144,7 @@ module _ (vs : List Value) (within : length vs < 2 ^ 64 - 1) where
             let at_is : at ≡ capped n = cc in
             let inside = slice_get_within vs at found there in
             change_item-view f vs at found v there changed ∙ ap (λ k. change_item f k (items_view vs)) (omega
-                  (arith, at_is, inside, within))
+            (arith, at_is, inside, within))
 
     pub items-kept : (f : Json → Json) → slice_get vs at ≡ None → change_items f index (items_view vs) ≡ items_view vs
     items-kept f none = by_index index is

@@ -115,7 +115,7 @@ module _ (behind : Bool) (pairs : List Entry) (name other : List ℕ) where
           by_views (Some (view e.1)) true (find_member-view pairs name ∙ ap (option_map view) value_is) (is_some-view pairs other ∙ is)
           ∙ ap (λ b. Ok (object (cond b now (put_beside behind name (view e.1) other (unwrap_or (without_member name now) now))))) apart
           ∙ ap (λ o. Ok (object (put_beside behind name (view e.1) other (unwrap_or o now))))
-                (without_member-view pairs name e.1 distinct value_is)
+          (without_member-view pairs name e.1 distinct value_is)
           ∙ ap (λ n. Ok (object (put_beside behind n (view e.1) other (members_view (without is_text pairs name))))) name_is
           ∙ ap (λ ms. Ok (object ms)) (sym (placed-beside name other e apart behind pairs found is))
           ∙ ap (λ ps. Ok (object (members_view ps))) (sym after_is)

@@ -54,14 +54,14 @@ unescape-plain (x ∷ xs) rest lacks =
     (ap (option_map (λ name. x ∷ name)) (unescape-plain xs rest (λ i less. lacks (suc i) (omega arith))) ∙ by_rest (unescape rest))
   where
     by_rest : (o : Option (List ℕ)) → option_map (λ name. x ∷ name) (option_map (λ more. xs ++ more) o) ≡ option_map (λ more. x ∷
-          (xs ++ more)) o
+        (xs ++ more)) o
     by_rest None = refl
     by_rest (Some more) = refl
 
 -- a part up to its first `~`, with what was before it in front
 pub unescape-cut : (done plain after : List ℕ) → Lacks 126 plain
     → option_map (λ more. done ++ more) (unescape (plain ++ 126 ∷ after)) ≡ option_map (λ more. (done ++ plain) ++ more)
-          (unescape_tilde after)
+    (unescape_tilde after)
 unescape-cut done plain after lacks =
     ap (option_map (λ more. done ++ more)) (unescape-plain plain (126 ∷ after) lacks) ∙ in_front_all done plain (unescape_tilde after)
 
@@ -75,7 +75,7 @@ unescape_tilde-none (x ∷ xs) tilde slash =
 pub get_at-names_cut : (part rest : List ℕ) (j : Json) → Lacks 47 part
     → option_and_then (λ path. get_at path j) (names_after [] (part ++ 47 ∷ rest))
     ≡ option_and_then (λ k. option_and_then (λ path. get_at path k) (names_after [] rest)) (option_and_then (λ name. child name j)
-          (unescape part))
+    (unescape part))
 get_at-names_cut part rest j lacks =
     ap (option_and_then (λ path. get_at path j)) (names_after-cut part rest lacks) ∙ by_name (unescape part) (names_after [] rest)
   where

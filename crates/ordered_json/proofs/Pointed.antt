@@ -42,7 +42,7 @@ child-change f name (array js) = by_index (index name)
 child-change f name (object ms) = find_member-change f name ms
 
 pub get_at-change : (f : Json → Json) (path : List (List ℕ)) (j k : Json) → get_at path j ≡ Some k
-      → get_at path (change_at f path j) ≡ Some (f k)
+    → get_at path (change_at f path j) ≡ Some (f k)
 get_at-change f [] j k there = let same : j ≡ k = cc in ap (λ m. Some (f m)) same
 get_at-change f (name ∷ path) j k there =
     ap (option_and_then (get_at path)) (child-change (change_at f path) name j)
@@ -302,7 +302,7 @@ pub pointed-set_apart : (text other : List ℕ) (path more : List (List ℕ)) (n
 pointed-set_apart text other path more name u j k is more_is dash apart done =
     ap (option_and_then (λ p. get_at p k)) more_is
     ∙ by_found (get_at path j) refl (sym (set_at-some text u j (some text path name is)
-          ∙ by_names-append (put_child u) text path name j is) ∙ done)
+    ∙ by_names-append (put_child u) text path name j is) ∙ done)
     ∙ sym (ap (option_and_then (λ p. get_at p j)) more_is)
   where
     after : Json → Json

@@ -83,7 +83,7 @@ without_member-view (pair ∷ pairs) name v distinct there =
     by_test : (b : Bool) → bytes_eq name (string_bytes pair.0) ≡ b
         → option_map (λ (p : Entry). p.1) (cond b (Some pair) (find is_text pairs name)) ≡ Some v
         → (value_at is_text pairs name ≡ Some v → without_member name (members_view pairs) ≡ Some (members_view
-              (without is_text pairs name)))
+        (without is_text pairs name)))
         → without_member name (members_view (pair ∷ pairs)) ≡ Some (members_view (without is_text (pair ∷ pairs) name))
     by_test true same here rest =
         rw (same, without-absent is_text pairs name (find-behind pair pairs name distinct same)) refl

@@ -20,7 +20,7 @@ use Rattle.ordered_json.proofs.Children.{find_member-view, find-behind}
 use Rattle.ordered_json.proofs.Views.{Entry}
 
 pub is_some-view : (pairs : List Entry) (name : List ℕ) → is_some (find_member name (members_view pairs)) ≡ is_some
-      (find is_text pairs name)
+    (find is_text pairs name)
 is_some-view pairs name = ap is_some (find_member-view pairs name) ∙ by_found (find is_text pairs name)
   where
     by_found : (o : Option Entry) → is_some (option_map view (option_map (λ (p : Entry). p.1) o)) ≡ is_some o
@@ -136,13 +136,13 @@ module _ (key : String Global) (w : Value) (from : List ℕ) where
         by_test rest true old is false new none =
             let v_is : p.1 ≡ v = cc in
             let gone = find_member-view ps from ∙ ap (λ o. option_map view (option_map (λ q. q.1) o))
-                  (find-behind p ps from distinct old) in
+            (find-behind p ps from distinct old) in
             rw (nat_list_eq_equiv.refl (string_bytes key), set_value-none is_text ps (string_bytes key) v none, v_is)
             (ap (member (string_bytes key) (view v)) (sym (rename_member-absent (string_bytes key) from (members_view ps) gone)))
         by_test rest false old is false new none = rw new (ap (member (string_bytes p.0) (view p.1)) (rest none is))
 
     find-pushed : (pairs : List Entry) → is_some (find is_text pairs from) ≡ true
-          → is_some (find is_text (pairs ++ (key, w) ∷ []) from) ≡ true
+        → is_some (find is_text (pairs ++ (key, w) ∷ []) from) ≡ true
     find-pushed [] there = absurd (cc)
     find-pushed (p ∷ ps) there = by_test (find-pushed ps) (is_text from p.0) there
       where

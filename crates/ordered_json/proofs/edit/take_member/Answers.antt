@@ -15,7 +15,7 @@ pub returns-in-Some-clause-rest : goal.returns-in-Some-clause-rest
 returns-in-Some-clause-rest c =
     ap (λ o. ok_or (option_map object o) Absent)
     (without_member-view c.args.members.now.pairs c.args.name.now c.in-Some.value c.remove.ensures.valid.distinct
-          (sym c.in-Some.ensures.value)
+    (sym c.in-Some.ensures.value)
     ∙ ap (λ ps. Some (members_view ps)) (sym c.remove.ensures.pairs))
 
 pub returns-in-None-clause-why : goal.returns-in-None-clause-why

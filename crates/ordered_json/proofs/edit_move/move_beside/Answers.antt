@@ -13,7 +13,7 @@ returns-clause-document c =
     let r = c.in_ok-name in let path = map string_bytes r.taken.path.items in let name = c.as_str.result.now in
     let is = r.ensures.names ∙ ap (λ n. Some (path ++ n ∷ [])) (sym c.as_str.ensures.value) in
     on_ok_weaker c.move_in-done.result (edited-done (move_child c.args.behind c.args.other.now) c.args.pointer.now path name null
-          (view c.args.target.now)
+    (view c.args.target.now)
     (view c.take_parent.new.document) (view r.taken.parent) (view c.move_in-done.new.parent) (view c.put_back.new.document)
     is r.ensures.parent r.ensures.rest c.put_back.ensures) c.move_in-done.ensures.child
 
@@ -32,6 +32,6 @@ returns-clause-unchanged c =
     let r = c.in_ok-name in let path = map string_bytes r.taken.path.items in let name = c.as_str.result.now in
     let is = r.ensures.names ∙ ap (λ n. Some (path ++ n ∷ [])) (sym c.as_str.ensures.value) in
     on_err_weaker c.move_in-done.result (edited-kept (move_child c.args.behind c.args.other.now) c.args.pointer.now path name null
-          (view c.args.target.now)
+    (view c.args.target.now)
     (view c.take_parent.new.document) (view r.taken.parent) (view c.move_in-done.new.parent) (view c.put_back.new.document)
     is r.ensures.parent r.ensures.rest c.put_back.ensures) c.move_in-done.ensures.unchanged

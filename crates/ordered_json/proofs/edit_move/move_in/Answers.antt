@@ -15,7 +15,7 @@ returns-in-Object-clause-child c =
     ∙ ap (λ (m : Map). object (members_view m.pairs)) (sym c.deref_mut.ensures.value) in
     on_ok_weaker c.move_member-done.result
     (λ is. ap (move_child c.args.behind c.args.other.now c.args.name.now) parent_is ∙ is
-          ∙ ap Ok (sym (view-Object _))) c.move_member-done.ensures.child
+    ∙ ap Ok (sym (view-Object _))) c.move_member-done.ensures.child
 
 pub returns-in-Object-clause-why : goal.returns-in-Object-clause-why
 returns-in-Object-clause-why c =
@@ -24,7 +24,7 @@ returns-in-Object-clause-why c =
     ∙ ap (λ (m : Map). object (members_view m.pairs)) (sym c.deref_mut.ensures.value) in
     IfErr-weaker c.move_member-done.result
     (λ (e : EditError). move_child c.args.behind c.args.other.now c.args.name.now (object
-          (members_view c.deref_mut.result.now.pairs)) ≡ Err e)
+    (members_view c.deref_mut.result.now.pairs)) ≡ Err e)
     (λ (e : EditError). move_child c.args.behind c.args.other.now c.args.name.now (view c.args.parent.now) ≡ Err e)
     (λ e is. ap (move_child c.args.behind c.args.other.now c.args.name.now) parent_is ∙ is) c.move_member-done.ensures.why
 

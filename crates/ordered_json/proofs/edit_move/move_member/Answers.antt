@@ -7,7 +7,7 @@ use Rattle.ordered_json.proofs.edit_move.move_member.Goals as goal
 pub returns-then-contains_key-clause-child : goal.returns-then-contains_key-clause-child
 returns-then-contains_key-clause-child c =
     move_child-own c.args.behind c.args.members.now.pairs c.args.name.now c.args.other.now (sym c.if-eq.ensures)
-          (sym c.if-contains_key.ensures)
+    (sym c.if-contains_key.ensures)
 
 pub returns-then-eq-clause-why : goal.returns-then-eq-clause-why
 returns-then-eq-clause-why c =

@@ -24,7 +24,7 @@ returns-in-Object-clause-why c =
     ∙ ap (λ (m : Map). object (members_view m.pairs)) (sym c.deref_mut.ensures.value) in
     IfErr-weaker c.rename_member-done.result
     (λ (e : EditError). e ≢ NoRoom → rename_child c.args.to.now c.args.name.now (object
-          (members_view c.deref_mut.result.now.pairs)) ≡ Err e)
+    (members_view c.deref_mut.result.now.pairs)) ≡ Err e)
     (λ (e : EditError). e ≢ NoRoom → rename_child c.args.to.now c.args.name.now (view c.args.parent.now) ≡ Err e)
     (λ e is other. ap (rename_child c.args.to.now c.args.name.now) parent_is ∙ is other) c.rename_member-done.ensures.why
 

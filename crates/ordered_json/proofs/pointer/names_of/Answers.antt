@@ -15,9 +15,9 @@ returns-in_default-clause-none c = λ _.
 pub returns-in_err-unescaped-clause-none : goal.returns-in_err-unescaped-clause-none
 returns-in_err-unescaped-clause-none c = λ is.
     let cut = rw c.in-Some-split_once.is at (split_parts 47 c.parts.rest.now c.split_once.result c.split_once.ensures.cases
-          (omega arith)) in
+    (omega arith)) in
     let before = map string_bytes c.parts.found.items in let part = c.in-Some-split_once.part.now in let more =
-          c.in-Some-split_once.more.now in
+    c.in-Some-split_once.more.now in
     let none : unescape part ≡ None = c.unescaped.ensures.none (grind (arith, is)) in
     c.parts.invariant.0 ∙ ap (λ s. option_map (λ m. before ++ m) (names_after [] s)) cut.0
     ∙ ap (option_map (λ m. before ++ m)) (names_after-cut part more cut.1
@@ -26,9 +26,9 @@ returns-in_err-unescaped-clause-none c = λ is.
 pub parts-preserved : goal.parts-preserved
 parts-preserved c =
     let cut = rw c.in-Some-split_once.is at (split_parts 47 c.parts.rest.now c.split_once.result c.split_once.ensures.cases
-          (omega arith)) in
+    (omega arith)) in
     let before = map string_bytes c.parts.found.items in let part = c.in-Some-split_once.part.now in let more =
-          c.in-Some-split_once.more.now in
+    c.in-Some-split_once.more.now in
     let name = c.in_ok-unescaped.field-0 in
     let all : map string_bytes c.push.new.self.items ≡ before ++ string_bytes name ∷ [] =
     ap (map string_bytes) c.in_ok-push.ensures.items ∙ map-append string_bytes c.parts.found.items (name ∷ []) in (
@@ -43,7 +43,7 @@ parts-preserved c =
 pub returns-in_err-unescaped-2-clause-none : goal.returns-in_err-unescaped-2-clause-none
 returns-in_err-unescaped-2-clause-none c = λ is.
     let lacks = rw c.in_default-split_once.is at (split_parts 47 c.parts.rest.now c.split_once.result c.split_once.ensures.cases
-          (omega arith)) in
+    (omega arith)) in
     let before = map string_bytes c.parts.found.items in let rest = c.parts.rest.now in
     let none : unescape rest ≡ None = c.unescaped-2.ensures.none (grind (arith, is)) in
     c.parts.invariant.0
@@ -52,7 +52,7 @@ returns-in_err-unescaped-2-clause-none c = λ is.
 pub returns-clause-names : goal.returns-clause-names
 returns-clause-names c =
     let lacks = rw c.in_default-split_once.is at (split_parts 47 c.parts.rest.now c.split_once.result c.split_once.ensures.cases
-          (omega arith)) in
+    (omega arith)) in
     let before = map string_bytes c.parts.found.items in let rest = c.parts.rest.now in
     let name = c.in_ok-unescaped-2.field-0 in
     let all : map string_bytes c.push-2.new.self.items ≡ before ++ string_bytes name ∷ [] =

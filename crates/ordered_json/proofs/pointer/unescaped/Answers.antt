@@ -9,7 +9,7 @@ unfolding lib.Utf8.encode
 parts-preserved-in-Some-strip_prefix c =
     let cut = rw c.in-Some.is at (split_parts 126 c.parts.rest.now c.split_once.result c.split_once.ensures.cases (omega arith)) in
     let zero = rw c.in-Some-strip_prefix.is at (strip_prefix_char 48 c.in-Some.after.now c.strip_prefix.result
-          c.strip_prefix.ensures.cases (omega arith)) in
+    c.strip_prefix.ensures.cases (omega arith)) in
     let name = string_bytes c.parts.name in let plain = c.in-Some.plain.now in let more = c.in-Some-strip_prefix.more.now in
     let bytes : string_bytes c.push.new.self ≡ (name ++ plain) ++ 126 ∷ [] =
     c.in_ok-push.ensures.bytes ∙ ap (λ b. b ++ 126 ∷ []) c.in_ok-push_str.ensures.bytes in (
@@ -39,7 +39,7 @@ returns-in_default-strip_prefix-2-clause-none c = λ _.
     let cut = rw c.in-Some.is at (split_parts 126 c.parts.rest.now c.split_once.result c.split_once.ensures.cases (omega arith)) in
     let name = string_bytes c.parts.name in let plain = c.in-Some.plain.now in
     let zero = rw c.in_default-strip_prefix.is at (strip_prefix_char 48 c.in-Some.after.now c.strip_prefix.result
-          c.strip_prefix.ensures.cases (omega arith)) in
+    c.strip_prefix.ensures.cases (omega arith)) in
     let one = rw c.in_default-strip_prefix-2.is at (strip_prefix_char 49 c.in-Some.after.now c.strip_prefix-in_default-strip_prefix.result
     c.strip_prefix-in_default-strip_prefix.ensures.cases (omega arith)) in
     c.parts.invariant.0 ∙ ap (λ s. option_map (λ m. name ++ m) (unescape s)) cut.0
@@ -52,5 +52,5 @@ returns-clause-name c =
     let rest = c.parts.rest.now in
     c.parts.invariant.0
     ∙ ap (option_map (λ m. string_bytes c.parts.name ++ m)) (ap unescape (sym (append-nil rest)) ∙ unescape-plain rest [] lacks
-          ∙ ap Some (append-nil rest))
+    ∙ ap Some (append-nil rest))
     ∙ ap Some (sym c.in_ok-push_str-2.ensures.bytes)

@@ -34,7 +34,7 @@ returns-clause-why c =
     (λ (e : NotSet). e.error ≢ NoRoom → put_child u (string_bytes r.0) (view r.1.parent) ≡ Err e.error)
     (λ (e : NotSet). e.error ≢ NoRoom → set_at text u old ≡ Err e.error)
     (λ e is other. set_at-some text u old some ∙ edited-refused (put_child u) text (map string_bytes r.1.path.items)
-          (string_bytes r.0) null old
+    (string_bytes r.0) null old
     (view c.take_parent.new.document) (view r.1.parent) (view c.put_in-done.new.parent) (view c.put_back.new.document)
     c.in-Ok.ensures.names c.in-Ok.ensures.parent c.in-Ok.ensures.rest c.put_back.ensures e.error (is other)) c.put_in-done.ensures.why
 
@@ -43,6 +43,6 @@ returns-clause-unchanged c =
     let r = c.in-Ok.found in
     on_err_weaker c.put_in-done.result
     (edited-kept (put_child (view c.args.value)) c.args.pointer.now (map string_bytes r.1.path.items) (string_bytes r.0) null
-          (view c.args.self.now)
+    (view c.args.self.now)
     (view c.take_parent.new.document) (view r.1.parent) (view c.put_in-done.new.parent) (view c.put_back.new.document)
     c.in-Ok.ensures.names c.in-Ok.ensures.parent c.in-Ok.ensures.rest c.put_back.ensures) c.put_in-done.ensures.unchanged
