@@ -144,7 +144,7 @@ judge_part gate '^rt: ok; handles allowed: none'
 show_part wrong-bodies-self-test '^wrong-bodies passes good files, and fails on each of [1-9]'
 end_if_failed
 run_part wrong-bodies-gate scripts/wrong-bodies --file gate
-crates='dedup_lines lhm_commands linked_hash_map linked_hash_set lru_cache ordered_json'
+crates='dedup_lines lhm_commands linked_hash_map linked_hash_set lru_cache'
 show_part wrong-bodies-gate "^wrong-bodies: [2-9][0-9] refused by their clause, .* of $crates; "
 end_if_failed
 show_table
