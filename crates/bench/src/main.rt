@@ -16,6 +16,7 @@ mod changes;
 mod documents;
 mod maps;
 mod moves;
+mod nested;
 mod order;
 mod products;
 mod small;

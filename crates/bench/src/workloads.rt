@@ -11,6 +11,7 @@ use super::maps::{
     write_all,
 };
 use super::moves::{ends, fall, iter_from, move_beside, sort, sort_cached, unsort};
+use super::nested;
 use super::order::Order;
 use super::products::{
     Cache, CacheMap, Set, SetMap, cache_hit, cache_map_hit, fill_cache, fill_cache_map, fill_set,
@@ -78,6 +79,8 @@ pub enum Workload {
     SortCached,
     /// Sorts pairs whose keys fall.
     SortFalling,
+    /// Sorts pairs that are sorted.
+    SortSorted,
     /// Inserts each of as many absent keys at the front, rotates the pairs and removes it.
     Ends,
     /// Fills a new map by its entries, and drops it.
@@ -116,6 +119,11 @@ pub enum Workload {
     DocumentWithCapacity,
     /// Makes documents, and looks up the fields of each and drops it before the next.
     DocumentCycle,
+    /// Makes documents of three texts and an object of three more, `n` texts in all, and drops each
+    /// before the next.
+    NestedBuild,
+    /// Looks up each field of each such document.
+    NestedRead,
     /// Makes each call that no other workload makes, on a new map, cache and table of sessions.
     OtherCalls,
 }
@@ -132,6 +140,7 @@ pub struct Held {
     counts: Counts,
     text_map: TextMap,
     documents: Vec<Document>,
+    nested: Vec<nested::Object>,
     // What the next round inserts or looks up, whatever of the others is empty.
     texts: Vec<String>,
 }
@@ -149,6 +158,7 @@ impl Held {
             counts: LinkedHashMap::new(alloc),
             text_map: LinkedHashMap::new(alloc),
             documents: Vec::new(alloc),
+            nested: Vec::new(alloc),
             texts: Vec::new(alloc),
         }
     }
@@ -193,6 +203,10 @@ impl Held {
                 self.text_map = LinkedHashMap::new(alloc);
                 self.documents = documents(alloc, self.texts.as_slice())?;
             }
+            Workload::DocumentCycle => self.documents = Vec::new(alloc),
+            Workload::NestedBuild => {
+                self.nested = nested::documents(alloc, self.texts.as_slice())?;
+            }
             _ => {}
         }
         Ok(())
@@ -201,7 +215,7 @@ impl Held {
 
 impl Workload {
     /// All workloads, in the order in which they are timed, each with the word that names it.
-    pub const ALL: [(Workload, &'static str); 48] = [
+    pub const ALL: [(Workload, &'static str); 51] = [
         (Workload::SmallFill, "small_fill"),
         (Workload::SmallLookup, "small_lookup"),
         (Workload::SmallIterate, "small_iterate"),
@@ -230,6 +244,7 @@ impl Workload {
         (Workload::Sort, "sort"),
         (Workload::SortCached, "sort_cached"),
         (Workload::SortFalling, "sort_falling"),
+        (Workload::SortSorted, "sort_sorted"),
         (Workload::Ends, "ends"),
         (Workload::EntryNew, "entry_new"),
         (Workload::EntryPresent, "entry_present"),
@@ -249,6 +264,8 @@ impl Workload {
         (Workload::DocumentDrop, "document_drop"),
         (Workload::DocumentWithCapacity, "document_with_capacity"),
         (Workload::DocumentCycle, "document_cycle"),
+        (Workload::NestedBuild, "nested_build"),
+        (Workload::NestedRead, "nested_read"),
         (Workload::OtherCalls, "other_calls"),
     ];
 
@@ -322,15 +339,10 @@ impl Workload {
     /// Tells whether a round takes texts of its own.
     fn takes_texts(self) -> bool {
         match self {
-            Workload::TextInsert => true,
-            Workload::TextHit => true,
-            Workload::TextMiss => true,
-            Workload::TextRefresh => true,
-            Workload::TextPresent => true,
-            Workload::TextReinsert => true,
-            Workload::DocumentBuild => true,
-            Workload::DocumentWithCapacity => true,
-            Workload::DocumentCycle => true,
+            Workload::TextInsert | Workload::TextHit | Workload::TextMiss => true,
+            Workload::TextRefresh | Workload::TextPresent | Workload::TextReinsert => true,
+            Workload::DocumentBuild | Workload::DocumentWithCapacity => true,
+            Workload::DocumentCycle | Workload::NestedBuild => true,
             _ => false,
         }
     }
@@ -345,12 +357,10 @@ impl Workload {
         requires { 0 < n }
     {
         match self {
-            Workload::TextInsert => texts_from(alloc, order.start(), n),
             Workload::TextMiss => texts_from(alloc, order.start().wrapping_add(n), n),
-            Workload::DocumentBuild => texts_from(alloc, order.start(), n),
-            Workload::DocumentWithCapacity => texts_from(alloc, order.start(), n),
-            Workload::DocumentCycle => texts_from(alloc, order.start(), n),
-            _ => draw_texts(alloc, order, n),
+            Workload::TextHit | Workload::TextRefresh => draw_texts(alloc, order, n),
+            Workload::TextPresent | Workload::TextReinsert => draw_texts(alloc, order, n),
+            _ => texts_from(alloc, order.start(), n),
         }
     }
 
@@ -396,9 +406,10 @@ impl Workload {
             Workload::SetIterateByMap => Ok(set_map_iterate(&held.set_map)),
             Workload::MoveBeside => Ok(move_beside(&mut held.map, order, n)),
             Workload::IterFrom => Ok(iter_from(&held.map, order, n)),
-            Workload::Sort => Ok(sort(&mut held.map)),
+            Workload::Sort | Workload::SortFalling | Workload::SortSorted => {
+                Ok(sort(&mut held.map))
+            }
             Workload::SortCached => sort_cached(&mut held.map),
-            Workload::SortFalling => Ok(sort(&mut held.map)),
             Workload::Ends => ends(&mut held.map, n),
             Workload::EntryNew => Ok(entry_new(alloc, order.start(), n)?.len() as u64),
             Workload::EntryPresent => entry_present(&mut held.counts, order, n),
@@ -433,6 +444,8 @@ impl Workload {
                 Ok(held.documents.len() as u64)
             }
             Workload::DocumentCycle => documents::cycle(alloc, held.texts.as_slice()),
+            Workload::NestedBuild => nested::build(alloc, held.texts.as_slice()),
+            Workload::NestedRead => Ok(nested::read(held.nested.as_slice())),
             Workload::OtherCalls => other_calls(alloc, n),
         }
     }

@@ -12,7 +12,7 @@ pub use Rattle.lhm_ring.specs.Buckets.{leads_to, made_fitted, made_raised, may_c
 pub use Rattle.lhm_ring.specs.Buckets.{rechained_raised}
 pub use Rattle.lhm_ring.specs.ContentLoan.{Bodies, HasBody, bodies, bodies_of, borrows_bodies, cleared, firsts, seconds, with_bodies}
 pub use Rattle.lhm_ring.specs.Drain.{HasRow, IsRow, SameButLinks, SparesRow, StartsAt, onto, triple_of}
-pub use Rattle.lhm_ring.specs.Index.{ChangesLinks, CoversAll, HasChain, HasChains, HoldsOthers, Indexes, IsChain, IsIndexed, IsLast}
+pub use Rattle.lhm_ring.specs.Index.{ChangesLinks, HasChain, HasChains, HoldsOthers, Indexes, IsChain, IsIndexed, IsLast}
 pub use Rattle.lhm_ring.specs.Index.{IsOnChain, IsPutFirst, IsRearranged, OfNodeAt, PutsFirst, PutsIn, Spot, count_in_bucket}
 pub use Rattle.lhm_ring.specs.Index.{count_with_hash, entries, is_in, spot, spots}
 pub use Rattle.lhm_ring.specs.{Iter.held_left, Iter.loan_name, Ring.unvalued}
@@ -103,6 +103,7 @@ pub use types.Kit.{pick, prop, qed, raw, rewrite, runs, show, some, split, split
 pub use types.Run.{addr, align_word, and_then, assigns, assigns_last, bin, blocks, enter, exec, first, fld, init, lit, load, look, no_more}
 pub use types.Run.{of_opd, returns, size_lit, size_word, stop, store, switches_on, unit_lit}
 unfoldable pub use Rattle.lhm_ring.specs.{Buckets.buckets, Sort.IsAscending, ValueLoan.value_at, ValueLoan.without_value}
+unfoldable pub use Rattle.lhm_ring.specs.Index.{CoversAll}
 unfoldable pub use Rattle.lhm_ring.specs.ContentLoan.{body_in, without_body}
 unfoldable pub use Rattle.lhm_ring.specs.Links.{IsStacked, follow, listed, place_count, pointers_from}
 unfoldable pub use Rattle.lhm_ring.specs.Nodes.{cell_at, change, places, row}

@@ -5,6 +5,5 @@ pub mod LinkRows
 pub mod Options
 pub mod Rearranged
 pub mod RearrangedCounts
-pub mod RearrangedFilters
 pub mod Results
 pub mod Splits

@@ -27,7 +27,7 @@ pub mod Lookups
 pub mod Merges
 pub mod Merging
 pub mod Moves
-pub mod MovingVisits
+pub mod NumberKeys
 pub mod NumberRules
 pub mod Pages
 pub mod Permuted

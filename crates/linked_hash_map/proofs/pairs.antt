@@ -7,7 +7,6 @@ pub mod ExtendSteps
 pub mod Indexes
 pub mod Inserts
 pub mod IteratorLaws
-pub mod NextPair
 pub mod OccupiedEntries
 pub mod Places
 pub mod RehashCounts

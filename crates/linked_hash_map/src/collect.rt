@@ -37,6 +37,7 @@ impl<K: Eq + Hash, V, S: BuildHasher> LinkedHashMap<K, V, S> {
         I::IntoIter: Drop,
         requires ends { IsFiniteIterable I.into_iter_gives I.IntoIter.can_next
             I.IntoIter.remaining items }
+        // On success all pairs are inserted, in order.
         ensures all { OnOk result
             (InsertsAll I.into_iter_gives I.IntoIter.next_gives items K.eq (λ pair. pair)
             self.old.mode self.old.pairs self.new.pairs) }
@@ -53,6 +54,7 @@ impl<K: Eq + Hash, V, S: BuildHasher> LinkedHashMap<K, V, S> {
         ensures valid { IsValid K.eq self.old }
         ensures stays_valid { IsValid K.eq self.new }
 
+        // On failure the pair comes back that was refused, and those before it are inserted.
         ensures visit_stopped { IfErr result (λ refused.
             (inserts : InsertsUntil I.into_iter_gives I.IntoIter.next_gives items K.eq (λ pair. pair)
             self.old.mode self.old.pairs self.new.pairs refused.key refused.value)
@@ -62,7 +64,7 @@ impl<K: Eq + Hash, V, S: BuildHasher> LinkedHashMap<K, V, S> {
             self.old.mode self.old.pairs self.new.pairs refused.key refused.value) }
         ensures absent { IfErr result (λ refused. find K.eq self.new.pairs refused.key ≡ None) }
         ensures full { OnErr result (length self.new.pairs ≡ self.new.capacity) }
-        // Consequences of `stopped`, `absent` and `full`, for the proofs of callers.
+        // Its key is new. Nothing fails if there is room for all.
         ensures new_key { IfErr result (λ refused. find K.eq self.old.pairs refused.key ≡ None) }
         ensures succeeds { (n : ℕ) → GivesAtMost I.into_iter_gives I.IntoIter.remaining items n
             → length self.old.pairs + n ≤ self.old.capacity → IsOk result }
@@ -98,6 +100,7 @@ impl<K: Eq + Hash, V, S: BuildHasher> LinkedHashMap<K, V, S> {
         I::IntoIter: Drop,
         requires ends { IsFiniteIterable I.into_iter_gives I.IntoIter.can_next
             I.IntoIter.remaining items }
+        // On success all pairs are inserted, in order.
         ensures all { OnOk result
             (InsertsAll I.into_iter_gives I.IntoIter.next_gives items K.eq deref_pair self.old.mode
             self.old.pairs self.new.pairs) }
@@ -114,6 +117,7 @@ impl<K: Eq + Hash, V, S: BuildHasher> LinkedHashMap<K, V, S> {
         ensures valid { IsValid K.eq self.old }
         ensures stays_valid { IsValid K.eq self.new }
 
+        // On failure the pair comes back that was refused, and those before it are inserted.
         ensures visit_stopped { IfErr result (λ refused.
             (inserts : InsertsUntil I.into_iter_gives I.IntoIter.next_gives items K.eq deref_pair
             self.old.mode self.old.pairs self.new.pairs refused.key refused.value)
@@ -123,7 +127,7 @@ impl<K: Eq + Hash, V, S: BuildHasher> LinkedHashMap<K, V, S> {
             self.old.pairs self.new.pairs refused.key refused.value) }
         ensures absent { IfErr result (λ refused. find K.eq self.new.pairs refused.key ≡ None) }
         ensures full { OnErr result (length self.new.pairs ≡ self.new.capacity) }
-        // Consequences of `stopped`, `absent` and `full`, for the proofs of callers.
+        // Its key is new. Nothing fails if there is room for all.
         ensures new_key { IfErr result (λ refused. find K.eq self.old.pairs refused.key ≡ None) }
         ensures succeeds { (n : ℕ) → GivesAtMost I.into_iter_gives I.IntoIter.remaining items n
             → length self.old.pairs + n ≤ self.old.capacity → IsOk result }

@@ -1,4 +1,7 @@
-//! The map: its type, length, capacity, hasher and mode.
+//! The map: its type, length, capacity, hasher and mode. A clause sees it as its `pairs`, front to
+//! back, its `capacity`, `hasher`, `mode` and `rechained`, and what is left `to_visit`, in the words
+//! of `specs/Pairs.antt`. `IsValid` holds of every map. By `Keeps` all but pairs and visit stays, by
+//! `KeepsSettings` hasher and mode.
 #![tactic(auto, using(crate::proofs::nodes::HeldPairs::bare_nodes))]
 
 ghost use Rattle.std.specs.Prelude.{◌≡◌, ◌==◌, ◌≤◌, [], length};

@@ -353,7 +353,7 @@ impl<T> Sessions<T> {
         ensures capacity { self.new.capacity ≡ self.old.capacity }
         ensures valid { IsValidTable self.old }
         ensures stays_valid { IsValidTable self.new }
-        // Consequences of `payload` and `sessions`, for the proofs of callers.
+        // The id is gone, the others keep their payloads, and a present one is one fewer.
         ensures gone { payload_of self.new.sessions id ≡ None }
         ensures others { (other : ℕ) → id == other ≡ false
             → payload_of self.new.sessions other ≡ payload_of self.old.sessions other }

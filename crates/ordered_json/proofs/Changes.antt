@@ -1,5 +1,5 @@
 -- What a change of the value at the end of names leaves.
-use Rattle.std.proofs.Common.{◌≡◌, ℕ, zero, suc, List, [], ◌∷◌, ◌++◌, Option, Some, None, option_and_then, is_some, unwrap_or}
+use Rattle.std.proofs.Common.{◌≡◌, ℕ, zero, suc, List, [], ◌∷◌, ◌++◌, Option, Some, None, option_and_then, option_map, is_some}
 use Rattle.std.proofs.Common.{length, ◌<◌, ◌==◌, take, Ok, Err}
 use Rattle.std.proofs.Common.{cond, Bool, true, false, refl, sym, ap, ◌∙◌, arith, length-append, eqb-true}
 use Rattle.std.proofs.Math.Seq.{take-append_seam}
@@ -8,10 +8,9 @@ use Rattle.json.specs.Json.{Json, null, boolean, number, string, array, object, 
 use Rattle.json.specs.Find.{get_item}
 use Rattle.linked_hash_map.specs.Pairs.{without_last}
 use Rattle.linked_hash_map.proofs.Callers.Lookups.{last-append}
-use Rattle.ordered_json.specs.Edits.{Edited, by_names, edit_at, edit_last, edit_parent, put_back, edit_found, put_child, set_at}
+use Rattle.ordered_json.specs.Edits.{Edited, by_names, edit_at, edit_last, edit_parent, put_back, edit_found, put_at, put_child}
 use Rattle.ordered_json.specs.Pointers.{names, index, child, find_member, get_at, change_at, change_member, change_item, change_items}
 use Rattle.ordered_json.specs.declared.edit.EditError.{EditError}
-use Rattle.ordered_json.specs.declared.edit.EditError.TheVariants.{Absent}
 use Rattle.ordered_json.proofs.Children.{change_member-own, change_item-own}
 
 -- the document stays if the value found does
@@ -110,53 +109,64 @@ change_at-found f g (name ∷ path) (object ms) same =
 without_last-append : {A : Type 0} (xs : List A) (x : A) → without_last (xs ++ x ∷ []) ≡ xs
 without_last-append xs x = ap (λ n. take n (xs ++ x ∷ [])) (omega (arith, length-append xs (x ∷ []))) ∙ take-append_seam xs (x ∷ [])
 
+edit_parent-append : (f : List ℕ → Json → Edited) (path : List (List ℕ)) (name : List ℕ) (j : Json)
+    → edit_parent f (path ++ name ∷ []) j ≡ edit_at (f name) path j
+edit_parent-append f path name j =
+    ap (λ o. edit_last f (without_last (path ++ name ∷ [])) o j) (last-append path name)
+    ∙ ap (λ p. edit_at (f name) p j) (without_last-append path name)
+
 -- an edit by the names of a pointer, of which the last is the child that it edits
 pub by_names-append : (f : List ℕ → Json → Edited) (text : List ℕ) (path : List (List ℕ)) (name : List ℕ) (j : Json)
     → names text ≡ Some (path ++ name ∷ []) → by_names (edit_parent f) (names text) j ≡ edit_at (f name) path j
-by_names-append f text path name j is =
-    ap (λ o. by_names (edit_parent f) o j) is ∙ ap (λ o. edit_last f (without_last (path ++ name ∷ [])) o j) (last-append path name)
-    ∙ ap (λ p. edit_at (f name) p j) (without_last-append path name)
+by_names-append f text path name j is = ap (λ o. by_names (edit_parent f) o j) is ∙ edit_parent-append f path name j
 
-pub set_at-some : (text : List ℕ) (u j : Json) → 0 < length text → set_at text u j ≡ by_names (edit_parent (put_child u)) (names text) j
-set_at-some [] u j some = absurd (omega (arith, some))
-set_at-some (x ∷ text) u j some = refl
-
-pub edit_at-absent : (f : Json → Edited) (path : List (List ℕ)) (j : Json) → is_some (get_at path j) ≡ false → edit_at f path j ≡ Err Absent
-edit_at-absent f path j none = by_found (get_at path j) none
-  where
-    by_found : (o : Option Json) → is_some o ≡ false → put_back path j (edit_found f o) ≡ Err Absent
-    by_found None is = refl
-    by_found (Some k) is = absurd (cc)
+pub put_at-append : (u : Json) (path : List (List ℕ)) (name : List ℕ) (j : Json)
+    → put_at u (path ++ name ∷ []) j ≡ edit_at (put_child u name) path j
+put_at-append u [] name j = edit_parent-append (put_child u) [] name j
+put_at-append u (next ∷ path) name j = edit_parent-append (put_child u) (next ∷ path) name j
 
 pub change_at-absent : (f : Json → Json) (path : List (List ℕ)) (j : Json) → is_some (get_at path j) ≡ false → change_at f path j ≡ j
 change_at-absent f path j none = change_at-own f path j (λ k is. absurd (cc (none, is)))
 
-pub set_at-empty : (text : List ℕ) (u j : Json) → (length text == 0) ≡ true → set_at text u j ≡ Ok u
-set_at-empty [] u j empty = refl
-set_at-empty (x ∷ text) u j empty = absurd (omega (arith, eqb-true _ _ empty))
+pub not-taken : {T : Type 0} (f : T → Json) (r : Option T) (o : Option Json) → option_map f r ≡ o → r ≡ None → is_some o ≡ false
+not-taken f r o value none = sym (ap is_some value) ∙ ap (λ s. is_some (option_map f s)) none
 
-pub taken-found : (o : Option Json) (hole taken : Json) → is_some o ≡ true → taken ≡ unwrap_or o hole → o ≡ Some taken
-taken-found None hole taken some is = absurd (cc)
-taken-found (Some j) hole taken some is = ap Some (sym is)
+pub none-found : (o : Option Json) → is_some o ≡ false → o ≡ None
+none-found None none = refl
+none-found (Some j) none = absurd (cc)
 
 -- an edit of a value that was taken out for it and put back
-module _ (f : List ℕ → Json → Edited) (text : List ℕ) (path : List (List ℕ)) (name : List ℕ) (hole old mid parent after new : Json)
-    (is : names text ≡ Some (path ++ name ∷ [])) (found : get_at path old ≡ Some parent)
+module _ (f : Json → Edited) (path : List (List ℕ)) (hole old mid parent after new : Json) (found : get_at path old ≡ Some parent)
     (mid_is : mid ≡ change_at (λ _. hole) path old) (new_is : new ≡ change_at (λ _. after) path mid) where
   new-change : new ≡ change_at (λ _. after) path old
   new-change = new_is ∙ ap (change_at (λ _. after) path) mid_is ∙ change_at-twice (λ _. after) (λ _. hole) (λ _. after) path old (λ k. refl)
 
-  pub edited-done : f name parent ≡ Ok after → by_names (edit_parent f) (names text) old ≡ Ok new
-  edited-done done = by_names-append f text path name old is ∙ rw (found, done) (ap Ok (sym new-change))
+  pub edit_at-done : f parent ≡ Ok after → edit_at f path old ≡ Ok new
+  edit_at-done done = rw (found, done) (ap Ok (sym new-change))
 
-  pub edited-refused : (error : EditError) → f name parent ≡ Err error → by_names (edit_parent f) (names text) old ≡ Err error
-  edited-refused error refused = by_names-append f text path name old is ∙ rw (found, refused) refl
+  pub edit_at-refused : (error : EditError) → f parent ≡ Err error → edit_at f path old ≡ Err error
+  edit_at-refused error refused = rw (found, refused) refl
 
-  pub edited-kept : after ≡ parent → new ≡ old
-  edited-kept same = new-change ∙ change_at-own (λ _. after) path old (λ k there. same ∙ by_some (sym found ∙ there))
+  pub edit_at-kept : after ≡ parent → new ≡ old
+  edit_at-kept same = new-change ∙ change_at-own (λ _. after) path old (λ k there. same ∙ by_some (sym found ∙ there))
     where
       by_some : {k : Json} → Some parent ≡ Some k → parent ≡ k
       by_some e = cc
+
+-- the same by a pointer
+module _ (f : List ℕ → Json → Edited) (text : List ℕ) (path : List (List ℕ)) (name : List ℕ) (hole old mid parent after new : Json)
+    (is : names text ≡ Some (path ++ name ∷ [])) (found : get_at path old ≡ Some parent)
+    (mid_is : mid ≡ change_at (λ _. hole) path old) (new_is : new ≡ change_at (λ _. after) path mid) where
+  pub edited-done : f name parent ≡ Ok after → by_names (edit_parent f) (names text) old ≡ Ok new
+  edited-done done =
+      by_names-append f text path name old is ∙ edit_at-done (f name) path hole old mid parent after new found mid_is new_is done
+
+  pub edited-refused : (error : EditError) → f name parent ≡ Err error → by_names (edit_parent f) (names text) old ≡ Err error
+  edited-refused error refused = by_names-append f text path name old is
+      ∙ edit_at-refused (f name) path hole old mid parent after new found mid_is new_is error refused
+
+  pub edited-kept : after ≡ parent → new ≡ old
+  edited-kept = edit_at-kept (f name) path hole old mid parent after new found mid_is new_is
 
 pub get_at-append : (path : List (List ℕ)) (name : List ℕ) (j : Json)
     → get_at (path ++ name ∷ []) j ≡ option_and_then (child name) (get_at path j)

@@ -1,7 +1,7 @@
 -- The members and items of a value beside what they stand for.
 use Rattle.std.proofs.Common.{◌≡◌, ℕ, zero, suc, ◌+◌, ◌*◌, ◌-◌, ◌^◌, ◌<◌, min, length, List, [], ◌∷◌, Option, Some, None}
 use Rattle.std.proofs.Common.{option_map, option_and_then}
-use Rattle.std.proofs.Common.{cond, Bool, true, false, refl, sym, ap, ◌∙◌, arith, rules, String, nat_le}
+use Rattle.std.proofs.Common.{cond, Bool, true, false, refl, sym, ap, ◌∙◌, arith, nat_le}
 use Rattle.std.proofs.lemmas.Bool.{leb-true, leb-false}
 use Rattle.std.proofs.lemmas.Map.Keys.{IsDistinct-tail}
 use Rattle.std.proofs.lemmas.Option.{slice_get_past, slice_get_within}
@@ -14,9 +14,7 @@ use Rattle.std.specs.Option.{option_copied, option_copied_mut}
 use Rattle.std.specs.Str.{bytes_eq}
 use Rattle.std.specs.String.{string_bytes, string_eq, string_eq_equiv}
 use Rattle.std.specs.declared.alloc.Global.{Global}
-use Rattle.std.specs.declared.hash.RandomState.{RandomState}
-use Rattle.linked_hash_map.specs.LinkedMap.{LinkedMap}
-use Rattle.json.specs.Json.{Json, null, Items, no_items, item, Members, no_members, member}
+use Rattle.json.specs.Json.{Json, Items, no_items, item, Members, no_members, member}
 use Rattle.json.specs.Find.{get_item}
 use Rattle.linked_hash_map.specs.Pairs.{find, value_at, set_value}
 use Rattle.linked_hash_map.proofs.Callers.Keys.{set_value-none}
@@ -24,7 +22,7 @@ use Rattle.linked_hash_map.proofs.Callers.Texts.{is_text, find-is_text}
 use Rattle.linked_hash_map.proofs.Callers.Turns.{find-others}
 use Rattle.ordered_json.specs.Pointers.{number_after, find_member, change_member, change_item, change_items}
 use Rattle.ordered_json.specs.View.{view, items_view, members_view}
-use Rattle.ordered_json.specs.declared.value.Value.{Value, Null, the_lemmas}
+use Rattle.ordered_json.specs.declared.value.Value.{Value}
 use Rattle.ordered_json.proofs.Views.{Entry}
 
 -- members, by their names
@@ -90,12 +88,6 @@ pub change_item-own : (f : Json → Json) (n : ℕ) (js : Items) → ((j : Json)
 change_item-own f n no_items own = refl
 change_item-own f zero (item j js) own = ap (λ k. item k js) (own j refl)
 change_item-own f (suc n) (item j js) own = ap (item j) (change_item-own f n js own)
-
-abbrev pub Map : Type 0
-Map = LinkedMap (String Global) Value RandomState
-
-pub view-Null : view Null ≡ null
-view-Null = search (rules, the_lemmas)
 
 abbrev pub capped : ℕ → ℕ
 capped n = min n (2 ^ 64 - 1)

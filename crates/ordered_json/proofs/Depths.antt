@@ -1,6 +1,8 @@
--- A value that was read nests no deeper than its text may.
-use Rattle.std.proofs.Common.{◌≡◌, ℕ, ◌≤◌, max, List, [], ◌∷◌, Option, Some, None, Bool, true, false, cond}
+-- How deep values nest: one that was read no deeper than its text may.
+use Rattle.std.proofs.Common.{◌≡◌, ℕ, ◌+◌, ◌-◌, ◌≤◌, max, nat_le, List, [], ◌∷◌, Option, Some, None, Bool, true, false, cond, ◌&&◌}
 use Rattle.std.proofs.Common.{refl, ap, subst, arith}
+use Rattle.std.proofs.lemmas.Bool.{leb-true, leb-false}
+use Rattle.std.specs.Map.{values_of}
 use Rattle.std.specs.Str.{bytes_eq}
 use Rattle.json.specs.Token.{Token}
 use Rattle.json.specs.Lex.{tokens}
@@ -9,9 +11,11 @@ use Rattle.json.specs.Tree.{depth, items_depth, members_depth}
 use Rattle.json.proofs.Nesting.{value-depth}
 use Rattle.ordered_json.specs.Read.{put, resolved, each_resolved, put_each, read}
 use Rattle.ordered_json.specs.declared.read.TheConstants.{MAX_DEPTH}
+use Rattle.ordered_json.specs.View.{items_view, members_view, view}
 use Rattle.ordered_json.proofs.Reading.{pick, whole}
+use Rattle.ordered_json.proofs.Views.{Entry}
 
-members_depth-put : (name : List ℕ) (j : Json) (ms : Members) → members_depth (put name j ms) ≤ max (depth j) (members_depth ms)
+pub members_depth-put : (name : List ℕ) (j : Json) (ms : Members) → members_depth (put name j ms) ≤ max (depth j) (members_depth ms)
 members_depth-put name j no_members = omega arith
 members_depth-put name j (member other k ms) = by_test (bytes_eq name other) (members_depth-put name j ms)
   where
@@ -51,3 +55,29 @@ depth-whole (Some (k, t ∷ r)) j within e = absurd (cc)
 
 pub depth-read : (text : List ℕ) (j : Json) → read text ≡ Some j → depth j ≤ MAX_DEPTH
 depth-read text j e = depth-whole _ j (λ k r. value-depth MAX_DEPTH (tokens text) r k) e
+
+-- whether a value nests within a limit
+
+pub nat_le-max : (a b most : ℕ) → nat_le (max a b) most ≡ (nat_le a most && nat_le b most)
+nat_le-max a b most = by_tests (nat_le (max a b) most) (nat_le a most) (nat_le b most) refl refl refl
+  where
+    by_tests : (x y z : Bool) → nat_le (max a b) most ≡ x → nat_le a most ≡ y → nat_le b most ≡ z → x ≡ (y && z)
+    by_tests true true true e f g = refl
+    by_tests true true false e f g = absurd (omega (arith, leb-true (max a b) most e, leb-false b most g))
+    by_tests true false z e f g = absurd (omega (arith, leb-true (max a b) most e, leb-false a most f))
+    by_tests false true true e f g = absurd (omega (arith, leb-false (max a b) most e, leb-true a most f, leb-true b most g))
+    by_tests false true false e f g = refl
+    by_tests false false z e f g = refl
+
+pub nat_le-minus : (n d most : ℕ) → n ≤ most → nat_le (n + d) most ≡ nat_le d (most - n)
+nat_le-minus n d most less = by_tests (nat_le (n + d) most) (nat_le d (most - n)) refl refl
+  where
+    by_tests : (x y : Bool) → nat_le (n + d) most ≡ x → nat_le d (most - n) ≡ y → x ≡ y
+    by_tests true true e f = refl
+    by_tests false false e f = refl
+    by_tests true false e f = absurd (omega (arith, less, leb-true (n + d) most e, leb-false d (most - n) f))
+    by_tests false true e f = absurd (omega (arith, less, leb-false (n + d) most e, leb-true d (most - n) f))
+
+pub members_depth-values : (ms : List Entry) → members_depth (members_view ms) ≡ items_depth (items_view (values_of ms))
+members_depth-values [] = refl
+members_depth-values (m ∷ ms) = ap (max (depth (view m.1))) (members_depth-values ms)

@@ -34,51 +34,26 @@ module _ (name other : List ℕ) (e : Entry) (apart : bytes_eq name other ≡ fa
           sym (ap (bytes_eq name) ((bytes_decides other (string_bytes p.0)).0 same) ∙ alike) ∙ apart
       by_test false alike = refl
 
-  placed-before : (pairs : List Entry) → is_some (find is_text pairs other) ≡ true
-      → members_view (placed (count_before is_text pairs other) pairs)
-      ≡ put_beside false (string_bytes e.0) (view e.1) other (members_view (without is_text pairs name))
-  placed-before [] there = absurd (cc)
-  placed-before (p ∷ ps) there = by_test (placed-before ps) (is_text other p.0) refl there
+  abbrev Placed : Bool → List Entry → Type 0
+  Placed behind pairs =
+      members_view (placed (cond behind (suc (count_before is_text pairs other)) (count_before is_text pairs other)) pairs)
+      ≡ put_beside behind (string_bytes e.0) (view e.1) other (members_view (without is_text pairs name))
+
+  placed-at : (behind : Bool) (pairs : List Entry) → is_some (find is_text pairs other) ≡ true → Placed behind pairs
+  placed-at behind [] there = absurd (cc)
+  placed-at behind (p ∷ ps) there = by_test behind (placed-at behind ps) (is_text other p.0) refl there
     where
-      by_name : (b : Bool) → is_text name p.0 ≡ b → is_text other p.0 ≡ false
-          → members_view (placed (count_before is_text ps other) ps)
-          ≡ put_beside false (string_bytes e.0) (view e.1) other (members_view (without is_text ps name))
-          → members_view (placed (count_before is_text (p ∷ ps) other) (p ∷ ps))
-          ≡ put_beside false (string_bytes e.0) (view e.1) other (members_view (without is_text (p ∷ ps) name))
-      by_name true same differ rest = rw (differ, one-add, same) rest
-      by_name false same differ rest = rw (differ, one-add, same, differ) (ap (member (string_bytes p.0) (view p.1)) rest)
+      by_name : (behind b : Bool) → is_text name p.0 ≡ b → is_text other p.0 ≡ false → Placed behind ps → Placed behind (p ∷ ps)
+      by_name true true same differ rest = rw (differ, one-add, same) rest
+      by_name false true same differ rest = rw (differ, one-add, same) rest
+      by_name true false same differ rest = rw (differ, one-add, same, differ) (ap (member (string_bytes p.0) (view p.1)) rest)
+      by_name false false same differ rest = rw (differ, one-add, same, differ) (ap (member (string_bytes p.0) (view p.1)) rest)
 
-      by_test : (is_some (find is_text ps other) ≡ true
-          → members_view (placed (count_before is_text ps other) ps)
-          ≡ put_beside false (string_bytes e.0) (view e.1) other (members_view (without is_text ps name)))
-          → (b : Bool) → is_text other p.0 ≡ b → is_some (cond b (Some p) (find is_text ps other)) ≡ true
-          → members_view (placed (count_before is_text (p ∷ ps) other) (p ∷ ps))
-          ≡ put_beside false (string_bytes e.0) (view e.1) other (members_view (without is_text (p ∷ ps) name))
-      by_test rest true same is = let differ = not_name p same in rw (same, differ, same) refl
-      by_test rest false same is = by_name (is_text name p.0) refl same (rest is)
-
-  placed-after : (pairs : List Entry) → is_some (find is_text pairs other) ≡ true
-      → members_view (placed (suc (count_before is_text pairs other)) pairs)
-      ≡ put_beside true (string_bytes e.0) (view e.1) other (members_view (without is_text pairs name))
-  placed-after [] there = absurd (cc)
-  placed-after (p ∷ ps) there = by_test (placed-after ps) (is_text other p.0) refl there
-    where
-      by_name : (b : Bool) → is_text name p.0 ≡ b → is_text other p.0 ≡ false
-          → members_view (placed (suc (count_before is_text ps other)) ps)
-          ≡ put_beside true (string_bytes e.0) (view e.1) other (members_view (without is_text ps name))
-          → members_view (placed (suc (count_before is_text (p ∷ ps) other)) (p ∷ ps))
-          ≡ put_beside true (string_bytes e.0) (view e.1) other (members_view (without is_text (p ∷ ps) name))
-      by_name true same differ rest = rw (differ, one-add, same) rest
-      by_name false same differ rest = rw (differ, one-add, same, differ) (ap (member (string_bytes p.0) (view p.1)) rest)
-
-      by_test : (is_some (find is_text ps other) ≡ true
-          → members_view (placed (suc (count_before is_text ps other)) ps)
-          ≡ put_beside true (string_bytes e.0) (view e.1) other (members_view (without is_text ps name)))
-          → (b : Bool) → is_text other p.0 ≡ b → is_some (cond b (Some p) (find is_text ps other)) ≡ true
-          → members_view (placed (suc (count_before is_text (p ∷ ps) other)) (p ∷ ps))
-          ≡ put_beside true (string_bytes e.0) (view e.1) other (members_view (without is_text (p ∷ ps) name))
-      by_test rest true same is = let differ = not_name p same in rw (same, differ, same) refl
-      by_test rest false same is = by_name (is_text name p.0) refl same (rest is)
+      by_test : (behind : Bool) → (is_some (find is_text ps other) ≡ true → Placed behind ps) → (b : Bool) → is_text other p.0 ≡ b
+          → is_some (cond b (Some p) (find is_text ps other)) ≡ true → Placed behind (p ∷ ps)
+      by_test true rest true same is = let differ = not_name p same in rw (same, differ, same) refl
+      by_test false rest true same is = let differ = not_name p same in rw (same, differ, same) refl
+      by_test behind rest false same is = by_name behind (is_text name p.0) refl same (rest is)
 
   placed-beside : (behind : Bool) (pairs : List Entry) → find is_text pairs name ≡ Some e → is_some (find is_text pairs other) ≡ true
       → members_view (cond behind (to_after is_text is_text pairs name other) (to_before is_text is_text pairs name other))
@@ -86,11 +61,11 @@ module _ (name other : List ℕ) (e : Entry) (apart : bytes_eq name other ≡ fa
   placed-beside true pairs found there =
       let n = count_before is_text pairs other in
       ap₂ (λ k o. members_view (without is_text (take k pairs) name ++ (option_to_list o ++ without is_text (drop k pairs) name)))
-      (add-one n) found ∙ placed-after pairs there
+      (add-one n) found ∙ placed-at true pairs there
   placed-beside false pairs found there =
       let n = count_before is_text pairs other in
       ap (λ o. members_view (without is_text (take n pairs) name ++ (option_to_list o ++ without is_text (drop n pairs) name))) found
-      ∙ placed-before pairs there
+      ∙ placed-at false pairs there
 
 module _ (behind : Bool) (pairs : List Entry) (name other : List ℕ) where
   abbrev now : Members

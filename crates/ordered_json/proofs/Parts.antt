@@ -3,11 +3,9 @@ use Rattle.std.proofs.Common.{◌≡◌, ◌≢◌, ℕ, zero, suc, ◌+◌, ◌
 use Rattle.std.proofs.Common.{Some, None, option_map, option_and_then, cond}
 use Rattle.std.proofs.Common.{Bool, true, false, refl, sym, ap, ◌∙◌, arith, append_assoc, append-nil, ne_eqb}
 use Rattle.std.specs.Char.{is_ascii_digit}
-use Rattle.std.specs.Cmp.Lexicographic.{bytes_decides, nat_list_eq_equiv}
-use Rattle.std.specs.Str.{bytes_eq}
 use Rattle.json.specs.Find.{get_item}
-use Rattle.json.specs.Json.{Json, array, Items, Members, member}
-use Rattle.ordered_json.specs.Pointers.{unescape, unescape_tilde, names_after, names, number_after, index, find_member, child, get_at}
+use Rattle.json.specs.Json.{Json, array, Items}
+use Rattle.ordered_json.specs.Pointers.{unescape, unescape_tilde, names_after, names, number_after, index, child, get_at}
 
 -- x is none of the list
 abbrev pub Lacks : ℕ → List ℕ → Type 0
@@ -157,22 +155,3 @@ child-escaped part js i less at = by_name (unescape part) refl
 
 pub unescape-same : (part : List ℕ) → Lacks 126 part → unescape part ≡ Some part
 unescape-same part lacks = ap unescape (sym (append-nil part)) ∙ unescape-plain part [] lacks ∙ ap Some (append-nil part)
-
--- a part that is the first of the names finds its value, and else what the others have
-pub member-here : (part : List ℕ) (k : List ℕ) (j : Json) (ms : Members) → unescape part ≡ Some k
-    → option_and_then (λ name. find_member name (member k j ms)) (unescape part) ≡ Some j
-member-here part k j ms is = rw (is, nat_list_eq_equiv.refl k) refl
-
-pub member-later : (part : List ℕ) (k : List ℕ) (j : Json) (ms : Members) → (unescape part ≡ Some k → ⊥)
-    → option_and_then (λ name. find_member name (member k j ms)) (unescape part)
-    ≡ option_and_then (λ name. find_member name ms) (unescape part)
-member-later part k j ms other = by_name (unescape part) refl
-  where
-    by_name : (o : Option (List ℕ)) → unescape part ≡ o
-        → option_and_then (λ name. find_member name (member k j ms)) o ≡ option_and_then (λ name. find_member name ms) o
-    by_name None is = refl
-    by_name (Some name) is = by_test (bytes_eq name k) refl
-      where
-        by_test : (b : Bool) → bytes_eq name k ≡ b → cond b (Some j) (find_member name ms) ≡ find_member name ms
-        by_test true same = absurd (other (is ∙ ap Some ((bytes_decides name k).0 same)))
-        by_test false apart = refl

@@ -1,6 +1,6 @@
 -- For callers: what pointers find after an edit.
 use Rattle.std.proofs.Common.{◌≡◌, ℕ, zero, suc, ◌==◌, List, [], ◌∷◌, ◌++◌, Option, Some, None, option_map, option_and_then, Ok}
-use Rattle.std.proofs.Common.{Err, ◌<◌, length}
+use Rattle.std.proofs.Common.{Err, ◌+◌, length, nat_le}
 use Rattle.std.proofs.Common.{cond, Bool, true, false, ◌||◌, refl, sym, ap, ◌∙◌, arith}
 use Rattle.std.specs.Cmp.Lexicographic.{bytes_decides, nat_list_eq_equiv}
 use Rattle.std.proofs.lemmas.Bool.{eqb-false}
@@ -9,12 +9,15 @@ use Rattle.std.specs.Result.{result_unwrap_or}
 use Rattle.std.specs.Str.{bytes_eq}
 use Rattle.json.specs.Json.{Json, null, boolean, number, string, array, object, Items, no_items, item, Members, no_members, member}
 use Rattle.json.specs.Find.{get_item}
-use Rattle.ordered_json.specs.Edits.{Edited, edit_found, put_back, put_child, put_item, set_at}
+use Rattle.json.specs.Tree.{depth}
+use Rattle.ordered_json.specs.Edits.{Edited, by_names, edit_at, edit_found, edit_parent}
+use Rattle.ordered_json.specs.Edits.{put_at, put_back, put_child, put_item, set_at, set_by}
 use Rattle.ordered_json.specs.Pointers.{names, index, child, find_member, get_at, pointed, change_at, change_child}
 use Rattle.ordered_json.specs.Pointers.{change_member, change_item, change_items}
 use Rattle.ordered_json.specs.Read.{put}
-use Rattle.ordered_json.specs.declared.edit.EditError.TheVariants.{OutOfRange}
-use Rattle.ordered_json.proofs.Changes.{by_names-append, change_at-found, get_at-append, set_at-some}
+use Rattle.ordered_json.specs.declared.edit.EditError.TheVariants.{OutOfRange, TooDeep}
+use Rattle.ordered_json.specs.declared.read.TheConstants.{MAX_DEPTH}
+use Rattle.ordered_json.proofs.Changes.{by_names-append, change_at-found, get_at-append, put_at-append}
 
 -- a change of the value that is found
 
@@ -97,34 +100,61 @@ child-put u name (array js) k apart is = by_index (index name) refl (rw apart at
 child-put u name (object ms) k apart is =
     let same : object (put name u ms) ≡ k = cc in ap (child name) (sym same) ∙ find_member-put name u ms
 
-some : (text : List ℕ) (path : List (List ℕ)) (name : List ℕ) → names text ≡ Some (path ++ name ∷ []) → 0 < length text
-some [] path name is = absurd (not_empty path name is)
+-- an edit that was done: the value before and after it, and what names find then
+pub record IsEdit (f : Json → Edited) (path : List (List ℕ)) (j k : Json) : Type 0 where
+  pub before : Json
+  pub after : Json
+  pub found : get_at path j ≡ Some before
+  pub edit : f before ≡ Ok after
+  pub document : k ≡ change_at (λ _. after) path j
+  pub left : get_at path k ≡ Some after
+
+pub edited_at : (f : Json → Edited) (path : List (List ℕ)) (j k : Json) → edit_at f path j ≡ Ok k → IsEdit f path j k
+edited_at f path j k done = by_found (get_at path j) refl done
   where
-    not_empty : (path : List (List ℕ)) (name : List ℕ) → Some [] ≡ Some (path ++ name ∷ []) → ⊥
-    not_empty [] name e = cc
-    not_empty (p ∷ path) name e = cc
-some (x ∷ text) path name is = omega arith
+    by_edit : (p : Json) → get_at path j ≡ Some p → (r : Edited) → f p ≡ r → put_back path j r ≡ Ok k → IsEdit f path j k
+    by_edit p there (Err e) edit_is h = absurd (cc)
+    by_edit p there (Ok m) edit_is h =
+        let same : k ≡ change_at (λ _. m) path j = cc in
+        record {
+          before = p;
+          after = m;
+          found = there;
+          edit = edit_is;
+          document = same;
+          left = ap (get_at path) same ∙ get_at-change (λ _. m) path j p there;
+        }
+
+    by_found : (o : Option Json) → get_at path j ≡ o → put_back path j (edit_found f o) ≡ Ok k → IsEdit f path j k
+    by_found None there h = absurd (cc)
+    by_found (Some p) there h = by_edit p there (f p) refl h
+
+-- by the names of a pointer
+module _ (f : List ℕ → Json → Edited) (text : List ℕ) (path : List (List ℕ)) (name : List ℕ) (j k : Json)
+    (is : names text ≡ Some (path ++ name ∷ [])) (done : by_names (edit_parent f) (names text) j ≡ Ok k) where
+  pub edited : IsEdit (f name) path j k
+  edited = edited_at (f name) path j k (sym (by_names-append f text path name j is) ∙ done)
+
+  pub pointed-edited : (more : List ℕ) (to : List ℕ) → names more ≡ Some (path ++ to ∷ []) → pointed more k ≡ child to edited.after
+  pointed-edited more to more_is =
+      ap (option_and_then (λ ns. get_at ns k)) more_is ∙ get_at-append path to k ∙ ap (option_and_then (child to)) edited.left
+
+pub set_at-done : (text : List ℕ) (path : List (List ℕ)) (name : List ℕ) (u j k : Json) → names text ≡ Some (path ++ name ∷ [])
+    → set_at text u j ≡ Ok k → by_names (edit_parent (put_child u)) (names text) j ≡ Ok k
+set_at-done text path name u j k is done =
+    by_names-append (put_child u) text path name j is ∙ sym (put_at-append u path name j)
+    ∙ by_test (nat_le (length (path ++ name ∷ []) + depth u) MAX_DEPTH) (sym (ap (λ o. by_names (set_by u) o j) is) ∙ done)
+  where
+    by_test : (b : Bool) → cond b (put_at u (path ++ name ∷ []) j) (Err TooDeep) ≡ Ok k → put_at u (path ++ name ∷ []) j ≡ Ok k
+    by_test true h = h
+    by_test false h = absurd (cc)
 
 -- what was set is there
 pub pointed-set_at : (text : List ℕ) (path : List (List ℕ)) (name : List ℕ) (u j k : Json) → names text ≡ Some (path ++ name ∷ [])
     → bytes_eq name (45 ∷ []) ≡ false → set_at text u j ≡ Ok k → pointed text k ≡ Some u
 pointed-set_at text path name u j k is apart done =
-    ap (option_and_then (λ p. get_at p k)) is ∙ get_at-append path name k
-    ∙ by_found (get_at path j) refl
-    (sym (set_at-some text u j (some text path name is) ∙ by_names-append (put_child u) text path name j is) ∙ done)
-  where
-    by_put : (p : Json) → get_at path j ≡ Some p → (r : Edited) → put_child u name p ≡ r → put_back path j r ≡ Ok k
-        → option_and_then (child name) (get_at path k) ≡ Some u
-    by_put p there (Ok q) put_is h =
-        let same : change_at (λ _. q) path j ≡ k = cc in
-        ap (λ m. option_and_then (child name) (get_at path m)) (sym same)
-        ∙ ap (option_and_then (child name)) (get_at-change (λ _. q) path j p there) ∙ child-put u name p q apart put_is
-    by_put p there (Err e) put_is h = absurd (cc)
-
-    by_found : (o : Option Json) → get_at path j ≡ o → put_back path j (edit_found (put_child u name) o) ≡ Ok k
-        → option_and_then (child name) (get_at path k) ≡ Some u
-    by_found None there h = absurd (cc)
-    by_found (Some p) there h = by_put p there (put_child u name p) refl h
+    let by = set_at-done text path name u j k is done in let e = edited (put_child u) text path name j k is by in
+    pointed-edited (put_child u) text path name j k is by text name is ∙ child-put u name e.before e.after apart e.edit
 
 -- ---- what every other pointer finds
 
@@ -168,7 +198,7 @@ module _ (G : Json → Option Json) (f : Json → Json) (keeps : (k : Json) → 
   get_item-change_kept (suc n) zero (item j js) = refl
   get_item-change_kept (suc n) (suc m) (item j js) = get_item-change_kept n m js
 
-  child-change_kept : (name q : List ℕ) (j : Json)
+  pub child-change_kept : (name q : List ℕ) (j : Json)
       → option_and_then G (child q (change_child f name j)) ≡ option_and_then G (child q j)
   child-change_kept name q null = refl
   child-change_kept name q (boolean b) = refl
@@ -189,13 +219,13 @@ or_false true b none = absurd (cc)
 or_false false b none = (refl, none)
 
 module _ (name q : List ℕ) (apart : is_same name q ≡ false) where
-  bytes_apart : bytes_eq name q ≡ false
+  pub bytes_apart : bytes_eq name q ≡ false
   bytes_apart = (or_false (bytes_eq name q) (same_index (index name) (index q)) apart).0
 
   index_apart : same_index (index name) (index q) ≡ false
   index_apart = (or_false (bytes_eq name q) (same_index (index name) (index q)) apart).1
 
-  other_name : (other : List ℕ) → bytes_eq name other ≡ true → bytes_eq q other ≡ false
+  pub other_name : (other : List ℕ) → bytes_eq name other ≡ true → bytes_eq q other ≡ false
   other_name other same = by_test (bytes_eq q other) refl
     where
       by_test : (b : Bool) → bytes_eq q other ≡ b → b ≡ false
@@ -236,7 +266,7 @@ module _ (name q : List ℕ) (apart : is_same name q ≡ false) where
       by_rest None h below = absurd (cc)
       by_rest (Some ms) h below = let same : item j ms ≡ ks = cc in ap (get_item (suc m)) (sym same) ∙ below ms refl
 
-  child-change_apart : (f : Json → Json) (j : Json) → child q (change_child f name j) ≡ child q j
+  pub child-change_apart : (f : Json → Json) (j : Json) → child q (change_child f name j) ≡ child q j
   child-change_apart f null = refl
   child-change_apart f (boolean b) = refl
   child-change_apart f (number s) = refl
@@ -276,58 +306,60 @@ module _ (name q : List ℕ) (apart : is_same name q ≡ false) where
       let same : object (put name u ms) ≡ k = cc in ap (child q) (sym same) ∙ find_member-put_apart u ms
 
 -- an edit by a last name, which keeps what other names find
-get_at-edit_apart : (f : Json → Json) (name : List ℕ)
-    → ((k : Json) (q : List ℕ) → is_same name q ≡ false → child q (f k) ≡ child q k) → (path other : List (List ℕ)) (j : Json)
-    → lead_apart (path ++ name ∷ []) other ≡ true → get_at other (change_at f path j) ≡ get_at other j
-get_at-edit_apart f name keeps [] [] j apart = absurd (cc)
-get_at-edit_apart f name keeps [] (q ∷ other) j apart = by_test (is_same name q) refl apart
+get_at-edit_apart : (f : Json → Json) (name to : List ℕ)
+    → ((k : Json) (q : List ℕ) → is_same name q ≡ false → is_same to q ≡ false → child q (f k) ≡ child q k)
+    → (path other : List (List ℕ)) (j : Json) → lead_apart (path ++ name ∷ []) other ≡ true → lead_apart (path ++ to ∷ []) other ≡ true
+    → get_at other (change_at f path j) ≡ get_at other j
+get_at-edit_apart f name to keeps [] [] j apart to_apart = absurd (cc)
+get_at-edit_apart f name to keeps [] (q ∷ other) j apart to_apart =
+    by_test (is_same name q) refl (is_same to q) refl apart to_apart
   where
-    by_test : (b : Bool) → is_same name q ≡ b → cond b false true ≡ true → get_at (q ∷ other) (f j) ≡ get_at (q ∷ other) j
-    by_test true same h = absurd (cc)
-    by_test false differ h = ap (option_and_then (get_at other)) (keeps j q differ)
-get_at-edit_apart f name keeps (next ∷ path) [] j apart = absurd (cc)
-get_at-edit_apart f name keeps (next ∷ path) (q ∷ other) j apart =
-    by_test (is_same next q) refl apart (λ h k. get_at-edit_apart f name keeps path other k h)
+    by_test : (b : Bool) → is_same name q ≡ b → (c : Bool) → is_same to q ≡ c → cond b false true ≡ true → cond c false true ≡ true
+        → get_at (q ∷ other) (f j) ≡ get_at (q ∷ other) j
+    by_test true same c is h i = absurd (cc)
+    by_test false differ true is h i = absurd (cc)
+    by_test false differ false is h i = ap (option_and_then (get_at other)) (keeps j q differ is)
+get_at-edit_apart f name to keeps (next ∷ path) [] j apart to_apart = absurd (cc)
+get_at-edit_apart f name to keeps (next ∷ path) (q ∷ other) j apart to_apart =
+    by_test (is_same next q) refl apart to_apart (λ h i k. get_at-edit_apart f name to keeps path other k h i)
   where
     by_test : (b : Bool) → is_same next q ≡ b → cond b (lead_apart (path ++ name ∷ []) other) true ≡ true
-        → (lead_apart (path ++ name ∷ []) other ≡ true → (k : Json) → get_at other (change_at f path k) ≡ get_at other k)
+        → cond b (lead_apart (path ++ to ∷ []) other) true ≡ true
+        → (lead_apart (path ++ name ∷ []) other ≡ true → lead_apart (path ++ to ∷ []) other ≡ true
+        → (k : Json) → get_at other (change_at f path k) ≡ get_at other k)
         → get_at (q ∷ other) (change_at f (next ∷ path) j) ≡ get_at (q ∷ other) j
-    by_test true same h below = child-change_kept (get_at other) (change_at f path) (below h) next q j
-    by_test false differ h below = ap (option_and_then (get_at other)) (child-change_apart next q differ (change_at f path) j)
+    by_test true same h i below = child-change_kept (get_at other) (change_at f path) (below h i) next q j
+    by_test false differ h i below = ap (option_and_then (get_at other)) (child-change_apart next q differ (change_at f path) j)
 
--- every other pointer finds what it found before a value was set
+-- every other pointer finds what it found before an edit that keeps what it finds there
+pub pointed-edit_apart : (f : List ℕ → Json → Edited) (text other : List ℕ) (path more : List (List ℕ)) (name to : List ℕ) (j k : Json)
+    → names text ≡ Some (path ++ name ∷ []) → names other ≡ Some more
+    → ((q : List ℕ) → is_same name q ≡ false → is_same to q ≡ false → (p m : Json) → f name p ≡ Ok m → child q m ≡ child q p)
+    → lead_apart (path ++ name ∷ []) more ≡ true → lead_apart (path ++ to ∷ []) more ≡ true
+    → by_names (edit_parent f) (names text) j ≡ Ok k → pointed other k ≡ pointed other j
+pointed-edit_apart f text other path more name to j k is more_is keeps apart to_apart done =
+    let e = edited f text path name j k is done in
+    ap (option_and_then (λ ns. get_at ns k)) more_is
+    ∙ ap (get_at more) (e.document ∙ change_at-found (λ _. e.after) after path j (λ n found.
+    ap (λ r. result_unwrap_or r e.before) (sym e.edit) ∙ ap after (by_some (sym e.found ∙ found))))
+    ∙ get_at-edit_apart after name to kept path more j apart to_apart ∙ sym (ap (option_and_then (λ ns. get_at ns j)) more_is)
+  where
+    after : Json → Json
+    after p = result_unwrap_or (f name p) p
+
+    by_some : {a b : Json} → Some a ≡ Some b → a ≡ b
+    by_some e = cc
+
+    kept : (p : Json) (q : List ℕ) → is_same name q ≡ false → is_same to q ≡ false → child q (after p) ≡ child q p
+    kept p q differ to_differ = by_result (f name p) refl
+      where
+        by_result : (r : Edited) → f name p ≡ r → child q (result_unwrap_or r p) ≡ child q p
+        by_result (Ok m) is = keeps q differ to_differ p m is
+        by_result (Err e) is = refl
+
 pub pointed-set_apart : (text other : List ℕ) (path more : List (List ℕ)) (name : List ℕ) (u j k : Json)
     → names text ≡ Some (path ++ name ∷ []) → names other ≡ Some more → bytes_eq name (45 ∷ []) ≡ false
     → lead_apart (path ++ name ∷ []) more ≡ true → set_at text u j ≡ Ok k → pointed other k ≡ pointed other j
 pointed-set_apart text other path more name u j k is more_is dash apart done =
-    ap (option_and_then (λ p. get_at p k)) more_is
-    ∙ by_found (get_at path j) refl (sym (set_at-some text u j (some text path name is)
-    ∙ by_names-append (put_child u) text path name j is) ∙ done)
-    ∙ sym (ap (option_and_then (λ p. get_at p j)) more_is)
-  where
-    after : Json → Json
-    after p = result_unwrap_or (put_child u name p) p
-
-    keeps : (p : Json) (q : List ℕ) → is_same name q ≡ false → child q (after p) ≡ child q p
-    keeps p q differ = by_result (put_child u name p) refl
-      where
-        by_result : (r : Edited) → put_child u name p ≡ r → child q (result_unwrap_or r p) ≡ child q p
-        by_result (Ok m) put_is = child-put_apart name q differ u p m dash put_is
-        by_result (Err e) put_is = refl
-
-    by_put : (p : Json) → get_at path j ≡ Some p → (r : Edited) → put_child u name p ≡ r → put_back path j r ≡ Ok k
-        → get_at more k ≡ get_at more j
-    by_put p there (Err e) put_is h = absurd (cc)
-    by_put p there (Ok m) put_is h =
-        let same : change_at (λ _. m) path j ≡ k = cc in
-        ap (get_at more) (sym same ∙ change_at-found (λ _. m) after path j (λ n found.
-        ap (λ r. result_unwrap_or r p) (sym put_is) ∙ ap after (by_some (sym there ∙ found))))
-        ∙ get_at-edit_apart after name keeps path more j apart
-      where
-        by_some : {a b : Json} → Some a ≡ Some b → a ≡ b
-        by_some e = cc
-
-    by_found : (o : Option Json) → get_at path j ≡ o → put_back path j (edit_found (put_child u name) o) ≡ Ok k
-        → get_at more k ≡ get_at more j
-    by_found None there h = absurd (cc)
-    by_found (Some p) there h = by_put p there (put_child u name p) refl h
+    pointed-edit_apart (put_child u) text other path more name name j k is more_is
+    (λ q differ _ p m. child-put_apart name q differ u p m dash) apart apart (set_at-done text path name u j k is done)

@@ -111,10 +111,3 @@ whole o = option_map resolved (option_and_then (λ p. if_last p.0 p.1) o)
 
 pub whole_read : (o : Option (Json × List Token)) (j : Json) → resolved_value o ≡ Some (j, []) → whole o ≡ Some j
 whole_read o j e = let read = parse_map-some resolved o j [] e in ap whole read.1 ∙ ap Some read.2
-
-pub whole_and_more : (o : Option (Json × List Token)) (j : Json) (t : Token) (r : List Token) → resolved_value o ≡ Some (j, t ∷ r)
-    → whole o ≡ None
-whole_and_more o j t r e = ap whole (parse_map-some resolved o j (t ∷ r) e).1
-
-pub whole_refused : (o : Option (Json × List Token)) → resolved_value o ≡ None → whole o ≡ None
-whole_refused o e = ap whole (parse_map-none resolved o e)

@@ -1,5 +1,5 @@
 -- A value, level by level, and the pairs of a map beside the members that they stand for.
-use Rattle.std.proofs.Common.{◌≡◌, List, [], ◌∷◌, ◌++◌, is_some, cond, Bool, true, false, refl, ap, rules}
+use Rattle.std.proofs.Common.{◌≡◌, List, [], ◌∷◌, ◌++◌, is_some, cond, Bool, true, false, refl, sym, ap, ◌∙◌, rules}
 use Rattle.std.proofs.Common.{String, Vec}
 use Rattle.std.specs.Global.{Box}
 use Rattle.std.proofs.lemmas.Map.Keys.{IsDistinct-tail}
@@ -8,8 +8,6 @@ use Rattle.std.specs.Map.{keys_of}
 use Rattle.std.specs.String.{string_bytes, string_eq, string_eq_equiv}
 use Rattle.std.specs.declared.alloc.Global.{Global}
 use Rattle.json.specs.Json.{array, object, Members, member}
-use Rattle.std.specs.declared.hash.RandomState.{RandomState}
-use Rattle.linked_hash_map.specs.LinkedMap.{LinkedMap}
 use Rattle.linked_hash_map.specs.Pairs as pairs
 use Rattle.linked_hash_map.specs.Pairs.{find, set_value}
 use Rattle.linked_hash_map.specs.declared.map.Mode.TheVariants.{Keep}
@@ -17,6 +15,7 @@ use Rattle.linked_hash_map.proofs.Callers.Keys.{set_value-none}
 use Rattle.linked_hash_map.proofs.Callers.Cuts.{find-cut}
 use Rattle.linked_hash_map.proofs.Callers.Turns.{find-others}
 use Rattle.ordered_json.specs.Read.{put}
+use Rattle.ordered_json.specs.Room.{Map}
 use Rattle.ordered_json.specs.View.{view, items_view, members_view}
 use Rattle.ordered_json.specs.declared.value.Value.{Value, Array, Object, the_lemmas}
 
@@ -26,8 +25,13 @@ Entry = String Global × Value
 pub view-Array : (v : Vec Value Global) → view (Array v) ≡ array (items_view v.items)
 view-Array v = search (rules, the_lemmas)
 
-pub view-Object : (m : Box (LinkedMap (String Global) Value RandomState)) → view (Object m) ≡ object (members_view m.value.pairs)
+pub view-Object : (m : Box Map) → view (Object m) ≡ object (members_view m.value.pairs)
 view-Object m = search (rules, the_lemmas)
+
+-- the members of a value, as they are lent
+pub view-lent : {v : Value} {boxed : Box Map} {m : Map} → v ≡ Object boxed → m ≡ boxed.value → view v ≡ object (members_view m.pairs)
+view-lent {v} {boxed} {m} is lent =
+    ap view is ∙ view-Object boxed ∙ ap (λ (n : Map). object (members_view n.pairs)) (sym lent)
 
 -- what a replacement leaves of the members
 pub members_view-put : (ps : List Entry) (k : String Global) (v : Value) → IsDistinct string_eq (keys_of ps)

@@ -1,13 +1,15 @@
 -- What the edits by a pointer leave of a document, or why they refuse.
-use Rattle.std.specs.Prelude.{ℕ, zero, suc, Bool, true, false, cond, List, [], ◌∷◌, Option, Some, None, is_some}
+use Rattle.std.specs.Prelude.{ℕ, zero, suc, ◌+◌, nat_le, Bool, true, false, cond, List, [], ◌∷◌, length, Option, Some, None, is_some}
 use Rattle.std.specs.Prelude.{option_and_then, option_map, ok_or, unwrap_or, Result, Ok, Err}
 use Rattle.std.specs.Str.{bytes_eq}
 use Rattle.linked_hash_map.specs.Pairs.{last, without_last}
 use Rattle.json.specs.Json.{Json, array, object, Items, no_items, item, Members, no_members, member}
+use Rattle.json.specs.Tree.{depth}
 use Rattle.ordered_json.specs.Pointers.{names, index, by_kind, find_member, get_at, change_at}
 use Rattle.ordered_json.specs.Read.{put}
+use Rattle.ordered_json.specs.declared.read.TheConstants.{MAX_DEPTH}
 use Rattle.ordered_json.specs.declared.edit.EditError.{EditError}
-use Rattle.ordered_json.specs.declared.edit.EditError.TheVariants.{NotPointer, Absent, OutOfRange, Taken}
+use Rattle.ordered_json.specs.declared.edit.EditError.TheVariants.{NotPointer, Absent, OutOfRange, Taken, TooDeep}
 
 -- a document after an edit, or why it is refused
 abbrev pub Edited : Type 0
@@ -67,10 +69,18 @@ put_child u name j =
     by_kind (λ js. ok_or (option_map array (put_named u name js)) OutOfRange)
     (λ ms. Ok (object (put name u ms))) (Err Absent) j
 
+-- the document, with u at the end of names
+abbrev pub put_at : Json → List (List ℕ) → Json → Edited
+put_at u [] j = Ok u
+put_at u (name ∷ path) j = edit_parent (put_child u) (name ∷ path) j
+
+-- the same, unless u would make it too deep
+abbrev pub set_by : Json → List (List ℕ) → Json → Edited
+set_by u path j = cond (nat_le (length path + depth u) MAX_DEPTH) (put_at u path j) (Err TooDeep)
+
 -- the document, with u at a pointer
 abbrev pub set_at : List ℕ → Json → Json → Edited
-set_at [] u j = Ok u
-set_at (x ∷ text) u j = by_names (edit_parent (put_child u)) (names (x ∷ text)) j
+set_at text u j = by_names (set_by u) (names text) j
 
 -- ---- remove
 

@@ -1,13 +1,14 @@
 //! Edits of a document by pointers.
-ghost use Rattle.std.specs.Prelude.{◌≡◌, ◌≢◌, ◌∷◌, ◌++◌, [], IfErr, IfOk, Ok, OnErr, OnOk, Err, Some, string_bytes};
+ghost use Rattle.std.specs.Prelude.{◌≡◌, ◌≢◌, ◌∷◌, ◌++◌, [], IfErr, IfOk, Ok, OnErr, OnOk, Err, Some, map, string_bytes};
 ghost use Rattle.json.specs.Json.{array, object};
-ghost use Rattle.ordered_json.specs.Edits.{put_child, remove_at, set_at, without_child};
+ghost use Rattle.ordered_json.specs.Edits.{put_at, put_child, remove_at, set_at, set_by, without_child};
 ghost use Rattle.ordered_json.specs.Pointers.{child, pointed};
 ghost use Rattle.ordered_json.specs.View.{items_view, members_view, view};
 ghost use Rattle.ordered_json.specs.declared.edit.EditError.TheVariants.{NoRoom};
 
-use crate::edit_parent::{put_back, take_parent};
-use crate::pointer::index_of;
+use crate::depth::fits_below;
+use crate::edit_parent::{put_back, take_at, take_parent};
+use crate::pointer::{index_of, names_of};
 use crate::value::{Map, Value};
 use std::alloc::{AllocError, AllocFailed, Global};
 use std::error::Error;
@@ -24,6 +25,8 @@ pub enum EditError {
     OutOfRange,
     /// Another member of the object has the new name.
     Taken,
+    /// The document would nest deeper than [`MAX_DEPTH`](crate::MAX_DEPTH).
+    TooDeep,
     /// An allocation failed.
     NoRoom,
 }
@@ -35,6 +38,7 @@ impl fmt::Display for EditError {
             EditError::Absent => f.write_str("absent"),
             EditError::OutOfRange => f.write_str("no index of the array"),
             EditError::Taken => f.write_str("a name that is taken"),
+            EditError::TooDeep => f.write_str("too deep"),
             EditError::NoRoom => f.write_str("no memory for the edit"),
         }
     }
@@ -77,10 +81,12 @@ impl Value {
     /// Sets the value at a pointer: in place if it is there, else as the last member of its object,
     /// or behind the last item of its array, if the name is the length or `-`.
     ///
-    /// If the text is no pointer, or what the names before the last one lead to is absent, neither
-    /// an array nor an object, or an array that has no such index, or if an allocation fails, the
-    /// value comes back and nothing changes. It takes memory for the names, and for one member or
-    /// item more.
+    /// If the value cannot be set, it comes back with the reason, and nothing changes. The reasons
+    /// are in this order: the text is no pointer; the levels of the value and the names of the
+    /// pointer are more than [`MAX_DEPTH`](crate::MAX_DEPTH) together; what the names before the
+    /// last one lead to is absent, or neither an array nor an object; it is an array that has no
+    /// such index. An allocation may fail too: it takes memory for the names, and for one member or
+    /// item more. It is O(n) in the value, which it looks through.
     ///
     /// # Examples
     ///
@@ -105,17 +111,10 @@ impl Value {
         ensures value_back { IfErr result (λ refused. refused.value ≡ value) }
         ensures unchanged { OnErr result (view self.new ≡ view self.old) }
     {
-        if pointer.is_empty() {
-            *self = value;
-            return Ok(());
+        match names_of(alloc, pointer) {
+            Ok(path) => set_by_names(self, path, value),
+            Err(error) => Err(NotSet { value, error }),
         }
-        let (name, mut taken) = match take_parent(self, pointer, alloc) {
-            Ok(found) => found,
-            Err(error) => return Err(NotSet { value, error }),
-        };
-        let done = put_in(&mut taken.parent, name, value);
-        put_back(self, taken);
-        done
     }
 
     /// Removes the value at a pointer, and returns it. The others keep their order.
@@ -149,6 +148,48 @@ impl Value {
         put_back(self, taken);
         removed
     }
+}
+
+/// Sets the value that names lead to.
+fn set_by_names(document: &mut Value, path: Vec<String>, value: Value) -> Result<(), NotSet>
+    ensures document { OnOk result (set_by (view value) (map string_bytes path.items)
+        (view document.old) ≡ Ok (view document.new)) }
+    ensures why { IfErr result (λ refused. refused.error ≢ NoRoom → set_by (view value)
+        (map string_bytes path.items) (view document.old) ≡ Err refused.error) }
+    ensures value_back { IfErr result (λ refused. refused.value ≡ value) }
+    ensures unchanged { OnErr result (view document.new ≡ view document.old) }
+{
+    if !fits_below(path.len(), &value) {
+        return Err(NotSet {
+            value,
+            error: EditError::TooDeep,
+        });
+    }
+    put_by_names(document, path, value)
+}
+
+/// The same of a value that is not too deep.
+fn put_by_names(document: &mut Value, mut path: Vec<String>, value: Value) -> Result<(), NotSet>
+    ensures document { OnOk result (put_at (view value) (map string_bytes path.items)
+        (view document.old) ≡ Ok (view document.new)) }
+    ensures why { IfErr result (λ refused. refused.error ≢ NoRoom → put_at (view value)
+        (map string_bytes path.items) (view document.old) ≡ Err refused.error) }
+    ensures value_back { IfErr result (λ refused. refused.value ≡ value) }
+    ensures unchanged { OnErr result (view document.new ≡ view document.old) }
+{
+    let Some(name) = path.pop() else {
+        *document = value;
+        return Ok(());
+    };
+    let Some(mut taken) = take_at(document, path) else {
+        return Err(NotSet {
+            value,
+            error: EditError::Absent,
+        });
+    };
+    let done = put_in(&mut taken.parent, name, value);
+    put_back(document, taken);
+    done
 }
 
 /// Sets the child of a name.

@@ -1,5 +1,5 @@
 //! The value that an edit by the last name of a pointer takes place in.
-ghost use Rattle.std.specs.Prelude.{◌≡◌, ◌≢◌, ◌∷◌, ◌++◌, [], Err, IfErr, IfOk, List, OnErr, Some, map, string_bytes, ℕ};
+ghost use Rattle.std.specs.Prelude.{◌≡◌, ◌≢◌, ◌∷◌, ◌++◌, [], Err, IfErr, IfOk, List, IfSome, OnErr, Some, map, option_map, string_bytes, ℕ};
 ghost use Rattle.json.specs.Json.{Json, null};
 ghost use Rattle.ordered_json.specs.Edits.{Edited, by_names, edit_parent};
 ghost use Rattle.ordered_json.specs.Pointers.{change_at, get_at, names};
@@ -42,11 +42,26 @@ pub(crate) fn take_parent(
     let Some(name) = path.pop() else {
         return Err(EditError::Absent);
     };
-    let mut parent = Value::Null;
-    if !swap_at(document, path.as_slice(), &mut parent) {
-        return Err(EditError::Absent);
+    match take_at(document, path) {
+        Some(taken) => Ok((name, taken)),
+        None => Err(EditError::Absent),
     }
-    Ok((name, Taken { path, parent }))
+}
+
+/// Takes the value out that names lead to, and leaves `null`.
+pub(crate) fn take_at(document: &mut Value, path: Vec<String>) -> Option<Taken>
+    ensures path { IfSome result (λ taken. taken.path ≡ path) }
+    ensures value { option_map (λ taken. view taken.parent) result
+        ≡ get_at (map string_bytes path.items) (view document.old) }
+    ensures rest { view document.new
+        ≡ change_at (λ _. null) (map string_bytes path.items) (view document.old) }
+{
+    let mut parent = Value::Null;
+    if swap_at(document, path.as_slice(), &mut parent) {
+        Some(Taken { path, parent })
+    } else {
+        None
+    }
 }
 
 /// Puts a value back that was taken out, as it is now.

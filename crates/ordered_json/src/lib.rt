@@ -20,15 +20,18 @@
 //!
 //! # Costs and refusals
 //!
-//! A text is read and written in O(n). What is read nests at most [`MAX_DEPTH`] levels deep. A call
-//! that allocates returns a `Result`. Nothing panics.
+//! A text is read and written in O(n). What is read nests at most [`MAX_DEPTH`] levels deep, and
+//! [`set`](Value::set) keeps to it. A call that allocates returns a `Result`. Nothing panics.
 #![tactic(auto)]
 
 mod clone;
+mod depth;
 mod edit;
+mod edit_merge;
 mod edit_move;
 mod edit_parent;
 mod edit_rename;
+mod edit_sort;
 mod error;
 mod number;
 mod pointer;
@@ -37,6 +40,7 @@ mod value;
 mod write;
 
 pub use edit::{EditError, NotSet};
+pub use edit_merge::NotMerged;
 pub use error::ReadError;
 pub use number::Number;
 pub use read::{MAX_DEPTH, from_str};

@@ -12,7 +12,7 @@ use json::{Reader, Scratch, Token};
 use std::alloc::Global;
 use std::hash::RandomState;
 
-/// How deep arrays and objects nest at most in a text that is read.
+/// How deep arrays and objects nest at most in a text that is read, and below which a value is set.
 pub const MAX_DEPTH: usize = 127;
 
 /// Returns the value that a text has, in O(n). A name that comes twice in an object keeps its first

@@ -37,6 +37,8 @@ pub type Map = LinkedHashMap<String, Value, RandomState>;
 /// assert_eq!(rt; sails[1].as_number().map(Number::as_str), Some("2.5"));
 /// assert_eq!(rt; (sails[1].as_f64(), sails[1].as_bool()), (Some(2.5), None));
 /// assert_eq!(rt; (sails[0].is_array(), boat.is_object()), (false, true));
+/// assert_eq!(rt; (sails[0].is_number(), sails[0].is_string()), (true, false));
+/// assert!(rt; !boat.is_boolean());
 /// ```
 #[derive(Debug, Drop, PartialEq, Eq)]
 pub enum Value {
@@ -60,6 +62,27 @@ impl Value {
         ensures { result ≡ is_null (view self.now) }
     {
         matches!(self, Value::Null)
+    }
+
+    /// Returns `true` if the value is a boolean.
+    pub fn is_boolean(&self) -> bool
+        ensures { result ≡ is_some (as_bool (view self.now)) }
+    {
+        self.as_bool().is_some()
+    }
+
+    /// Returns `true` if the value is a number.
+    pub fn is_number(&self) -> bool
+        ensures { result ≡ is_some (as_number (view self.now)) }
+    {
+        self.as_number().is_some()
+    }
+
+    /// Returns `true` if the value is a string.
+    pub fn is_string(&self) -> bool
+        ensures { result ≡ is_some (as_str (view self.now)) }
+    {
+        self.as_str().is_some()
     }
 
     /// Returns `true` if the value is an array.

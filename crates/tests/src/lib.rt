@@ -1,4 +1,4 @@
-//! Tests of the ring, the map, the cache and the set that are no lines of `driver`.
+//! Tests of the ring, the map, the cache, the set and documents that are no lines of `driver`.
 #![tactic(auto)]
 
 #[cfg(test)]

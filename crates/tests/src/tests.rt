@@ -13,6 +13,7 @@ mod equivalents;
 mod failing_checks;
 mod formats;
 mod growths;
+mod json;
 mod references;
 mod refusals;
 mod rings;

@@ -1,7 +1,7 @@
 -- One chain of spots, once a node is put on it or removed.
-use Rattle.lhm_ring.proofs.Names.{List, None, Option, Some, [], ap, arith, false, refl, subst, sym, true, ℕ, ◌++◌, ◌∙◌, ◌∷◌, ◌≡◌, filter}
-use Rattle.lhm_ring.proofs.Names.{HasChain, IsChain, IsRearranged, PutsIn, Spot, is_in, Ptr}
-use Rattle.lhm_ring.proofs.lists.{RearrangedFilters.PutsIn-filter_in, RearrangedFilters.filter-PutsIn, Splits.SplitFirst}
+use Rattle.lhm_ring.proofs.Names.{List, None, Option, Some, [], ap, false, refl, subst, sym, true, ℕ, ◌++◌, ◌∙◌, ◌∷◌, ◌≡◌, HasChain}
+use Rattle.lhm_ring.proofs.Names.{IsChain, IsRearranged, PutsIn, Spot, is_in, Ptr}
+use Rattle.lhm_ring.proofs.lists.{Rearranged.IsRearranged-put, Rearranged.filter-PutsIn, Rearranged.no_puts, Splits.SplitFirst}
 
 abbrev pub ChainFirst : List Spot → Ptr → Type 0
 ChainFirst = SplitFirst (λ s. s.at)
@@ -23,17 +23,19 @@ pub HasChain-push : {h : Option Ptr} {n b : ℕ} (s : Spot) (xs ys : List Spot) 
 HasChain-push {n = n} {b = b} s xs ys c e t p = record {
   chain = s ∷ c.chain;
   linked = (refl, subst (λ (v : Option Ptr). IsChain v c.chain) (sym e) c.linked);
-  holds = record { without = filter (is_in n b) xs; puts = PutsIn-filter_in (is_in n b) s xs ys p t; others = c.holds };
+  holds = IsRearranged-put (is_in n b) s xs ys p t c.chain c.holds;
 }
 
 pub HasChain-other : {h : Option Ptr} {n b : ℕ} (s : Spot) (xs ys : List Spot) → HasChain h n b xs
     → is_in n b s ≡ false → PutsIn s xs ys → HasChain h n b ys
-HasChain-other s xs ys c t p = grind (arith, filter-PutsIn)
+HasChain-other {n = n} {b = b} s xs ys c t p =
+    record { chain = c.chain; linked = c.linked; holds = λ q. c.holds q ∙ filter-PutsIn (is_in n b) s xs ys p t q }
 
 -- the same, with the spot taken away
 pub HasChain-other_removed : {h : Option Ptr} {n b : ℕ} (s : Spot) (xs ys : List Spot)
     → HasChain h n b ys → is_in n b s ≡ false → PutsIn s xs ys → HasChain h n b xs
-HasChain-other_removed s xs ys c t p = grind (arith, filter-PutsIn)
+HasChain-other_removed {n = n} {b = b} s xs ys c t p =
+    record { chain = c.chain; linked = c.linked; holds = λ q. c.holds q ∙ sym (filter-PutsIn (is_in n b) s xs ys p t q) }
 
 -- a later spot is removed: the one before it is linked past it
 pub IsChain-linked_past : (h : Option Ptr) (done : List Spot) (y y' s : Spot) (rest : List Spot) → y'.at ≡ y.at → y'.link ≡ s.link
@@ -44,4 +46,4 @@ IsChain-linked_past h (d ∷ done) y y' s rest a l c = (c.0, IsChain-linked_past
 -- a chain of no spots
 pub none-unchained : (h : Option Ptr) (chain : List Spot) → IsChain h chain → IsRearranged chain [] → h ≡ None
 none-unchained h [] l r = l
-none-unchained h (x ∷ xs) l r = absurd r.puts
+none-unchained h (x ∷ xs) l r = absurd (no_puts x xs r)

@@ -1,9 +1,10 @@
 -- Filters: bits that are set and cleared, and the spots that they cover.
-use Rattle.lhm_ring.proofs.Names.{Bool, List, [], ap, arith, cond, eq-eqb, eqb, false, get_or, get_or-set_other, get_or-set_same, inl, inr}
-use Rattle.lhm_ring.proofs.Names.{length, length-set, map, refl, set, subst, sym, true, w16, ℕ, ◌%◌, ◌*◌, ◌++◌, ◌/◌, ◌<◌, ◌^◌, ◌∙◌, ◌∷◌}
-use Rattle.lhm_ring.proofs.Names.{◌≡◌, ◌≢◌, bit_or, filter, SetsBit, bit_of, bits_of, may_contain, CoversAll, PutsIn, Spot, entries}
-use Rattle.lhm_ring.proofs.Names.{is_in, spot, spots, Held, LacksKey, Word, cases_eq, eqb-false, get_or-map, length-map, map-set, bit_at}
-use Rattle.lhm_ring.proofs.indexes.Spots.{PutsIn-spots}
+use Rattle.lhm_ring.proofs.Names.{Bool, List, [], ap, arith, cond, count_by, eq-eqb, eqb, false, get_or, get_or-set_other, get_or-set_same}
+use Rattle.lhm_ring.proofs.Names.{inl, inr, not, ◌+◌, length, length-set, map, refl, set, subst, sym, true, w16, ℕ, ◌%◌, ◌*◌, ◌++◌, ◌/◌}
+use Rattle.lhm_ring.proofs.Names.{◌<◌, ◌^◌, ◌∙◌, ◌∷◌, ◌≡◌, ◌≢◌, bit_or, filter, SetsBit, bit_of, bits_of, may_contain, CoversAll, PutsIn}
+use Rattle.lhm_ring.proofs.Names.{Spot, entries, is_in, spot, spots, Held, LacksKey, Word, cases_eq, eqb-false, get_or-map, length-map}
+use Rattle.lhm_ring.proofs.Names.{map-set, bit_at}
+use Rattle.lhm_ring.proofs.{indexes.Spots.PutsIn-spots, lists.RearrangedCounts.count_by-cons, lists.RearrangedCounts.count_by-map}
 use Rattle.std.proofs.lemmas.Nat.Bits.{bit_at_set_other, bit_at_set_same}
 
 -- the bit of the hash in a word
@@ -86,35 +87,35 @@ may_contain-cleared words bucket other away = may_contain-set_other words bucket
 
 -- the spots whose bits are set
 module _ (words : List ℕ) where
-  pub CoversAll-put : (s : Spot) (xs ys : List Spot) → PutsIn s xs ys → may_contain words s.hash
-      ≡ true → CoversAll words xs → CoversAll words ys
-  CoversAll-put s xs [] p own c = absurd p
-  CoversAll-put s xs (y ∷ ys) (inl p) own c =
-      (ap (λ (v : Spot). may_contain words v.hash) (sym p.0) ∙ own, subst (λ (v : List Spot). CoversAll words v) p.1 c)
-  CoversAll-put s xs (y ∷ ys) (inr p) own c =
-      let d : CoversAll words (y ∷ p.rest) = subst (λ (v : List Spot). CoversAll words v) p.is c in
-      (d.0, CoversAll-put s p.rest ys p.puts own d.1)
+  abbrev misses : Spot → Bool
+  misses x = not (may_contain words x.hash)
 
-  pub CoversAll-others : (s : Spot) (xs ys : List Spot) → PutsIn s xs ys → CoversAll words ys → CoversAll words xs
-  CoversAll-others s xs [] p c = absurd p
-  CoversAll-others s xs (y ∷ ys) (inl p) c = subst (λ (v : List Spot). CoversAll words v) (sym p.1) c.1
-  CoversAll-others s xs (y ∷ ys) (inr p) c =
-      subst (λ (v : List Spot). CoversAll words v) (sym p.is) (c.0, CoversAll-others s p.rest ys p.puts c.1)
+  pub CoversAll-none : CoversAll words []
+  unfolding CoversAll
+  CoversAll-none = refl
 
-  pub may_contain-covered : (s : Spot) (xs ys : List Spot) → PutsIn s xs ys → CoversAll words ys → may_contain words s.hash ≡ true
-  may_contain-covered s xs [] p c = absurd p
-  may_contain-covered s xs (y ∷ ys) (inl p) c = ap (λ (v : Spot). may_contain words v.hash) p.0 ∙ c.0
-  may_contain-covered s xs (y ∷ ys) (inr p) c = may_contain-covered s p.rest ys p.puts c.1
+  module _ (s : Spot) (xs ys : List Spot) (p : PutsIn s xs ys) where
+    one : cond {A = ℕ} (misses s) 1 0 + count_by misses xs ≡ count_by misses ys
+    one = sym (count_by-cons misses s xs) ∙ p misses
+
+    pub CoversAll-put : may_contain words s.hash ≡ true → CoversAll words xs → CoversAll words ys
+    unfolding CoversAll
+    CoversAll-put own c = let e : cond {A = ℕ} (misses s) 1 0 ≡ 0 = ap (λ b. cond {A = ℕ} (not b) 1 0) own in omega (arith, one)
+
+    pub CoversAll-others : CoversAll words ys → CoversAll words xs
+    unfolding CoversAll
+    CoversAll-others c = omega (arith, one)
+
+    pub may_contain-covered : CoversAll words ys → may_contain words s.hash ≡ true
+    unfolding CoversAll
+    may_contain-covered c = grind (arith, one)
 
   -- the hashes are what counts
   CoversAll-hashes : (xs ys : List Spot) → map (λ s. s.hash) xs ≡ map (λ s. s.hash) ys → CoversAll words xs → CoversAll words ys
-  CoversAll-hashes [] [] e c = tt
-  CoversAll-hashes [] (y ∷ ys) e c = absurd (cc)
-  CoversAll-hashes (x ∷ xs) [] e c = absurd (cc)
-  CoversAll-hashes (x ∷ xs) (y ∷ ys) e c =
-      let head : x.hash ≡ y.hash = cc in
-      let tail : map (λ s. s.hash) xs ≡ map (λ s. s.hash) ys = cc in
-      (ap (may_contain words) (sym head) ∙ c.0, CoversAll-hashes xs ys tail c.1)
+  unfolding CoversAll
+  CoversAll-hashes xs ys e c =
+      let q : ℕ → Bool = λ h. not (may_contain words h) in
+      sym (count_by-map q (λ (s : Spot). s.hash) ys) ∙ ap (count_by q) (sym e) ∙ count_by-map q (λ (s : Spot). s.hash) xs ∙ c
 
   module _ {K V : Type 0} where
     hashes-spots : (xs : List (Held (K × V))) → map (λ s. s.hash) (spots xs) ≡ map (λ t. t.hash) (entries xs)
@@ -137,10 +138,17 @@ module _ (words : List ℕ) where
         in
         grind arith
 
+-- a step along the spots
+CoversAll-step : (old new : List ℕ) (x : Spot) (xs : List Spot) → (may_contain old x.hash ≡ true → may_contain new x.hash ≡ true)
+    → (CoversAll old xs → CoversAll new xs) → CoversAll old (x ∷ xs) → CoversAll new (x ∷ xs)
+CoversAll-step old new x xs more rest c =
+    CoversAll-put new x xs (x ∷ xs) (λ p. refl) (more (may_contain-covered old x xs (x ∷ xs) (λ p. refl) c))
+    (rest (CoversAll-others old x xs (x ∷ xs) (λ p. refl) c))
+
 pub CoversAll-more : (old new : List ℕ) → ((hash : ℕ) → may_contain old hash ≡ true → may_contain new hash ≡ true) → (xs : List Spot)
     → CoversAll old xs → CoversAll new xs
-CoversAll-more old new more [] c = tt
-CoversAll-more old new more (x ∷ xs) c = (more x.hash c.0, CoversAll-more old new more xs c.1)
+CoversAll-more old new more [] c = CoversAll-none new
+CoversAll-more old new more (x ∷ xs) c = CoversAll-step old new x xs (more x.hash) (CoversAll-more old new more xs) c
 
 false-cond : (b : Bool) (s : Spot) (rest : List Spot) → cond b (s ∷ rest) rest ≡ [] → b ≡ false
 false-cond b s rest e = grind arith
@@ -151,8 +159,8 @@ none-cond b s rest e = grind arith
 -- the bits of a bucket without spots are cleared
 pub CoversAll-cleared : (old new : List ℕ) (n b : ℕ) → ((hash : ℕ) → hash % n ≢ b → may_contain new hash ≡ may_contain old hash)
     → (xs : List Spot) → filter (is_in n b) xs ≡ [] → CoversAll old xs → CoversAll new xs
-CoversAll-cleared old new n b same [] none c = tt
+CoversAll-cleared old new n b same [] none c = CoversAll-none new
 CoversAll-cleared old new n b same (x ∷ xs) none c =
     let out = false-cond (is_in n b x) x (filter (is_in n b) xs) none in
     let rest = none-cond (is_in n b x) x (filter (is_in n b) xs) none in
-    (same x.hash (eqb-false (x.hash % n) b out) ∙ c.0, CoversAll-cleared old new n b same xs rest c.1)
+    CoversAll-step old new x xs (λ e. same x.hash (eqb-false (x.hash % n) b out) ∙ e) (CoversAll-cleared old new n b same xs rest) c

@@ -1,31 +1,18 @@
 -- What the ring's own changes leave of the index: a node put last, unlinked, moved, or its value
 -- written.
-use Rattle.lhm_ring.proofs.Names.{Bool, List, Option, [], ap, append-nil, arith, false, length, refl, subst, sym, true, ◌++◌, ◌∙◌, ◌∷◌, ◌≡◌}
-use Rattle.lhm_ring.proofs.Names.{filter, HasChains, IsRearranged, PutsIn, Spot, is_in, spot, spots, Held, change_at, rekeyed, revalued}
-use Rattle.lhm_ring.proofs.Names.{set_held_values, Ptr}
-use Rattle.lhm_ring.proofs.{indexes.Spots.PutsIn-spots, lists.Rearranged.IsRearranged-again}
-use Rattle.lhm_ring.proofs.lists.RearrangedFilters.{PutsIn-filter_in, filter-PutsIn}
+use Rattle.lhm_ring.proofs.Names.{Bool, List, Option, [], ap, append-nil, arith, length, refl, subst, sym, ◌++◌, ◌∙◌, ◌∷◌, ◌≡◌, HasChains}
+use Rattle.lhm_ring.proofs.Names.{IsRearranged, PutsIn, Spot, is_in, spot, spots, Held, change_at, rekeyed, revalued, set_held_values, Ptr}
+use Rattle.lhm_ring.proofs.{indexes.Spots.PutsIn-spots, lists.Rearranged.IsRearranged-filter, lists.Rearranged.none-IsRearranged}
 
--- a spot that stands elsewhere in the list
-HasChains-elsewhere : (heads : List (Option Ptr)) (s : Spot) (zs xs ys : List Spot) → PutsIn s zs xs
-    → PutsIn s zs ys → HasChains heads xs → HasChains heads ys
-HasChains-elsewhere heads s zs xs ys p q h = record {
+-- the same spots in another order
+HasChains-rearranged : (heads : List (Option Ptr)) (xs ys : List Spot) → IsRearranged xs ys → HasChains heads xs → HasChains heads ys
+HasChains-rearranged heads xs ys r h = record {
   chains = λ b l.
       let c = h.chains b l in
-      let f : Spot → Bool = is_in (length heads) b in
-      let choose : (t : Bool) → f s ≡ t → IsRearranged c.chain (filter f ys) =
-      elim [
-        | true ↦ λ e. IsRearranged-again s c.chain (filter f zs) (filter f xs) (filter f ys) c.holds
-            (PutsIn-filter_in f s zs xs p e) (PutsIn-filter_in f s zs ys q e)
-        | false ↦ λ e. subst (λ (v : List Spot). IsRearranged c.chain v)
-            (filter-PutsIn f s zs xs p e ∙ sym (filter-PutsIn f s zs ys q e)) c.holds
-      ] in
-      record { chain = c.chain; linked = c.linked; holds = choose (f s) refl };
-  none = λ z. absurd (some s zs xs p (h.none z));
+      let t : Spot → Bool = is_in (length heads) b in
+      record { chain = c.chain; linked = c.linked; holds = λ p. c.holds p ∙ IsRearranged-filter t xs ys r p };
+  none = λ z. none-IsRearranged ys (subst (λ (v : List Spot). IsRearranged v ys) (h.none z) r);
 }
-  where
-    some : (s : Spot) (zs xs : List Spot) → PutsIn s zs xs → xs ≡ [] → ⊥
-    some s zs xs p e = subst (λ (v : List Spot). PutsIn s zs v) e p
 
 -- moved to the back
 pub PutsIn-last : {K V : Type 0} (others : List (Held (K × V))) (x : Held (K × V))
@@ -37,7 +24,8 @@ pub HasChains-moved : {K V : Type 0} (heads : List (Option Ptr)) (before : List 
     (x : Held (K × V)) (after : List (Held (K × V))) {moved : List Spot}
     → PutsIn (spot x) (spots (before ++ after)) moved
     → HasChains heads (spots (before ++ x ∷ after)) → HasChains heads moved
-HasChains-moved heads before x after puts h = grind (arith, HasChains-elsewhere, PutsIn-spots)
+HasChains-moved heads before x after {moved} puts h =
+    HasChains-rearranged heads (spots (before ++ x ∷ after)) moved (λ p. sym (PutsIn-spots before x after p) ∙ puts p) h
 
 -- the value at p written
 pub spots-value : {K V : Type 0} (p : Ptr) (w : V) (nodes : List (Held (K × V))) → spots (change_at p (revalued w) nodes) ≡ spots nodes

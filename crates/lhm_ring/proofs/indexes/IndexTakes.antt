@@ -2,29 +2,14 @@
 use Rattle.lhm_ring.proofs.Names.{Bool, List, None, Option, Some, [], ap, append_assoc, arith, get_or, length, set, subst, sym, true, ℕ}
 use Rattle.lhm_ring.proofs.Names.{◌%◌, ◌++◌, ◌<◌, ◌∙◌, ◌∷◌, ◌≡◌, filter, HasChains, IsChain, IsLast, IsOnChain, IsRearranged, OfNodeAt}
 use Rattle.lhm_ring.proofs.Names.{PutsIn, Spot, is_in, spot, spots, AtHeld, Held, IsHeld, SplitLast, linked_to, mod-lt, Ptr}
-use Rattle.lhm_ring.proofs.indexes.Spots.{IsHeld-spot, NodeOf, NodeOf-spot, OfNodeAt-spot, PutsIn-spots_of}
+use Rattle.lhm_ring.proofs.indexes.Spots.{IsHeld-spot, OfNodeAt-spot, OnNode, OnNode-rearranged, PutsIn-spots_at, PutsIn-spots_of}
 use Rattle.lhm_ring.proofs.indexes.WholeIndex.{HasChains-take_first, HasChains-take_next}
-use Rattle.lhm_ring.proofs.lists.Rearranged.{IsRearranged-less_middle, PutsIn-later}
-use Rattle.lhm_ring.proofs.lists.RearrangedFilters.{PutsIn-filter_in, PutsPassing-rearranged}
+use Rattle.lhm_ring.proofs.lists.Rearranged.{IsRearranged-less_middle, IsRearranged-more_middle, PutsIn-filter_in, no_puts}
 
 -- the heads have every node except the one at p
 pub record HasOtherChains {K V : Type 0} (heads : List (Option Ptr)) (nodes : List (Held (K × V))) (p : Ptr) : Type 0 where
   pub held : IsHeld nodes p
   pub others : HasChains heads (spots (held.before ++ held.after))
-
--- a spot of a chain is a held node's
-pub record OnNode {K V : Type 0} (n b : ℕ) (s : Spot) (nodes : List (Held (K × V))) : Type 0 where
-  pub ws : List Spot
-  pub puts : PutsIn s ws (spots nodes)
-  pub passes : is_in n b s ≡ true
-  pub of : NodeOf s ws nodes
-
-pub OnNode-rearranged : {K V : Type 0} (n b : ℕ) (done : List Spot) (s : Spot) (rest : List Spot) (nodes : List (Held (K × V)))
-    → IsRearranged (done ++ s ∷ rest) (filter (is_in n b) (spots nodes)) → OnNode n b s nodes
-OnNode-rearranged n b done s rest nodes h = grind (arith, PutsPassing-rearranged, NodeOf-spot)
-
-no_puts : {X : Type 0} (x : X) (xs : List X) → PutsIn x xs [] → ⊥
-no_puts x xs h = h
 
 -- with a spot there is a bucket
 pub length-HasChains : {heads : List (Option Ptr)} {xs : List Spot} (s : Spot) (ws : List Spot)
@@ -70,15 +55,16 @@ module _ {K V : Type 0} {heads : List (Option Ptr)} {hash : ℕ} {nodes : List (
       let n : ℕ = length heads in
       let bucket : ℕ = hash % n in
       let o : OnNode n bucket w.here nodes = OnNode-on_chain in
+      let others : List Spot = spots (o.of.before ++ o.of.after) in
+      let puts : PutsIn w.here others (spots nodes) = PutsIn-spots_at o.of in
       let none : w.done ++ w.here ∷ w.rest ≡ w.here ∷ w.rest =
       ap (λ (v : List Spot). v ++ w.here ∷ w.rest) (none-IsLast before w.done e w.behind) in
-      let i = HasChains-take_first bucket w.here w.rest o.ws h
-      (mod-lt hash (length-HasChains w.here o.ws h o.puts)) (subst (IsChain (get_or heads bucket None)) none w.linked)
-      (subst (λ (v : List Spot). IsRearranged v (filter (is_in n bucket) (spots nodes))) none w.holds) o.puts in
+      let i = HasChains-take_first bucket w.here w.rest others h
+      (mod-lt hash (length-HasChains w.here others h puts)) (subst (IsChain (get_or heads bucket None)) none w.linked)
+      (subst (λ (v : List Spot). IsRearranged v (filter (is_in n bucket) (spots nodes))) none w.holds) o.passes puts in
       record {
         held = IsHeld-spot o.of w.at_is;
-        others = subst (λ (v : Option Ptr). HasChains (set heads bucket v) (spots (o.of.split.before ++ o.of.split.after)))
-            (sym (OfNodeAt-spot (λ s. link ≡ s.link) o.of w.at_is l)) (subst (HasChains (set heads bucket w.here.link)) o.of.others i);
+        others = subst (λ v. HasChains (set heads bucket v) others) (sym (OfNodeAt-spot (λ s. link ≡ s.link) o.of w.at_is l)) i;
       }
 
   module _ {q : Ptr} (e : before ≡ Some q) where
@@ -100,29 +86,37 @@ module _ {K V : Type 0} {heads : List (Option Ptr)} {hash : ℕ} {nodes : List (
         let b : HasBefore w.done q = HasBefore-on_chain w e in
         let o : OnNode n bucket w.here nodes = OnNode-on_chain in
         let y : OnNode n bucket b.node nodes = OnNode-before in
-        let z : IsHeld nodes q = IsHeld-spot y.of b.at_is in
-        let y' : Spot = spot (linked_to link z.node) in
-        let put' = subst (λ (v : List Spot). PutsIn y' v (spots nodes')) (sym y.of.others)
-        (PutsIn-spots_of z.before (linked_to link z.node) z.after (sets z.before z.node z.after z.is z.at_is)) in
-        let less = IsRearranged-less_middle b.before b.node (w.here ∷ w.rest) (filter f y.ws) (filter f (spots nodes))
-        (PutsIn-filter_in f b.node y.ws (spots nodes) y.puts y.passes) (IsRearranged-before w e) in
-        let t = PutsPassing-rearranged f b.before w.here w.rest y.ws less in
-        let s = PutsIn-later w.here y' t.without y.ws (spots nodes') t.puts put' in
-        let of : NodeOf w.here s.0 nodes' = NodeOf-spot w.here s.0 nodes' s.1 in
-        let i = HasChains-take_next h (mod-lt hash (length-HasChains w.here o.ws h o.puts)) (record {
-          done = b.before;
-          y = b.node;
-          s = w.here;
-          rest = w.rest;
-          linked = subst (IsChain (get_or heads bucket None)) (append-before w e) w.linked;
-          holds = IsRearranged-before w e;
-          y' = y';
-          at_is = ap (λ v. v.at) y.of.split.at_is;
-          hash_is = ap (λ v. v.hash) y.of.split.at_is;
-          link_is = OfNodeAt-spot (λ s. link ≡ s.link) o.of w.at_is l;
-          zs = y.ws;
-          was = y.puts;
-          is = put';
-          others = s.1;
-        }) in
-        record { held = IsHeld-spot of w.at_is; others = subst (HasChains heads) of.others i }
+        let k = y.of in
+        let zs : List Spot = spots (k.before ++ k.after) in
+        let y' : Spot = spot (linked_to link k.node) in
+        let was : PutsIn b.node zs (spots nodes) = PutsIn-spots_at k in
+        let put' : PutsIn y' zs (spots nodes') = PutsIn-spots_of k.before (linked_to link k.node) k.after
+        (sets k.before k.node k.after k.is (ap (λ v. v.at) k.at_is ∙ b.at_is)) in
+        let same : is_in n bucket y' ≡ true = ap (λ v. is_in n bucket v) k.at_is ∙ y.passes in
+        let less = IsRearranged-less_middle b.before b.node (w.here ∷ w.rest) (filter f zs) (filter f (spots nodes))
+        (PutsIn-filter_in f b.node zs (spots nodes) was y.passes) (IsRearranged-before w e) in
+        let more = IsRearranged-more_middle b.before y' (w.here ∷ w.rest) (filter f zs) (filter f (spots nodes'))
+        (PutsIn-filter_in f y' zs (spots nodes') put' same) less in
+        let s : OnNode n bucket w.here nodes' = OnNode-rearranged n bucket (b.before ++ y' ∷ []) w.here w.rest nodes'
+        (subst (λ v. IsRearranged v (filter f (spots nodes'))) (sym (append_assoc b.before (y' ∷ []) (w.here ∷ w.rest))) more) in
+        record {
+          held = IsHeld-spot s.of w.at_is;
+          others = HasChains-take_next {xs = spots nodes} {xs' = spots nodes'} h (mod-lt hash (length-HasChains b.node zs h was)) (record {
+            done = b.before;
+            y = b.node;
+            s = w.here;
+            rest = w.rest;
+            linked = subst (IsChain (get_or heads bucket None)) (append-before w e) w.linked;
+            holds = IsRearranged-before w e;
+            y' = y';
+            at_is = ap (λ v. v.at) k.at_is;
+            hash_is = ap (λ v. v.hash) k.at_is;
+            link_is = OfNodeAt-spot (λ s. link ≡ s.link) o.of w.at_is l;
+            zs = zs;
+            y_passes = y.passes;
+            s_passes = s.passes;
+            was = was;
+            is = put';
+            others = PutsIn-spots_at s.of;
+          });
+        }

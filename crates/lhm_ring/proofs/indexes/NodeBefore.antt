@@ -4,9 +4,9 @@ use Rattle.lhm_ring.proofs.Names.{refl, subst, sym, ℕ, ◌%◌, ◌++◌, ◌+
 use Rattle.lhm_ring.proofs.Names.{IsOnChain, IsRearranged, OfNodeAt, Spot, is_in, spot, spots, AtHeld, Held, IsHeld, SplitAt, State}
 use Rattle.lhm_ring.proofs.Names.{linked_to, mod-lt, Ptr}
 use Rattle.lhm_ring.proofs.indexes.Chains.{ChainFirst, ChainFirst-some, IsChain-tail, none-IsChain}
-use Rattle.lhm_ring.proofs.indexes.IndexTakes.{OnNode, OnNode-rearranged, length-HasChains}
-use Rattle.lhm_ring.proofs.indexes.Spots.{IsHeld-spot, OfNodeAt-spot, PutsIn-bucket, PutsIn-spots_of, length-in_bucket}
-use Rattle.lhm_ring.proofs.lists.Rearranged.{IsRearranged-less_middle, IsRearranged-more_middle, SplitAround-rearranged}
+use Rattle.lhm_ring.proofs.{indexes.IndexTakes.length-HasChains, indexes.Spots.SplitAround-rearranged, indexes.Spots.length-in_bucket}
+use Rattle.lhm_ring.proofs.indexes.Spots.{IsHeld-spot, OfNodeAt-spot, OnNode, OnNode-rearranged, PutsIn-bucket, PutsIn-spots_of}
+use Rattle.lhm_ring.proofs.lists.Rearranged.{IsRearranged-less_middle, IsRearranged-more_middle}
 
 -- the chain of the held node x: us come before it there, and vs after it
 pub record OnItsChain {K V : Type 0} (heads : List (Option Ptr)) (hash : ℕ) (nodes : List (Held (K × V))) (x : Held (K × V)) : Type 0 where

@@ -5,10 +5,9 @@ use Rattle.lhm_ring.proofs.Names.{◌≤◌, filter, HasChain, HasChains, IsChai
 use Rattle.lhm_ring.proofs.Names.{count_with_hash, is_in, spot, spots, Held, IsHeld, Compares, DifferAll, FindsKey, FindsNone, IsPart}
 use Rattle.lhm_ring.proofs.Names.{eqb-true, false≢true, ne_eqb, length-map, count_by-le-length, length-filter, Ptr}
 use Rattle.lhm_ring.proofs.indexes.Chains.{ChainFirst, ChainFirst-some, IsChain-tail, none-IsChain}
-use Rattle.lhm_ring.proofs.indexes.IndexTakes.{IsHeld-on_chain, OnNode-on_chain, OnNode-rearranged}
-use Rattle.lhm_ring.proofs.indexes.Spots.{IsHeld-spot, OfNodeAt-spot, PutsIn-bucket}
-use Rattle.lhm_ring.proofs.lists.Rearranged.{SplitAround-rearranged}
-use Rattle.lhm_ring.proofs.lists.RearrangedCounts.{count_by-IsRearranged, count_by-append, count_by-cons, length-IsRearranged}
+use Rattle.lhm_ring.proofs.indexes.{IndexTakes.IsHeld-on_chain, IndexTakes.OnNode-on_chain, Spots.OnNode-rearranged}
+use Rattle.lhm_ring.proofs.indexes.Spots.{IsHeld-spot, OfNodeAt-spot, PutsIn-bucket, SplitAround-rearranged}
+use Rattle.lhm_ring.proofs.lists.{RearrangedCounts.count_by-append, RearrangedCounts.count_by-cons, Rearranged.length-IsRearranged}
 use Rattle.std.proofs.lemmas.Bool.Decides.{eqb_tells}
 
 -- ---- counts in the chain
@@ -35,11 +34,11 @@ count_with_hash-filter n hash (x ∷ xs) =
 
 pub count_with_hash-chain : (chain xs : List Spot) (n hash : ℕ) → IsRearranged chain (filter (is_in n (hash % n)) xs)
     → count_with_hash chain hash ≡ count_with_hash xs hash
-count_with_hash-chain chain xs n hash h = grind (arith, count_by-IsRearranged, count_with_hash-filter)
+count_with_hash-chain chain xs n hash h = h (λ v. eqb v.hash hash) ∙ count_with_hash-filter n hash xs
 
 pub length-chain : (chain xs : List Spot) (n hash : ℕ)
     → IsRearranged chain (filter (is_in n (hash % n)) xs) → length chain ≡ count_in_bucket xs n hash
-length-chain chain xs n hash h = grind (arith, length-IsRearranged, length-filter)
+length-chain chain xs n hash h = length-IsRearranged chain (filter (is_in n (hash % n)) xs) h ∙ length-filter (is_in n (hash % n)) xs
 
 -- ---- the search
 
@@ -93,7 +92,12 @@ module _ {K V : Type 0} {is_key : K → Bool} {hash : ℕ} {heads : List (Option
 
   -- one more is visited
   visited-more : visited + 1 + length IsOnChain-part.rest ≡ count_in_bucket (spots nodes) (length heads) hash
-  visited-more = grind (arith, length-chain, length-append)
+  visited-more =
+      let all : length (w.done ++ IsOnChain-part.here ∷ IsOnChain-part.rest) ≡ count_in_bucket (spots nodes) (length heads) hash =
+      length-chain _ (spots nodes) (length heads) hash IsOnChain-part.holds in
+      let sum : length (w.done ++ IsOnChain-part.here ∷ IsOnChain-part.rest) ≡ length w.done + (1 + length IsOnChain-part.rest) =
+      length-append w.done (IsOnChain-part.here ∷ IsOnChain-part.rest) ∙ omega arith in
+      omega (arith, w.visited_is)
 
   pub visited-below : visited + 1 ≤ length nodes
   visited-below = grind (arith, count_by-le-length, visited-more, length-map)

@@ -1,61 +1,127 @@
 -- The spots of nodes, and the node of a spot.
-use Rattle.lhm_ring.proofs.Names.{Bool, List, [], ap, arith, eq-eqb, inl, inr, length, refl, sym, ℕ, ◌%◌, ◌++◌, ◌∙◌, ◌∷◌, ◌≡◌, ◌≤◌, filter}
-use Rattle.lhm_ring.proofs.Names.{IsRearranged, OfNodeAt, PutsIn, Spot, is_in, spot, spots, Held, IsHeld, SplitAt, length-map}
-use Rattle.lhm_ring.proofs.Names.{count_by-le-length, length-filter, Ptr}
-use Rattle.lhm_ring.proofs.lists.{Rearranged.PutsIn-there, RearrangedCounts.length-IsRearranged, RearrangedFilters.PutsIn-filter_in}
+use Rattle.lhm_ring.proofs.Names.{Bool, List, None, Option, Some, [], ap, arith, cond, eq-eqb, false, length, refl, subst, sym, true, ℕ}
+use Rattle.lhm_ring.proofs.Names.{◌%◌, ◌&&◌, ◌++◌, ◌+◌, ◌==◌, ◌∙◌, ◌∷◌, ◌≡◌, ◌≤◌, count_by, eqb-true, filter, same_ptr, IsRearranged}
+use Rattle.lhm_ring.proofs.Names.{OfNodeAt, PutsIn, Spot, is_in, spot, spots, Held, IsHeld, SplitAt, count_by-le-length, length-filter}
+use Rattle.lhm_ring.proofs.Names.{length-map, map-append, Ptr}
+use Rattle.lhm_ring.proofs.lists.{Apart.same_ptr-equal, Apart.same_ptr-reflexive, Splits.SplitAround}
+use Rattle.lhm_ring.proofs.lists.Rearranged.{PutsIn-filter_in, PutsIn-middle, length-IsRearranged}
+use Rattle.lhm_ring.proofs.lists.RearrangedCounts.{count_by-append, count_by-cons, count_by-filter, count_by-map}
 
-pub PutsIn-spots : {K V : Type 0} (before : List (Held (K × V))) (x : Held (K × V)) (after : List (Held (K × V)))
-    → PutsIn (spot x) (spots (before ++ after)) (spots (before ++ x ∷ after))
-PutsIn-spots [] x after = inl (refl, refl)
-PutsIn-spots (y ∷ before) x after = grind (arith, PutsIn-there, PutsIn-spots before x after)
-
--- the same of nodes that are known by an equation, of all of them and of those of a bucket
+-- nodes that are known by an equation: their spots, of all of them and of those of a bucket
 module _ {K V : Type 0} {nodes : List (Held (K × V))} (before : List (Held (K × V))) (x : Held (K × V)) (after : List (Held (K × V)))
     (is : nodes ≡ before ++ x ∷ after) where
   pub PutsIn-spots_of : PutsIn (spot x) (spots (before ++ after)) (spots nodes)
-  PutsIn-spots_of = grind (arith, PutsIn-spots)
+  PutsIn-spots_of p =
+      ap (λ ss. count_by p (spot x ∷ ss)) (map-append spot before after) ∙ PutsIn-middle (spots before) (spot x) (spots after) p
+      ∙ ap (count_by p) (sym (ap spots is ∙ map-append spot before (x ∷ after)))
 
   pub PutsIn-bucket : (n : ℕ) {hash : ℕ} → hash ≡ x.hash
       → PutsIn (spot x) (filter (is_in n (hash % n)) (spots (before ++ after))) (filter (is_in n (hash % n)) (spots nodes))
-  PutsIn-bucket n e = grind (arith, PutsIn-filter_in, PutsIn-spots_of, eq-eqb)
+  PutsIn-bucket n {hash} e =
+      PutsIn-filter_in (is_in n (hash % n)) (spot x) (spots (before ++ after)) (spots nodes) PutsIn-spots_of
+      (eq-eqb _ _ (ap (λ h. h % n) (sym e)))
 
--- the node of a spot, and the spots of the others
-pub record NodeOf {K V : Type 0} (s : Spot) (ws : List Spot) (nodes : List (Held (K × V))) : Type 0 where
-  pub split : SplitAt spot nodes s
-  pub others : ws ≡ spots (split.before ++ split.after)
+pub PutsIn-spots : {K V : Type 0} (before : List (Held (K × V))) (x : Held (K × V)) (after : List (Held (K × V)))
+    → PutsIn (spot x) (spots (before ++ after)) (spots (before ++ x ∷ after))
+PutsIn-spots before x after = PutsIn-spots_of before x after refl
 
-abbrev pub IsHeld-spot : {K V : Type 0} {s : Spot} {ws : List Spot} {nodes : List (Held (K × V))}
-    {p : Ptr} → NodeOf s ws nodes → s.at ≡ p → IsHeld nodes p
-IsHeld-spot n at = let k = n.split in
-    record {
-      before = k.before;
-      node = k.node;
-      after = k.after;
-      is = k.is;
-      at_is = ap (λ v. v.at) k.at_is ∙ at;
-    }
+-- whether two spots are the same
+abbrev same_link : Option Ptr → Option Ptr → Bool
+same_link None None = true
+same_link None (Some q) = false
+same_link (Some p) None = false
+same_link (Some p) (Some q) = same_ptr p q
 
-pub NodeOf-spot : {K V : Type 0} (s : Spot) (ws : List Spot) (nodes : List (Held (K × V))) → PutsIn s ws (spots nodes) → NodeOf s ws nodes
-NodeOf-spot s ws [] h = absurd h
-NodeOf-spot s ws (x ∷ nodes) (inl h) =
-    record {
-      split = record { before = []; node = x; after = nodes; is = refl; at_is = sym h.0 };
-      others = h.1;
-    }
-NodeOf-spot s ws (x ∷ nodes) (inr h) =
-    let i : NodeOf s h.rest nodes = NodeOf-spot s h.rest nodes h.puts in
-    let k = i.split in
-    record {
-      split = record { before = x ∷ k.before; node = k.node; after = k.after; is = ap (λ v. x ∷ v) k.is; at_is = k.at_is };
-      others = h.is ∙ ap (λ v. spot x ∷ v) i.others;
-    }
+same_link-equal : (a b : Option Ptr) → same_link a b ≡ true → a ≡ b
+same_link-equal None None e = refl
+same_link-equal None (Some q) e = absurd cc
+same_link-equal (Some p) None e = absurd cc
+same_link-equal (Some p) (Some q) e = ap Some (same_ptr-equal p q e)
+
+same_link-reflexive : (a : Option Ptr) → same_link a a ≡ true
+same_link-reflexive None = refl
+same_link-reflexive (Some p) = same_ptr-reflexive p
+
+abbrev same_spot : Spot → Spot → Bool
+same_spot a b = same_ptr a.at b.at && ((a.hash == b.hash) && same_link a.link b.link)
+
+same_spot-equal : (a b : Spot) → same_spot a b ≡ true → a ≡ b
+same_spot-equal a b e = grind (arith, same_ptr-equal, same_link-equal, eqb-true)
+
+same_spot-reflexive : (a : Spot) → same_spot a a ≡ true
+same_spot-reflexive a = grind (arith, same_ptr-reflexive, same_link-reflexive, eq-eqb)
+
+and-left : (a b : Bool) → (a && b) ≡ true → a ≡ true
+and-left a b e = grind arith
+
+and-right : (a b : Bool) → (a && b) ≡ true → b ≡ true
+and-right a b e = grind arith
+
+-- an element whose spot is s, which passes a test
+pub record Counted {X : Type 0} (f : X → Spot) (t : Spot → Bool) (xs : List X) (s : Spot) : Type 0 where
+  pub of : SplitAt f xs s
+  pub passes : t s ≡ true
+
+module _ {X : Type 0} (f : X → Spot) (t : Spot → Bool) (s : Spot) where
+  abbrev hits : X → Bool
+  hits x = t (f x) && same_spot s (f x)
+
+  Counted-some : (xs : List X) → (count_by hits xs ≡ 0 → ⊥) → Counted f t xs s
+  Counted-some [] h = absurd (h refl)
+  Counted-some (x ∷ xs) h = (elim (hits x) as (λ b. hits x ≡ b → Counted f t (x ∷ xs) s) [
+    | true ↦ λ e.
+        let same : s ≡ f x = same_spot-equal s (f x) (and-right (t (f x)) _ e) in
+        record {
+          of = record { before = []; node = x; after = xs; is = refl; at_is = sym same };
+          passes = ap t same ∙ and-left (t (f x)) _ e;
+        }
+    | false ↦ λ e.
+        let none : cond {A = ℕ} (hits x) 1 0 ≡ 0 = ap (λ b. cond {A = ℕ} b 1 0) e in
+        let i = Counted-some xs (λ z. h (count_by-cons hits x xs ∙ (λ j. none j + z j))) in
+        record {
+          of = record { before = x ∷ i.of.before; node = i.of.node; after = i.of.after; is = ap (λ v. x ∷ v) i.of.is; at_is = i.of.at_is };
+          passes = i.passes;
+        }
+  ]) refl
+
+-- each of a list is in another that is the same in another order
+hits-own : (s : Spot) (us vs : List Spot) → count_by (same_spot s) (us ++ s ∷ vs) ≡ 0 → ⊥
+hits-own s us vs z =
+    let own : cond {A = ℕ} (same_spot s s) 1 0 ≡ 1 = ap (λ b. cond {A = ℕ} b 1 0) (same_spot-reflexive s) in
+    omega (arith, own, z, count_by-append (same_spot s) us (s ∷ vs), count_by-cons (same_spot s) s vs)
+
+pub SplitAround-rearranged : (xs : List Spot) (x : Spot) (ws zs : List Spot) → IsRearranged xs zs → PutsIn x ws zs → SplitAround xs x
+SplitAround-rearranged xs x ws zs h p =
+    let c = Counted-some (λ v. v) (λ v. true) x xs (λ z. hits-own x [] ws (p _ ∙ sym (h _) ∙ z)) in
+    record { before = c.of.before; after = c.of.after; is = c.of.is ∙ ap (λ v. c.of.before ++ v ∷ c.of.after) c.of.at_is }
+
+-- a spot of a chain is a held node's
+abbrev pub OnNode : {K V : Type 0} → ℕ → ℕ → Spot → List (Held (K × V)) → Type 0
+OnNode n b s nodes = Counted spot (is_in n b) nodes s
+
+pub OnNode-rearranged : {K V : Type 0} (n b : ℕ) (done : List Spot) (s : Spot) (rest : List Spot) (nodes : List (Held (K × V)))
+    → IsRearranged (done ++ s ∷ rest) (filter (is_in n b) (spots nodes)) → OnNode n b s nodes
+OnNode-rearranged n b done s rest nodes h =
+    Counted-some spot (is_in n b) s nodes (λ z. hits-own s done rest
+    (h _ ∙ count_by-filter _ (is_in n b) (spots nodes) ∙ count_by-map (hits (λ v. v) (is_in n b) s) spot nodes ∙ z))
+
+abbrev pub IsHeld-spot : {K V : Type 0} {s : Spot} {nodes : List (Held (K × V))} {p : Ptr} → SplitAt spot nodes s → s.at ≡ p
+    → IsHeld nodes p
+IsHeld-spot k at = record { before = k.before; node = k.node; after = k.after; is = k.is; at_is = ap (λ v. v.at) k.at_is ∙ at }
+
+pub PutsIn-spots_at : {K V : Type 0} {s : Spot} {nodes : List (Held (K × V))} (k : SplitAt spot nodes s)
+    → PutsIn s (spots (k.before ++ k.after)) (spots nodes)
+PutsIn-spots_at {nodes = nodes} k =
+    subst (λ (v : Spot). PutsIn v (spots (k.before ++ k.after)) (spots nodes)) k.at_is (PutsIn-spots_of k.before k.node k.after k.is)
 
 -- what is true of the spot of the node at p
-pub OfNodeAt-spot : {K V : Type 0} {s : Spot} {ws : List Spot} {nodes : List (Held (K × V))} {p : Ptr} (Q : Spot → Type 0)
-    → NodeOf s ws nodes → s.at ≡ p → OfNodeAt nodes p (λ x. Q (spot x)) → Q s
+pub OfNodeAt-spot : {K V : Type 0} {s : Spot} {nodes : List (Held (K × V))} {p : Ptr} (Q : Spot → Type 0)
+    → SplitAt spot nodes s → s.at ≡ p → OfNodeAt nodes p (λ x. Q (spot x)) → Q s
 OfNodeAt-spot Q n at f = grind arith
 
 -- a chain is no longer than the list of the nodes
 pub length-in_bucket : {K V : Type 0} (q : Spot → Bool) (chain : List Spot) (nodes : List (Held (K × V)))
     → IsRearranged chain (filter q (spots nodes)) → length chain ≤ length nodes
-length-in_bucket q chain nodes h = grind (arith, length-IsRearranged, length-filter, count_by-le-length, length-map)
+length-in_bucket q chain nodes h =
+    let a = length-IsRearranged chain (filter q (spots nodes)) h in
+    omega (arith, a, length-filter q (spots nodes), count_by-le-length q (spots nodes), length-map nodes spot)

@@ -2,14 +2,15 @@
 use Rattle.lhm_ring.proofs.Names.{List, None, Option, Some, [], ap, arith, get_or, get_or-set_same, length, length-set, refl, set, subst}
 use Rattle.lhm_ring.proofs.Names.{sym, ℕ, ◌%◌, ◌++◌, ◌<◌, ◌∙◌, ◌∷◌, ◌≡◌, ◌≢◌, filter, is_some, BucketState, HasNoChain, SetsBit}
 use Rattle.lhm_ring.proofs.Names.{may_contain, CoversAll, HasChains, HoldsOthers, Indexes, IsRearranged, PutsIn, Spot, entries, is_in, spot}
-use Rattle.lhm_ring.proofs.Names.{spots, Held, IsSome, Ptr}
+use Rattle.lhm_ring.proofs.Names.{IsChain, spots, Held, IsSome, Ptr}
 use Rattle.lhm_ring.proofs.indexes.{Chains.none-IsChain, Filters.may_contain-covered, IndexMoves.HasChains-moved, IndexTakes.HasOtherChains}
-use Rattle.lhm_ring.proofs.indexes.Filters.{CoversAll-cleared, CoversAll-entries, CoversAll-more, CoversAll-others, CoversAll-put}
-use Rattle.lhm_ring.proofs.indexes.Filters.{SetsBit-keeps, may_contain-cleared}
+use Rattle.lhm_ring.proofs.indexes.Filters.{CoversAll-cleared, CoversAll-entries, CoversAll-more, CoversAll-none, CoversAll-others}
+use Rattle.lhm_ring.proofs.indexes.Filters.{CoversAll-put, SetsBit-keeps, may_contain-cleared}
+use Rattle.lhm_ring.proofs.lists.Rearranged.{none-IsRearranged}
 use Rattle.lhm_ring.proofs.indexes.{Spots.PutsIn-spots, WholeIndex.HasChains-none, WholeIndex.HasChains-put, WholeIndex.get_or-none_indexed}
 
 pub Indexes-none : (i : BucketState) → HasNoChain i → length i.words ≡ length i.heads → Indexes i []
-Indexes-none i empty count = record { chains = HasChains-none i.heads empty; covers = tt; count = count }
+Indexes-none i empty count = record { chains = HasChains-none i.heads empty; covers = CoversAll-none i.words; count = count }
 
 pub HasNoChain-indexed : (i : BucketState) → Indexes i [] → HasNoChain i
 HasNoChain-indexed i h = get_or-none_indexed i.heads h.chains
@@ -17,7 +18,11 @@ HasNoChain-indexed i h = get_or-none_indexed i.heads h.chains
 pub Indexes-put : {old : BucketState} (new : BucketState) (s : Spot) {xs : List Spot} (ys : List Spot) → Indexes old xs
     → 0 < length old.heads → s.link ≡ get_or old.heads (s.hash % length old.heads) None → PutsIn s xs ys
     → new.heads ≡ set old.heads (s.hash % length old.heads) (Some s.at) → SetsBit old.words new.words s.hash → Indexes new ys
-Indexes-put new s ys h some link p heads words = grind (arith, HasChains-put, CoversAll-put, CoversAll-more, SetsBit-keeps, length-set)
+Indexes-put {old} new s {xs} ys h some link p heads words = record {
+  chains = subst (λ v. HasChains v ys) (sym heads) (HasChains-put old.heads s xs ys h.chains some link p);
+  covers = CoversAll-put new.words s xs ys p words.set (CoversAll-more old.words new.words (SetsBit-keeps words) xs h.covers);
+  count = words.count ∙ h.count ∙ sym (ap length heads ∙ length-set old.heads _ _);
+}
 
 -- the bits of all but one
 module _ {K V : Type 0} (words : List ℕ) (before : List (Held (K × V))) (x : Held (K × V)) (after : List (Held (K × V))) where
@@ -37,13 +42,13 @@ pub Indexes-moved : {K V : Type 0} (i : BucketState) (before : List (Held (K × 
     → Indexes i (spots (before ++ x ∷ after)) → Indexes i moved
 Indexes-moved i before x after puts h = grind (arith, HasChains-moved, CoversAll-moved)
 
-none-IsRearranged : (chain ys : List Spot) → chain ≡ [] → IsRearranged chain ys → ys ≡ []
-none-IsRearranged chain ys e r = grind arith
-
 -- a bucket without a head has no spot
 filter-no_head : (heads : List (Option Ptr)) (b : ℕ) (xs : List Spot) → HasChains heads xs → b < length heads → get_or heads b None ≡ None
     → filter (is_in (length heads) b) xs ≡ []
-filter-no_head heads b xs h within none = grind (arith, none-IsRearranged, none-IsChain)
+filter-no_head heads b xs h within none =
+    let c = h.chains b within in
+    let empty = none-IsChain c.chain (subst (λ (v : Option Ptr). IsChain v c.chain) none c.linked) in
+    none-IsRearranged _ (subst (λ (v : List Spot). IsRearranged v (filter (is_in (length heads) b) xs)) empty c.holds)
 
 -- the node at p was removed from its chain
 module _ {K V : Type 0} {nodes : List (Held (K × V))} {p : Ptr} where

@@ -1,5 +1,5 @@
 -- A ring with its index, after the ring's own calls.
-use Rattle.lhm_ring.proofs.Names.{List, [], ap, arith, length, refl, subst, ◌++◌, ◌+◌, ◌<◌, ◌∙◌, ◌≡◌, BucketState, HasNoChain, buckets}
+use Rattle.lhm_ring.proofs.Names.{List, [], ap, arith, length, refl, subst, sym, ◌++◌, ◌+◌, ◌<◌, ◌∙◌, ◌≡◌, BucketState, HasNoChain, buckets}
 use Rattle.lhm_ring.proofs.Names.{Indexes, IsIndexed, PutsIn, spot, spots, Held, IsHeld, State, with_value, length-map, Ptr}
 use Rattle.lhm_ring.proofs.indexes.{BucketCounts.buckets-at_least, BucketCounts.buckets-zero, IndexMoves.spots-value}
 use Rattle.lhm_ring.proofs.indexes.WholeBuckets.{Indexes-moved, Indexes-none}
@@ -7,7 +7,10 @@ use Rattle.lhm_ring.proofs.indexes.WholeBuckets.{Indexes-moved, Indexes-none}
 -- nothing is held
 module _ {K V : Type 0} (i : BucketState) (s : State (K × V)) where
   pub IsIndexed-none : HasNoChain i → length i.words ≡ length i.heads → s.held ≡ [] → length i.heads ≡ buckets s.spares → IsIndexed i s
-  IsIndexed-none h count e n = grind (arith, Indexes-none)
+  IsIndexed-none h count e n = record {
+    indexes = subst (λ hs. Indexes i (spots hs)) (sym e) (Indexes-none i h count);
+    count = let z : length s.held ≡ 0 = ap length e in n ∙ ap buckets (omega arith);
+  }
 
   pub IsIndexed-new : i.heads ≡ [] → i.words ≡ [] → s.held ≡ [] → s.spares ≡ 0 → IsIndexed i s
   IsIndexed-new h w e z = grind (arith, IsIndexed-none, buckets-zero)

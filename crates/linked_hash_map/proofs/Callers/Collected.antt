@@ -188,3 +188,6 @@ module _ {K V : Type 0} {eq : K → K → Bool} (laws : IsEquivalence eq) where
       ∙ append_assoc (filter again old) (stored ∷ []) come
       ∙ ap (λ ks. ks ++ stored ∷ come) (filter-filter again (λ j. not (eq item.0 j))
       (λ j. not (is_some (find eq (item ∷ items) j))) (not_again items item) (keys_of pairs))
+
+-- insertions one after another, as lists that are inserted one after another
+pub ruleset insertions = (insert_each-append, insert_each-snoc)

@@ -5,8 +5,8 @@ use Rattle.std.proofs.Common.{option_map, unwrap_or, refl, sym, ap, subst, ◌�
 use Rattle.std.proofs.lemmas.List.Sums.{count_by_more_yes, count_by_more_no, count_by-le-length}
 use Rattle.std.specs.{Prelude.if◌then◌else◌, List.count_by, List.list_any, Map.keys_of, Cmp.IsEquivalence}
 use Rattle.linked_hash_map.specs.{Pairs.value_at, Pairs.set_or_push, Pairs.ActsAs, Updates.Updates}
-use Rattle.linked_hash_map.proofs.{Callers.Lookups.value_at-same, pairs.CountedItems.count_by-set_or_push, pairs.CountedItems.count-lt-length}
-use Rattle.linked_hash_map.proofs.pairs.CountedItems.{keys_of-set_or_push_first_seen}
+use Rattle.linked_hash_map.proofs.Callers.Lookups.{value_at-same}
+use Rattle.linked_hash_map.proofs.pairs.CountedItems.{count_by-set_or_push, count-lt-length, keys_of-set_or_push_first_seen}
 
 -- each key has as its count of how many items it is the key, which is 0 if it has none; the keys stand
 -- in the order in which they first come
@@ -130,3 +130,9 @@ module _ {K : Type 0} {eq : K → K → Bool} (laws : IsEquivalence eq) {start n
   pub CountsKnown-fits : (limit n : ℕ) → ((q : K) (m : ℕ) → value_at eq start q ≡ Some m → m + length items < limit)
       → value_at eq now k ≡ Some n → n + 1 < limit
   CountsKnown-fits limit n fits own = grind (arith, count_by-le-length, length-take)
+
+-- maps that count items, in the order in which these first come
+pub ruleset counts = (CountsItems-start, CountsItems-counted, CountsItems-below)
+
+-- counts of items that the map has
+pub ruleset known_counts = (CountsKnown-start, CountsKnown-counted, CountsKnown-fits)

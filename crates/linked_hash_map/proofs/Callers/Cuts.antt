@@ -1,9 +1,10 @@
 -- For callers: pairs cut at one of them, and what each call says of it, in words of the cut.
 use Rattle.std.proofs.Common.{◌≡◌, ◌+◌, Bool, false, cond, not, List, [], ◌∷◌, ◌++◌, length, reverse, Some, None, refl, sym, ap, ◌∙◌, subst}
-use Rattle.std.proofs.{Common.arith, Common.append_assoc, Common.length-append, Math.Seq.take-append_seam, Math.Seq.drop-append_seam}
-use Rattle.std.proofs.{lemmas.List.reverse-append, lemmas.List.Sorted.IsPermutation-map, lemmas.List.Sorted.IsPermutation-reverse}
-use Rattle.std.proofs.{lemmas.Map.Keys.IsDistinct-tail, lemmas.Map.Keys.IsDistinct-IsPermutation}
-use Rattle.std.specs.{Cmp.IsEquivalence, List.IsDistinct, Map.keys_of}
+use Rattle.std.proofs.Common.{ℕ, nat_eq, true, is_some, slice_get, append-nil, arith, append_assoc, length-append}
+use Rattle.std.proofs.{Math.Seq.take-append_seam, Math.Seq.drop-append_seam, lemmas.List.reverse-append}
+use Rattle.std.proofs.lemmas.{List.Sorted.IsPermutation-map, List.Sorted.IsPermutation-reverse}
+use Rattle.std.proofs.lemmas.Map.Keys.{IsDistinct-tail, IsDistinct-IsPermutation}
+use Rattle.std.specs.{Cmp.IsEquivalence, Cmp.nat_eq_equiv, List.IsDistinct, Map.keys_of}
 use Rattle.linked_hash_map.specs.Pairs.{find, from, without, count_before, to_behind, to_before, to_after}
 use Rattle.linked_hash_map.proofs.Callers.{Keys.without-absent, Turns.find-others}
 
@@ -110,3 +111,45 @@ module _ {K V : Type 0} {eq : K → K → Bool} (laws : IsEquivalence eq) where
 
     pub from-second_reverse : from eq (reverse (xs ++ one ∷ two ∷ ys)) two.0 ≡ two ∷ one ∷ reverse xs
     from-second_reverse = grind (arith, between, from-cut_reverse, differ, reverse-append)
+
+-- a pair right before another, and moves of one of them
+module _ {V : Type 0} (xs ys : List (ℕ × V)) (one two : ℕ × V) (distinct : IsDistinct nat_eq (keys_of (xs ++ one ∷ two ∷ ys))) where
+  pub neighbors_number : (xs ++ one ∷ two ∷ ys ≡ xs ++ one ∷ two ∷ ys)
+      × (is_some (find nat_eq (xs ++ one ∷ two ∷ ys) one.0) ≡ true)
+      × (is_some (find nat_eq (xs ++ one ∷ two ∷ ys) two.0) ≡ true)
+      × (slice_get (keys_of (from nat_eq (xs ++ one ∷ two ∷ ys) one.0)) 1 ≡ Some two.0)
+      × (slice_get (keys_of (from nat_eq (reverse (xs ++ one ∷ two ∷ ys)) two.0)) 1 ≡ Some one.0)
+      × (to_before nat_eq nat_eq (xs ++ one ∷ two ∷ ys) two.0 one.0 ≡ xs ++ two ∷ one ∷ ys)
+  neighbors_number = (
+    refl,
+    ap is_some (find-cut nat_eq_equiv xs one (two ∷ ys) distinct),
+    ap is_some (find-second nat_eq_equiv xs one two ys distinct),
+    ap (λ (ps : List (ℕ × V)). slice_get (keys_of ps) 1) (from-cut nat_eq_equiv xs one (two ∷ ys) distinct),
+    ap (λ (ps : List (ℕ × V)). slice_get (keys_of ps) 1) (from-second_reverse nat_eq_equiv xs one two ys distinct),
+    to_before-cut nat_eq_equiv xs one [] two ys distinct,
+  )
+
+-- neighbors, of which one is moved before the other, at numbers
+pub ruleset neighbors = (neighbors_number)
+
+-- a pair that is put behind the others, and then right behind one of them
+module _ {V : Type 0} (xs ys : List (ℕ × V)) (one new : ℕ × V)
+    (distinct : IsDistinct nat_eq (keys_of ((xs ++ one ∷ ys) ++ new ∷ []))) where
+  pub placed_number : ((xs ++ one ∷ ys) ++ new ∷ [] ≡ (xs ++ one ∷ ys) ++ new ∷ [])
+      × (is_some (find nat_eq ((xs ++ one ∷ ys) ++ new ∷ []) one.0) ≡ true)
+      × (is_some (find nat_eq ((xs ++ one ∷ ys) ++ new ∷ []) new.0) ≡ true)
+      × (to_after nat_eq nat_eq ((xs ++ one ∷ ys) ++ new ∷ []) new.0 one.0 ≡ xs ++ one ∷ new ∷ ys)
+  placed_number =
+      let whole : (xs ++ one ∷ ys) ++ new ∷ [] ≡ xs ++ one ∷ (ys ++ new ∷ []) = append_assoc xs (one ∷ ys) (new ∷ []) in
+      let differ : IsDistinct nat_eq (keys_of (xs ++ one ∷ (ys ++ new ∷ []))) =
+      subst (λ (ps : List (ℕ × V)). IsDistinct nat_eq (keys_of ps)) whole distinct in (
+        refl,
+        ap (λ (ps : List (ℕ × V)). is_some (find nat_eq ps one.0)) whole
+            ∙ ap is_some (find-cut nat_eq_equiv xs one (ys ++ new ∷ []) differ),
+        ap is_some (find-cut nat_eq_equiv (xs ++ one ∷ ys) new [] distinct),
+        ap (λ (ps : List (ℕ × V)). to_after nat_eq nat_eq ps new.0 one.0) whole ∙ to_after-cut nat_eq_equiv xs one ys new [] differ
+            ∙ ap (λ (ps : List (ℕ × V)). xs ++ one ∷ new ∷ ps) (append-nil ys),
+      )
+
+-- a new pair that is put right behind another, at numbers
+pub ruleset placed = (placed_number)

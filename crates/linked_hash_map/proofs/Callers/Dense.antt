@@ -118,3 +118,11 @@ module _ {K : Type 0} {eq : K → K → Bool} (laws : IsEquivalence eq) where
       × ((k : K) (n : ℕ) → value_at eq pairs j ≡ Some n → value_at eq pairs k ≡ Some n
       → eq j k ≡ true)
   eq-dense_found pairs j dense found = eq-dense pairs j dense
+
+-- maps that number their keys from 0 on
+pub ruleset dense = (values_of_dense_push, value_at_dense_each, eq-dense)
+
+-- less of this: that the numbers are below the count, and that no two keys have one
+pub ruleset dense_below = (values_of_dense_push, value_at_dense_each)
+
+pub ruleset dense_apart = (values_of_dense_push, eq-dense_found)

@@ -1,9 +1,11 @@
 -- For callers: what is true of each pair, as that its value is right, still is after a call.
 use Rattle.std.proofs.Common.{◌≡◌, Bool, true, false, cond, not, List, [], ◌∷◌, ◌++◌, arith, is_some, Option, Some, option_to_list, IfSome}
-use Rattle.std.proofs.lemmas.List.Elements.{All-nil, All-cons, All-head, All-tail, All-append, All-push, All-filter}
-use Rattle.std.{proofs.Common.refl, proofs.Common.subst, specs.Cmp.IsEquivalence, specs.List.All, specs.Map.lookup_entry}
+use Rattle.std.proofs.Common.{◌⊎◌, ℕ, ◌<◌, inl, inr, refl, sym, ap, subst, get_or, length, nat_eq}
+use Rattle.std.proofs.lemmas.List.Elements.{All-nil, All-cons, All-head, All-tail, All-append, All-push, All-filter, All-weaker}
+use Rattle.std.proofs.lemmas.{Bool.eqb-true, List.Elements.All-contains_itself}
+use Rattle.std.specs.{Cmp.IsEquivalence, Cmp.nat_eq_equiv, List.All, List.Contains, Map.lookup_entry}
 use Rattle.linked_hash_map.specs.Pairs.{key_or, find, without, to_back, to_back_as_is, to_front, set_value, set_or_push, put}
-use Rattle.linked_hash_map.{specs.declared.map.Mode.Mode, proofs.Callers.Lookups.eq-stored}
+use Rattle.linked_hash_map.{specs.declared.map.Mode.Mode, proofs.Callers.Lookups.eq-stored, proofs.Callers.Lookups.eq-find}
 
 module _ {K V : Type 0} (P : K × V → Type 0) where
   -- of the pair that a test finds
@@ -61,3 +63,37 @@ module _ {K V : Type 0} (P : K × V → Type 0) where
   pub All-put : {eq : K → K → Bool} → IsEquivalence eq → (mode : Mode) (pairs : List (K × V)) (k : K) (v : V)
       → All P pairs → ((key : K) → eq k key ≡ true → P (key, v)) → All P (put eq mode pairs k v)
   All-put laws mode = grind (arith, All-to_back, All-set_or_push)
+
+-- each pair after a call was there, or is the one that was put in
+module _ {V : Type 0} (pairs : List (ℕ × V)) (k : ℕ) where
+  pub in-found_number : (pair : ℕ × V) → find nat_eq pairs k ≡ Some pair
+      → (find nat_eq pairs k ≡ find nat_eq pairs k) × (k ≡ pair.0) × Contains pairs pair
+  in-found_number pair found = (
+    refl,
+    eqb-true k pair.0 (eq-find nat_eq_equiv pairs k pair found),
+    All-find (Contains pairs) nat_eq pairs k (All-contains_itself pairs) pair found,
+  )
+
+  module _ (i : ℕ) (d : ℕ × V) where
+    pub in-without_number : i < length (without nat_eq pairs k)
+        → (get_or (without nat_eq pairs k) i d ≡ get_or (without nat_eq pairs k) i d) × Contains pairs (get_or (without nat_eq pairs k) i d)
+    in-without_number within = (refl, All-without (Contains pairs) nat_eq pairs k (All-contains_itself pairs) i d within)
+
+    pub in-to_back_as_is_number : i < length (to_back_as_is nat_eq pairs k)
+        → (get_or (to_back_as_is nat_eq pairs k) i d ≡ get_or (to_back_as_is nat_eq pairs k) i d)
+        × Contains pairs (get_or (to_back_as_is nat_eq pairs k) i d)
+    in-to_back_as_is_number within = (refl, All-to_back_as_is (Contains pairs) nat_eq pairs k (All-contains_itself pairs) i d within)
+
+    pub in-put_number : (mode : Mode) (v : V) → i < length (put nat_eq mode pairs k v)
+        → (get_or (put nat_eq mode pairs k v) i d ≡ get_or (put nat_eq mode pairs k v) i d)
+        × ((get_or (put nat_eq mode pairs k v) i d ≡ (k, v)) ⊎ Contains pairs (get_or (put nat_eq mode pairs k v) i d))
+    in-put_number mode v within = (
+      refl,
+      All-put (λ (p : ℕ × V). (p ≡ (k, v)) ⊎ Contains pairs p) nat_eq_equiv mode pairs k v
+          (All-weaker (Contains pairs) (λ (p : ℕ × V). (p ≡ (k, v)) ⊎ Contains pairs p) (λ p there. inr there) pairs
+          (All-contains_itself pairs))
+          (λ key same. inl (ap (λ (j : ℕ). (j, v)) (sym (eqb-true k key same)))) i d within,
+    )
+
+-- what is true of each pair, at numbers
+pub ruleset each_pair = (in-found_number, in-without_number, in-to_back_as_is_number, in-put_number)

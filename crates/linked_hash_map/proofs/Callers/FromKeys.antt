@@ -14,10 +14,10 @@ module _ {A K V : Type 0} (eq : A → K → Bool) where
       by_test false rest = rest
 
   -- there are no more of them than of all, and at least the one that the key finds
-  pub length-from : (pairs : List (K × V)) (k : A) → (from eq pairs k ≡ from eq pairs k)
-      × (length (from eq pairs k) ≤ length pairs) × (is_some (find eq pairs k) ≡ true → 0 < length (from eq pairs k))
-  length-from [] k = (refl, omega arith, λ there. grind arith)
-  length-from (pair ∷ pairs) k = let rest = length-from pairs k in (refl, grind (arith, rest), λ there. grind (arith, rest, there))
+  pub length-from : (pairs : List (K × V)) (k : A)
+      → (length (from eq pairs k) ≤ length pairs) × (is_some (find eq pairs k) ≡ true → 0 < length (from eq pairs k))
+  length-from [] k = (omega arith, λ there. grind arith)
+  length-from (pair ∷ pairs) k = let rest = length-from pairs k in (grind (arith, rest), λ there. grind (arith, rest, there))
 
   -- of two lists, one after the other, of which the first has the key, or has not
   pub from-append : (pairs others : List (K × V)) (k : A) {pair : K × V} → find eq pairs k ≡ Some pair

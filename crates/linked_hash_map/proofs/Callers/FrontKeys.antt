@@ -4,7 +4,7 @@ use Rattle.std.proofs.Common.{option_to_list, cond, refl, ap, ◌∙◌, nat_eq,
 use Rattle.std.specs.{Cmp.nat_eq_equiv, Map.keys_of}
 use Rattle.linked_hash_map.specs.Pairs.{find, value_at, without, without_last, to_front, put}
 use Rattle.linked_hash_map.specs.{declared.map.Mode.Mode, Updates.Updates}
-use Rattle.linked_hash_map.proofs.Callers.{Rules.keys_of-put_to_front, Ends.take-keys_of, Lookups.eq-find}
+use Rattle.linked_hash_map.proofs.Callers.{NumberKeys.keys_of-put_to_front, Ends.take-keys_of, Lookups.eq-find}
 
 -- the keys, as the first n of them, if there are no more
 pub keys_of-front_few : {V : Type 0} (mode : Mode) (pairs : List (ℕ × V)) (k : ℕ) (v : V) (n : ℕ) {inserted moved : List (ℕ × V)}

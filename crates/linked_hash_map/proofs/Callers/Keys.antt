@@ -161,3 +161,12 @@ module _ {K V : Type 0} (pairs : List (K × V)) where
       by_list : (ps : List (K × V)) → first (keys_of ps) ≡ option_map (λ pair. pair.0) (first ps)
       by_list [] = refl
       by_list (pair ∷ ps) = refl
+
+-- the keys after an insertion in Touch, in words of the keys alone
+pub ruleset stored_keys = (keys_of-to_back, key_or-find)
+
+-- keys at the ends
+pub ruleset end_keys = (keys_of-append, keys_of-without_first, keys_of-without_last, first-keys_of)
+
+-- a key that is absent, put in behind the others, in either mode
+pub ruleset absent_keys = (put-absent)

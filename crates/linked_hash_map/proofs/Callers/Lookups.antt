@@ -1,6 +1,7 @@
 -- For callers: what a map has at a key after each call.
-use Rattle.std.proofs.Common.{◌≡◌, ◌-◌, Bool, true, false, cond, not, List, [], ◌∷◌, ◌++◌, length, length-append, drop, remove, slice_get}
-use Rattle.std.proofs.Common.{filter, Option, Some, None, is_some, option_map, refl, sym, ap, ◌∙◌, true≢false, arith}
+use Rattle.std.proofs.Common.{◌≡◌, ℕ, ◌-◌, Bool, true, false, cond, not, List, [], ◌∷◌, ◌++◌, length, length-append}
+use Rattle.std.proofs.Common.{drop, remove, slice_get, nat_eq, filter, Option, Some, None, is_some, option_map, refl, sym, ap}
+use Rattle.std.proofs.Common.{◌∙◌, true≢false, arith}
 use Rattle.std.specs.{List.IsDistinct, Option.option_or, Map.lookup_entry, Map.keys_of, Cmp.IsEquivalence}
 use Rattle.linked_hash_map.specs.declared.map.{Mode.Mode, Mode.TheVariants.Touch}
 use Rattle.linked_hash_map.specs.Pairs.{last, key_or, find, value_at, without, to_back, set_value, set_or_push, put}
@@ -218,3 +219,13 @@ module _ {K V : Type 0} {eq : K → K → Bool} (laws : IsEquivalence eq) where
   pub drop-first : (pairs : List (K × V)) (pair : K × V) → IsDistinct eq (keys_of pairs)
       → slice_get pairs 0 ≡ Some pair → drop 1 pairs ≡ without eq pairs pair.0
   drop-first pairs pair distinct there = remove-first pairs ∙ sym (without-own laws pairs distinct 0 pair there)
+
+-- a new number at the back, for each number that is looked up
+pub value_at-append_number : {V : Type 0} (pairs : List (ℕ × V)) (k : ℕ) (v : V)
+    → (pairs ++ (k, v) ∷ [] ≡ pairs ++ (k, v) ∷ [])
+    × ((q : ℕ) → value_at nat_eq (pairs ++ (k, v) ∷ []) q
+    ≡ option_or (value_at nat_eq pairs q) (cond (nat_eq q k) (Some v) None))
+value_at-append_number pairs k v = (refl, λ q. value_at-append nat_eq pairs k q v)
+
+-- what a number has after one that is new went to the back
+pub ruleset new_numbers = (value_at-append_number)

@@ -5,8 +5,9 @@ use Rattle.std.proofs.Common.{refl, sym, ap, ◌∙◌, is_some, length, length-
 use Rattle.std.proofs.lemmas.{List.append-nil, List.take-append-drop, Map.Keys.IsDistinct-tail}
 use Rattle.std.specs.{Cmp.IsEquivalence, List.IsDistinct, Map.keys_of, Option.option_or}
 use Rattle.linked_hash_map.specs.Pairs.{key_or, find, without, to_back_as_is, to_front}
-use Rattle.linked_hash_map.proofs.Callers.Lookups.{eq-find, find-same, find-without, find-to_back, lookup_entry-append}
-use Rattle.linked_hash_map.proofs.{Callers.Keys.length-without, Callers.Keys.without-absent, pairs.Calls.filter-none, pairs.Indexes.others_differ}
+use Rattle.linked_hash_map.proofs.Callers.{Keys.length-without, Keys.without-absent, Lookups.eq-find, Lookups.find-same}
+use Rattle.linked_hash_map.proofs.Callers.Lookups.{find-without, find-to_back, lookup_entry-append}
+use Rattle.linked_hash_map.proofs.pairs.{Calls.filter-none, Indexes.others_differ}
 
 -- of a key that is absent
 module _ {A K V : Type 0} (eq : A → K → Bool) (pairs : List (K × V)) (k : A) (none : find eq pairs k ≡ None) where
@@ -56,13 +57,13 @@ length-option_to_list : {X : Type 0} (o : Option X) → length (option_to_list o
 length-option_to_list None = refl
 length-option_to_list (Some x) = refl
 
-module _ {K V : Type 0} {eq : K → K → Bool} (laws : IsEquivalence eq) (pairs : List (K × V)) (k : K) (distinct : IsDistinct eq (keys_of pairs))
-  where
-    pub length-to_back_as_is : length (to_back_as_is eq pairs k) ≡ length pairs
-    length-to_back_as_is = grind (arith, length-append, length-option_to_list, length-without)
+module _ {K V : Type 0} {eq : K → K → Bool} (laws : IsEquivalence eq) (pairs : List (K × V)) (k : K)
+    (distinct : IsDistinct eq (keys_of pairs)) where
+  pub length-to_back_as_is : length (to_back_as_is eq pairs k) ≡ length pairs
+  length-to_back_as_is = grind (arith, length-append, length-option_to_list, length-without)
 
-    pub length-to_front : length (to_front eq pairs k) ≡ length pairs
-    length-to_front = grind (arith, length-append, length-option_to_list, length-without)
+  pub length-to_front : length (to_front eq pairs k) ≡ length pairs
+  length-to_front = grind (arith, length-append, length-option_to_list, length-without)
 
 module _ {K V : Type 0} {eq : K → K → Bool} (laws : IsEquivalence eq) (q : K) where
   -- what neither of two lists has

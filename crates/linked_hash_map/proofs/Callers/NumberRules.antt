@@ -1,7 +1,7 @@
 -- For callers: more sets of lemmas that an attribute names, at numbers: an insertion taken back,
 -- pairs of another map, moves across others, writes, and visits. `Rules` says how they are written.
-use Rattle.std.proofs.Common.{◌≡◌, ◌+◌, ◌<◌, ◌≤◌, take, ℕ, Bool, true, false, List, [], ◌∷◌, ◌++◌, length, Some, None, is_some, nat_eq, refl, sym, ap, ap₂, cond, option_map}
-use Rattle.std.proofs.Common.{◌∙◌, arith, append_assoc, length-append}
+use Rattle.std.proofs.Common.{◌≡◌, ◌+◌, ◌<◌, ◌≤◌, ℕ, Bool, true, false, List, [], ◌∷◌, ◌++◌, length, take, Some, None, is_some, nat_eq}
+use Rattle.std.proofs.Common.{cond, option_map, refl, sym, ap, ap₂, ◌∙◌, arith, append_assoc, length-append}
 use Rattle.std.proofs.{Math.Seq.take-append_seam, Math.Seq.drop-append_seam, lemmas.Bool.Decides.nat_tests, lemmas.Map.Keys.IsDistinct-tail}
 use Rattle.std.specs.{Cmp.nat_eq_equiv, List.All, List.IsDistinct, Map.keys_of}
 use Rattle.linked_hash_map.specs.Pairs.{find, from, value_at, without, set_value, set_or_push, count_before, to_behind, to_before, to_after}
@@ -95,6 +95,10 @@ pub value_at-set_value_number : {V : Type 0} (pairs : List (ℕ × V)) (k : ℕ)
 value_at-set_value_number pairs k v = (refl, value_at-set_value pairs k v)
 
 -- the pairs from a number on, and what is left if those behind it go
+pub length-from_number : {V : Type 0} (pairs : List (ℕ × V)) (k : ℕ) → (find nat_eq pairs k ≡ find nat_eq pairs k)
+    × (length (from nat_eq pairs k) ≤ length pairs) × (is_some (find nat_eq pairs k) ≡ true → 0 < length (from nat_eq pairs k))
+length-from_number pairs k = let is = length-from nat_eq pairs k in (refl, is.0, is.1)
+
 pub cut_number : {V : Type 0} (xs ys : List (ℕ × V)) (one : ℕ × V) → IsDistinct nat_eq (keys_of (xs ++ one ∷ ys))
     → (xs ++ one ∷ ys ≡ xs ++ one ∷ ys) × (find nat_eq (xs ++ one ∷ ys) one.0 ≡ Some one)
     × (from nat_eq (xs ++ one ∷ ys) one.0 ≡ one ∷ ys) × (length (xs ++ one ∷ ys) ≡ length xs + (length ys + 1))
@@ -107,7 +111,7 @@ cut_number xs ys one distinct = (
   ap₂ take (sym (length-append xs (one ∷ []))) (sym (append_assoc xs (one ∷ []) ys)) ∙ take-append_seam (xs ++ one ∷ []) ys,
 )
 
-pub ruleset cut = (length-from, cut_number)
+pub ruleset cut = (length-from_number, cut_number)
 
 -- a value that is written only if its key is there
 pub ruleset written = (find-none, set_value-none, value_at-set_value_number)

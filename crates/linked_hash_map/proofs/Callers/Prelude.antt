@@ -19,7 +19,8 @@ pub use Rattle.linked_hash_map.specs.Cursor.{to_visit}
 pub use Rattle.linked_hash_map.specs.Visits.{VisitKeeps, VisitMaps}
 pub use Rattle.linked_hash_map.proofs.Callers.Arranged.{IsArranged, IsArranged-next, IsArranged-all}
 pub use Rattle.linked_hash_map.proofs.Callers.Collected.{value_at-insert_each}
-pub use Rattle.linked_hash_map.proofs.Callers.Counted.{CountsItems, CountsItems-counted, CountsItems-set_or_push, CountsKnown}
+pub use Rattle.linked_hash_map.proofs.Callers.Counted.{CountsItems, CountsItems-counted, CountsItems-set_or_push, CountsItemsBy}
+pub use Rattle.linked_hash_map.proofs.Callers.Counted.{CountsItemsBy-counted, CountsKnown}
 pub use Rattle.linked_hash_map.proofs.Callers.Dense.{values_of_dense_push, eq-dense}
 pub use Rattle.linked_hash_map.proofs.Callers.EachPair.{All-to_back_as_is}
 pub use Rattle.linked_hash_map.proofs.Callers.Ends.{take-keys_of}
@@ -27,9 +28,11 @@ pub use Rattle.linked_hash_map.proofs.Callers.Equality.{pairs-clone, pairs-clone
 pub use Rattle.linked_hash_map.proofs.Callers.FrontKeys.{keys_of-front_few, value_at-front_kept}
 pub use Rattle.linked_hash_map.proofs.Callers.Insertions.{NoneRefused-inserted}
 pub use Rattle.linked_hash_map.proofs.Callers.Keys.{keys_of-without}
+pub use Rattle.linked_hash_map.proofs.Callers.NumberKeys.{keys_of-put_to_front}
 pub use Rattle.linked_hash_map.proofs.Callers.Retained.{filter_same_pairs, map_from_retain_pairs, map-filter_from_retain_pairs}
 pub use Rattle.linked_hash_map.proofs.Callers.Rounds.{IsTurned, IsTurned-turn}
-pub use Rattle.linked_hash_map.proofs.Callers.Rules.{changes, keys_of-put_to_front}
+pub use Rattle.linked_hash_map.proofs.Callers.Sessions.{filter_same_sessions}
+pub use Rattle.linked_hash_map.proofs.Callers.Sorts.{IsNonDecreasingBy-from_sort_by_key_pairs}
 pub use Rattle.linked_hash_map.proofs.Callers.Sums.{IsSumSoFar}
 pub use Rattle.linked_hash_map.proofs.Callers.TextCounts.{CountsTexts}
 pub use Rattle.linked_hash_map.proofs.Callers.Texts.{same_text-laws, by_bytes, by_bytes-append, find-is_text, find-drop_text}
@@ -40,4 +43,4 @@ pub use Rattle.linked_hash_map.proofs.Callers.Visits.{VisitAppends, VisitAppends
 pub use Rattle.linked_hash_map.proofs.Callers.Visits.{VisitAppends-appended_number}
 pub use Rattle.linked_hash_map.proofs.Callers.Visits.{VisitKeeps-removed, VisitTakes, VisitTakes-passed, VisitTakes-removed}
 pub use Rattle.linked_hash_map.proofs.Callers.Writes.{set_or_push-own, present_own}
-pub use Rattle.linked_hash_map.proofs.Callers.WritingVisits.{VisitMaps-holds}
+pub use Rattle.linked_hash_map.proofs.Callers.WritingVisits.{VisitMaps-holds, changes}

@@ -42,3 +42,6 @@ module _ {X : Type 0} {change : X → X} {old now : List X} {turns : ℕ} (w : I
 
   pub IsTurned-round : turns ≡ length old → now ≡ map change old
   IsTurned-round all = w.list ∙ ap₂ (λ xs ys. xs ++ map change ys) (drop_all turns old (omega arith)) (take_all turns old (omega arith))
+
+-- turns, one after another, until each pair had its turn
+pub ruleset rounds = (IsTurned-start, IsTurned-turn, IsTurned-round)

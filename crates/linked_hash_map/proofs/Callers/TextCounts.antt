@@ -44,3 +44,6 @@ module _ (counts : List (String Global × ℕ)) (q : List ℕ) (texts : List (Bo
       × (unwrap_or (value_at (λ (t : List ℕ) (key : String Global). bytes_eq t (string_bytes key)) counts q) 0
       ≡ count_by (λ t. bytes_eq t.now q) texts)
   CountsTexts-all past = (refl, w.count q ∙ ap (λ ts. count_by (λ (t : Bor (List ℕ)). bytes_eq t.now q) ts) (take_all i texts past))
+
+-- maps that count texts
+pub ruleset text_counts = (CountsTexts-start, CountsTexts-counted, CountsTexts-below, CountsTexts-all)

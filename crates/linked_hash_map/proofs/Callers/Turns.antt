@@ -147,3 +147,6 @@ module _ {K V : Type 0} {eq : K → K → Bool} (laws : IsEquivalence eq) (mode 
       (inserted ∙ (λ i. put eq mode (popped i) (named i) pair.1)
       ∙ put-absent eq mode (without_first now) (cond (eq from pair.0) to pair.0) pair.1
       (find-renamed laws w distinct there))
+
+-- the first pair put back, behind the others
+pub ruleset turns = (put-without_first)

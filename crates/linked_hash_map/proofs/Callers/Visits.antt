@@ -245,3 +245,7 @@ module _ {K V S : Type 0} {eq : K → K → Bool} (laws : IsEquivalence eq) {kee
         left_is = next.left_is;
         counted = omega (arith, w.counted, fewer);
       }
+
+-- a visit that keeps some pairs and takes the others out, and one that lists the keys that it
+-- visits
+pub ruleset visits = (VisitKeeps-passed, VisitKeeps-removed, append-visited, length-kept)

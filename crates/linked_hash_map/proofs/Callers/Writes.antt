@@ -1,11 +1,13 @@
 -- For callers: values that are written, and calls one after another by the same key.
-use Rattle.std.proofs.Common.{◌≡◌, Bool, true, false, cond, List, [], ◌∷◌, ◌++◌, append-nil, Option, Some, None, arith, is_some, option_map}
-use Rattle.std.proofs.{Common.unwrap_or, Common.refl, Common.ap, Common.ap₂, Common.◌∙◌, lemmas.List.Elements.filter-append}
+use Rattle.std.proofs.Common.{◌≡◌, ℕ, nat_eq, Bool, true, false, cond, List, [], ◌∷◌, ◌++◌, append-nil, Option, Some, None}
+use Rattle.std.proofs.Common.{is_some, option_map, unwrap_or, refl, ap, ap₂, ◌∙◌, arith}
+use Rattle.std.proofs.lemmas.List.Elements.{filter-append}
 use Rattle.std.specs.Map.Calls.{MayWrite, ModifiesValue}
 use Rattle.std.specs.{Option.IsSome, Borrow.MutBor, Fn.Once, List.IsDistinct, Map.keys_of, Cmp.IsEquivalence, Cmp.nat_eq_equiv}
 use Rattle.linked_hash_map.specs.Pairs.{ActsAs, find, value_at, without, set_value, set_or_push, set_if_some, put}
-use Rattle.linked_hash_map.proofs.Callers.Keys.{find-absent, IsSome-find, set_or_push-absent, set_or_push-present, without-absent, put-absent}
-use Rattle.linked_hash_map.{specs.declared.map.Mode.Mode, proofs.pairs.Calls.set_value-none, proofs.pairs.Calls.is_some-value_at}
+use Rattle.linked_hash_map.specs.declared.map.Mode.{Mode}
+use Rattle.linked_hash_map.proofs.Callers.Keys.{IsSome-find, put-absent, set_or_push-absent, set_or_push-present, without-absent}
+use Rattle.linked_hash_map.proofs.{Callers.Keys.find-absent, pairs.Calls.set_value-none, pairs.Calls.is_some-value_at}
 -- a value that is set as it was changes nothing
 pub use Rattle.linked_hash_map.proofs.pairs.Indexes.{set_value-own}
 
@@ -86,4 +88,9 @@ module _ {K V : Type 0} {eq : K → K → Bool} (laws : IsEquivalence eq) where
 pub ruleset present_own = (set_or_push-present_own)
 
 -- what it leaves, whether the key is there or not, at numbers
-pub ruleset if_absent = (set_or_push-if_absent, nat_eq_equiv)
+pub set_or_push-if_absent_number : {V : Type 0} (contents pairs : List (ℕ × V)) (stored k : ℕ) (v w : V) (o : Option V)
+    → ActsAs nat_eq pairs stored k → contents ≡ pairs → w ≡ unwrap_or o v → o ≡ value_at nat_eq pairs k → IsDistinct nat_eq (keys_of pairs)
+    → set_or_push nat_eq contents stored w ≡ cond (is_some (find nat_eq pairs k)) pairs (pairs ++ (k, v) ∷ [])
+set_or_push-if_absent_number = set_or_push-if_absent nat_eq_equiv
+
+pub ruleset if_absent = (set_or_push-if_absent_number)

@@ -104,3 +104,6 @@ pub length-changed : {X : Type 0} (keeps : X → Bool) (passed rest : List X) (c
     → (map change (filter keeps passed) ++ rest ≡ map change (filter keeps passed) ++ rest)
     × (length (map change (filter keeps passed) ++ rest) ≤ length (passed ++ rest))
 length-changed keeps passed rest change = (refl, grind (arith, length-kept keeps passed rest, length-map, length-append))
+
+-- a visit that keeps some pairs and changes their values
+pub ruleset changes = (VisitMaps-written, VisitMaps-removed, VisitMaps-start, length-changed)

@@ -1,11 +1,22 @@
 -- The sessions that a closure keeps.
-use Rattle.linked_hash_map.proofs.Names.{Bool, List, [], ap, arith, cond, ℕ, ◌+◌, ◌∙◌, ◌∷◌, ◌≡◌, ◌≤◌, IsSublist, CallableOnEachSession}
-use Rattle.linked_hash_map.proofs.Names.{CalledAtSession, RetainsSessions, SomeCallAtSession, TakesSession, weights_of, Session}
-use Rattle.linked_hash_map.proofs.Names.{total_weight, sessions_of, Weighted, map-append, MutBor, FoldsTo, CallableOnEachPair, RetainsPairs}
-use Rattle.linked_hash_map.proofs.Names.{SomeCallAtPair, Mut}
+use Rattle.linked_hash_map.proofs.Names.{Bool, List, [], ap, arith, cond, filter, subst, ℕ, ◌+◌, ◌∙◌, ◌∷◌, ◌≡◌, ◌≤◌, IsSublist}
+use Rattle.linked_hash_map.proofs.Names.{CallableOnEachSession, CalledAtSession, RetainsSessions, SomeCallAtSession, TakesSession}
+use Rattle.linked_hash_map.proofs.Names.{weights_of, Session, total_weight, sessions_of, Weighted, map-append, MutBor, FoldsTo}
+use Rattle.linked_hash_map.proofs.Names.{CallableOnEachPair, RetainsPairs, SomeCallAtPair, Mut}
 use Rattle.linked_hash_map.proofs.{nodes.Retained.first-retained, session_table.Lists.total_weight-cons}
 
 module _ {F T : Type 0} (g : Mut F (ℕ × (ℕ × (MutBor T × Unit {0}))) (Bool × (MutBor T × Unit {0}))) where
+  -- those that pass a test, if each call returns that and leaves the payload as it was
+  pub filter_same_sessions : (test : Session T → Bool) (f : F) (sessions kept : List (Session T))
+      → ((session : Session T) (b : Bool) (payload : T) (f' : F) → CalledAtSession g f session b payload f'
+      → (b ≡ test session) × (payload ≡ session.2) × (f' ≡ f))
+      → RetainsSessions g f sessions kept → kept ≡ filter test sessions
+  filter_same_sessions test f [] kept says r = r
+  filter_same_sessions test f (session ∷ sessions) kept says r =
+      let said = says session r.returned r.payload r.closure r.called in
+      let kept_too = subst (λ h. RetainsSessions g h sessions r.rest) said.2 r.retained in
+      let rest = filter_same_sessions test f sessions r.rest says kept_too in grind (arith, said, rest)
+
   -- whatever the closure does, some of the sessions stay, in order, each with its weight
   pub weights-retained : (f : F) (sessions kept : List (Session T))
       → RetainsSessions g f sessions kept → IsSublist (weights_of kept) (weights_of sessions)

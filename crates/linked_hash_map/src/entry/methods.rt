@@ -32,13 +32,14 @@ impl<K: Eq + Hash, V, S: BuildHasher> LinkedHashMap<K, V, S> {
     /// assert!(rt; matches!(&map.entry('x'), Entry::Occupied(_)));
     /// assert!(rt; matches!(&map.entry('y'), Entry::Vacant(_)));
     /// ```
+    #[inline]
     pub fn entry(&mut self, key: K) -> Entry<'_, K, V, S>
     where
         K: Drop,
         ensures same_map { (entry_map_ref result).ghost_name ≡ self.entry.ghost_name }
         ensures occupied { is_occupied result ≡ is_some (find K.eq self.old.pairs key) }
         ensures key { entry_key result ≡ key_or key (find K.eq self.old.pairs key) }
-        // A consequence of `key`, for the proofs of callers.
+        // By the stored key the same is found and changed as by `key`.
         ensures acts { ActsAs K.eq self.old.pairs (entry_key result) key }
         ensures value { entry_value result ≡ value_at K.eq self.old.pairs key }
         ensures pairs { (entry_map result).pairs ≡ self.old.pairs }
@@ -151,6 +152,7 @@ impl<'a, K: Eq + Hash, V, S: BuildHasher> Entry<'a, K, V, S> {
     /// *lent = 2;
     /// assert_eq!(rt; map.get(&'x'), Some(&2));
     /// ```
+    #[inline]
     pub fn or_insert(self, value: V) -> Result<&'a mut V, Refused<K, V>>
     where
         V: Drop,
@@ -185,6 +187,7 @@ impl<'a, K: Eq + Hash, V, S: BuildHasher> Entry<'a, K, V, S> {
     /// let lent = map.entry('x').or_insert_with(|| 1)?;
     /// assert_eq!(rt; *lent, 1);
     /// ```
+    #[inline]
     pub fn or_insert_with<F: FnOnce() -> V + Drop>(self, f: F) -> Result<&'a mut V, Refused<K, V>>
         requires { entry_value self ≡ None → F.pre f }
         ensures* writes_back { sem 𝓛
@@ -218,6 +221,7 @@ impl<'a, K: Eq + Hash, V, S: BuildHasher> Entry<'a, K, V, S> {
     /// let lent = map.entry(7_u64).or_insert_with_key(|key| *key / 2)?;
     /// assert_eq!(rt; *lent, 3);
     /// ```
+    #[inline]
     pub fn or_insert_with_key<F: FnOnce(&K) -> V + Drop>(
         self,
         f: F,

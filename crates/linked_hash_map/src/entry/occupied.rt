@@ -105,7 +105,7 @@ impl<'a, K: Eq + Hash, V, S: BuildHasher> OccupiedEntry<'a, K, V, S> {
         ensures to_visit { to_visit (occupied_map self.new) ≡ to_visit (occupied_map self.old) }
         ensures valid { IsValid K.eq (occupied_map self.old) }
         ensures stays_valid { IsValid K.eq (occupied_map self.new) }
-        // A consequence of `pairs`, for the proofs of callers.
+        // The key has the value, and the others keep theirs.
         ensures updates { Updates K.eq (occupied_map self.old).pairs (occupied_map self.new).pairs
             (occupied_key self.old) (Some value) }
     {
@@ -137,7 +137,7 @@ impl<'a, K: Eq + Hash, V, S: BuildHasher> OccupiedEntry<'a, K, V, S> {
         ensures to_visit { to_visit (occupied_map self.new) ≡ to_visit (occupied_map self.old) }
         ensures valid { IsValid K.eq (occupied_map self.old) }
         ensures stays_valid { IsValid K.eq (occupied_map self.new) }
-        // Consequences of `pairs`, for the proofs of callers.
+        // As many pairs as before, and each key finds what it found.
         ensures len { length (occupied_map self.new).pairs
             ≡ length (occupied_map self.old).pairs }
         ensures finds { (q : K) → find K.eq (occupied_map self.new).pairs q
@@ -171,7 +171,7 @@ impl<'a, K: Eq + Hash, V, S: BuildHasher> OccupiedEntry<'a, K, V, S> {
         ensures to_visit { to_visit (occupied_map self.new) ≡ to_visit (occupied_map self.old) }
         ensures valid { IsValid K.eq (occupied_map self.old) }
         ensures stays_valid { IsValid K.eq (occupied_map self.new) }
-        // Consequences of `pairs`, for the proofs of callers.
+        // As many pairs as before, and each key finds what it found.
         ensures len { length (occupied_map self.new).pairs
             ≡ length (occupied_map self.old).pairs }
         ensures finds { (q : K) → find K.eq (occupied_map self.new).pairs q
@@ -197,6 +197,7 @@ impl<'a, K: Eq + Hash, V, S: BuildHasher> OccupiedEntry<'a, K, V, S> {
     /// ```
     #[tactic(auto, using(crate::proofs::pairs::OccupiedEntries::moved_entries))]
     pub fn replace_key(&mut self, key: K) -> Result<K, K>
+        // On success the stored key is returned, and `key` stands in its place.
         ensures same_map { (occupied_map_ref self.new).ghost_name
             ≡ (occupied_map_ref self.old).ghost_name }
         ensures stored { IfOk result (λ stored. stored ≡ occupied_key self.old) }
@@ -209,10 +210,11 @@ impl<'a, K: Eq + Hash, V, S: BuildHasher> OccupiedEntry<'a, K, V, S> {
         ensures to_visit { to_visit (occupied_map self.new) ≡ to_visit (occupied_map self.old) }
         ensures valid { IsValid K.eq (occupied_map self.old) }
         ensures stays_valid { IsValid K.eq (occupied_map self.new) }
-        // A consequence of `pairs`, for the proofs of callers.
+        // Each key has the value that it had.
         ensures values { (q : K) → value_at K.eq (occupied_map self.new).pairs q
             ≡ value_at K.eq (occupied_map self.old).pairs q }
 
+        // On failure the key comes back and nothing changes: it is another one.
         ensures key_back { IfErr result (λ back. back ≡ key) }
         ensures unchanged { OnErr result (self.new ≡ self.old) }
         ensures differs { OnErr result (IsFalse (K.eq key (occupied_key self.old))) }
@@ -245,7 +247,7 @@ impl<'a, K: Eq + Hash, V, S: BuildHasher> OccupiedEntry<'a, K, V, S> {
         ensures to_visit { to_visit self.exit.0.now ≡ to_visit (occupied_map self.entry) }
         ensures valid { IsValid K.eq (occupied_map self.entry) }
         ensures stays_valid { IsValid K.eq self.exit.0.now }
-        // Consequences of `pairs`, for the proofs of callers.
+        // The key is gone, and the others keep their values.
         ensures updates { Updates K.eq (occupied_map self.entry).pairs self.exit.0.now.pairs
             (occupied_key self.entry) None }
         ensures fewer { length self.exit.0.now.pairs + 1 ≡ length (occupied_map self.entry).pairs }
@@ -275,7 +277,7 @@ impl<'a, K: Eq + Hash, V, S: BuildHasher> OccupiedEntry<'a, K, V, S> {
         ensures to_visit { to_visit self.exit.0.now ≡ to_visit (occupied_map self.entry) }
         ensures valid { IsValid K.eq (occupied_map self.entry) }
         ensures stays_valid { IsValid K.eq self.exit.0.now }
-        // Consequences of `pairs`, for the proofs of callers.
+        // The key is gone, and the others keep their values.
         ensures updates { Updates K.eq (occupied_map self.entry).pairs self.exit.0.now.pairs
             (occupied_key self.entry) None }
         ensures fewer { length self.exit.0.now.pairs + 1 ≡ length (occupied_map self.entry).pairs }

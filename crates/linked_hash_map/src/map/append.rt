@@ -44,6 +44,7 @@ impl<K: Eq + Hash, V, S: BuildHasher> LinkedHashMap<K, V, S> {
     where
         K: Drop,
         V: Drop,
+        // On success the pairs of `other` are inserted, in order, and it is empty.
         ensures pairs { OnOk result (self.new.pairs
             ≡ insert_each K.eq self.old.mode self.old.pairs other.old.pairs) }
         ensures capacity { OnOk result
@@ -59,6 +60,7 @@ impl<K: Eq + Hash, V, S: BuildHasher> LinkedHashMap<K, V, S> {
         ensures other_valid { IsValid K.eq other.old }
         ensures other_stays_valid { IsValid K.eq other.new }
 
+        // On failure nothing changes. It fails for more pairs than fit, or without memory.
         ensures unchanged { OnErr result (self.new ≡ self.old) }
         ensures other_unchanged { OnErr result (other.new ≡ other.old) }
         ensures too_large { IsErrOf result ReserveError.TooLarge ↔ (LIMIT

@@ -151,15 +151,6 @@ impl<K: Eq + Hash, V, S: BuildHasher> LinkedHashMap<K, V, S> {
         self.state = State::on(first, self.table.len(), None, self.state.mode);
     }
 
-    /// Ends a visit.
-    pub(super) fn end_visit(&mut self)
-        ensures ends { self.new ≡ without_cursor self.old }
-        ensures valid { IsValid K.eq self.old }
-        ensures stays_valid { IsValid K.eq self.new }
-    {
-        self.state.active = false;
-    }
-
     /// Makes the next pair to visit the current one, and returns whether there was one.
     pub(crate) fn visit_next(&mut self) -> bool
         ensures key { IsTrue result → (key : K)

@@ -34,6 +34,7 @@ impl<K: Eq + Hash, V, S: BuildHasher> LinkedHashMap<K, V, S> {
     pub fn insert_front(&mut self, key: K, value: V) -> Result<Option<V>, Refused<K, V>>
     where
         K: Drop,
+        // On success the key has the value, its old value is returned, and the others keep theirs.
         ensures old { IfOk result (λ old. old ≡ value_at K.eq self.old.pairs key) }
         ensures pairs { OnOk result
             (self.new.pairs ≡ put_front K.eq self.old.mode self.old.pairs key value) }
@@ -46,7 +47,7 @@ impl<K: Eq + Hash, V, S: BuildHasher> LinkedHashMap<K, V, S> {
         ensures ends_visit { OnOk result (to_visit self.new ≡ []) }
         ensures valid { IsValid K.eq self.old }
         ensures stays_valid { IsValid K.eq self.new }
-        // Consequences of `pairs` and `capacity`, for the proofs of callers.
+        // Where the pair stands, how many there are, and when the capacity stays.
         ensures updates { OnOk result
             (Updates K.eq self.old.pairs self.new.pairs key (Some value)) }
         ensures first { OnOk result (self.old.mode ≡ Mode.Touch → first self.new.pairs
@@ -60,6 +61,7 @@ impl<K: Eq + Hash, V, S: BuildHasher> LinkedHashMap<K, V, S> {
         ensures same_room { OnOk result ((find K.eq self.old.pairs key ≡ None
             → length self.old.pairs < self.old.capacity) → self.new.capacity ≡ self.old.capacity) }
 
+        // On failure the pair comes back and nothing changes: its key is new, and the map is full.
         ensures key_back { IfErr result (λ refused. refused.key ≡ key) }
         ensures value_back { IfErr result (λ refused. refused.value ≡ value) }
         ensures unchanged { OnErr result (self.new ≡ self.old) }

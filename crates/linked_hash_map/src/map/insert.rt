@@ -56,6 +56,7 @@ impl<K: Eq + Hash, V, S: BuildHasher> LinkedHashMap<K, V, S> {
     pub fn insert(&mut self, key: K, value: V) -> Result<Option<V>, Refused<K, V>>
     where
         K: Drop,
+        // On success the key has the value, its old value is returned, and the others keep theirs.
         ensures old { IfOk result (λ old. old ≡ value_at K.eq self.old.pairs key) }
         ensures pairs { OnOk result
             (self.new.pairs ≡ put K.eq self.old.mode self.old.pairs key value) }
@@ -69,7 +70,7 @@ impl<K: Eq + Hash, V, S: BuildHasher> LinkedHashMap<K, V, S> {
         ensures to_visit { IfOk result (λ old. IfNone old (to_visit self.new ≡ to_visit self.old)) }
         ensures valid { IsValid K.eq self.old }
         ensures stays_valid { IsValid K.eq self.new }
-        // Consequences of `pairs` and `capacity`, for the proofs of callers.
+        // Where the pair stands, how many there are, and when the capacity stays.
         ensures updates { OnOk result
             (Updates K.eq self.old.pairs self.new.pairs key (Some value)) }
         ensures last { OnOk result (self.old.mode ≡ Mode.Touch → last self.new.pairs
@@ -83,6 +84,7 @@ impl<K: Eq + Hash, V, S: BuildHasher> LinkedHashMap<K, V, S> {
         ensures same_room { OnOk result ((find K.eq self.old.pairs key ≡ None
             → length self.old.pairs < self.old.capacity) → self.new.capacity ≡ self.old.capacity) }
 
+        // On failure the pair comes back and nothing changes: its key is new, and the map is full.
         ensures key_back { IfErr result (λ refused. refused.key ≡ key) }
         ensures value_back { IfErr result (λ refused. refused.value ≡ value) }
         ensures unchanged { OnErr result (self.new ≡ self.old) }
@@ -121,6 +123,7 @@ impl<K: Eq + Hash, V, S: BuildHasher> LinkedHashMap<K, V, S> {
     pub fn replace(&mut self, key: K, value: V) -> Result<Option<V>, Refused<K, V>>
     where
         K: Drop,
+        // On success the key has the value, its old value is returned, and the others keep theirs.
         ensures old { IfOk result (λ old. old ≡ value_at K.eq self.old.pairs key) }
         ensures pairs { OnOk result
             (self.new.pairs ≡ put K.eq Mode.Keep self.old.pairs key value) }
@@ -134,7 +137,7 @@ impl<K: Eq + Hash, V, S: BuildHasher> LinkedHashMap<K, V, S> {
         ensures to_visit { IfOk result (λ old. IfNone old (to_visit self.new ≡ to_visit self.old)) }
         ensures valid { IsValid K.eq self.old }
         ensures stays_valid { IsValid K.eq self.new }
-        // Consequences of `pairs` and `capacity`, for the proofs of callers.
+        // Where a new pair stands, how many there are, and when the capacity stays.
         ensures updates { OnOk result
             (Updates K.eq self.old.pairs self.new.pairs key (Some value)) }
         ensures pushed { OnOk result (value_at K.eq self.old.pairs key ≡ None
@@ -146,6 +149,7 @@ impl<K: Eq + Hash, V, S: BuildHasher> LinkedHashMap<K, V, S> {
         ensures same_room { OnOk result ((find K.eq self.old.pairs key ≡ None
             → length self.old.pairs < self.old.capacity) → self.new.capacity ≡ self.old.capacity) }
 
+        // On failure the pair comes back and nothing changes: its key is new, and the map is full.
         ensures key_back { IfErr result (λ refused. refused.key ≡ key) }
         ensures value_back { IfErr result (λ refused. refused.value ≡ value) }
         ensures unchanged { OnErr result (self.new ≡ self.old) }
@@ -175,6 +179,7 @@ impl<K: Eq + Hash, V, S: BuildHasher> LinkedHashMap<K, V, S> {
     where
         K: Drop,
         requires { find K.eq self.old.pairs key ≡ None → length self.old.pairs < self.old.capacity }
+        // The key has the value, its old value is returned, and the others keep theirs.
         ensures old { result ≡ value_at K.eq self.old.pairs key }
         ensures pairs { self.new.pairs ≡ put K.eq self.old.mode self.old.pairs key value }
         ensures keeps { Keeps self.old self.new }
@@ -182,7 +187,7 @@ impl<K: Eq + Hash, V, S: BuildHasher> LinkedHashMap<K, V, S> {
         ensures to_visit { IfNone result (to_visit self.new ≡ to_visit self.old) }
         ensures valid { IsValid K.eq self.old }
         ensures stays_valid { IsValid K.eq self.new }
-        // Consequences of `pairs`, for the proofs of callers.
+        // Where a new pair stands, and how many there are.
         ensures updates { Updates K.eq self.old.pairs self.new.pairs key (Some value) }
         ensures pushed { value_at K.eq self.old.pairs key ≡ None
             → self.new.pairs ≡ self.old.pairs ++ (key, value) ∷ [] }

@@ -33,7 +33,7 @@ impl<K: Eq + Hash, V, S: BuildHasher> LinkedHashMap<K, V, S> {
         ensures unchanged { IsFalse result → self.new ≡ self.old }
         ensures valid { IsValid K.eq self.old }
         ensures stays_valid { IsValid K.eq self.new }
-        // Consequences of `pairs`, for the proofs of callers.
+        // As many pairs as before, the moved one last, and each key finds what it found.
         ensures len { length self.new.pairs ≡ length self.old.pairs }
         ensures last { IsTrue result
             → last self.new.pairs ≡ find Q.equivalent self.old.pairs key }
@@ -72,7 +72,7 @@ impl<K: Eq + Hash, V, S: BuildHasher> LinkedHashMap<K, V, S> {
         ensures unchanged { IsFalse result → self.new ≡ self.old }
         ensures valid { IsValid K.eq self.old }
         ensures stays_valid { IsValid K.eq self.new }
-        // Consequences of `pairs`, for the proofs of callers.
+        // As many pairs as before, the moved one first, and each key finds what it found.
         ensures len { length self.new.pairs ≡ length self.old.pairs }
         ensures first { IsTrue result
             → first self.new.pairs ≡ find Q.equivalent self.old.pairs key }
@@ -111,7 +111,7 @@ impl<K: Eq + Hash, V, S: BuildHasher> LinkedHashMap<K, V, S> {
         ensures ends_visit { to_visit self.new ≡ [] }
         ensures valid { IsValid K.eq self.old }
         ensures stays_valid { IsValid K.eq self.new }
-        // Consequences of `pairs`, for the proofs of callers.
+        // As many pairs as before, and each key finds what it found.
         ensures len { length self.new.pairs ≡ length self.old.pairs }
         ensures finds { (q : K) → find K.eq self.new.pairs q ≡ find K.eq self.old.pairs q }
     {
@@ -137,7 +137,7 @@ impl<K: Eq + Hash, V, S: BuildHasher> LinkedHashMap<K, V, S> {
         ensures ends_visit { to_visit self.new ≡ [] }
         ensures valid { IsValid K.eq self.old }
         ensures stays_valid { IsValid K.eq self.new }
-        // Consequences of `pairs`, for the proofs of callers.
+        // As many pairs as before, and each key finds what it found.
         ensures len { length self.new.pairs ≡ length self.old.pairs }
         ensures finds { (q : K) → find K.eq self.new.pairs q ≡ find K.eq self.old.pairs q }
     {

@@ -43,7 +43,7 @@ impl<K: Eq + Hash, V, S: BuildHasher> LinkedHashMap<K, V, S> {
         ensures to_visit { IfNone result (to_visit self.new ≡ to_visit self.old) }
         ensures valid { IsValid K.eq self.old }
         ensures stays_valid { IsValid K.eq self.new }
-        // Consequences of `value` and `pairs`, for the proofs of callers.
+        // The key is gone, the others keep their values, and a present one is one pair fewer.
         ensures updates { UpdatesBy K.eq self.old.pairs self.new.pairs (Q.equivalent key) None }
         ensures fewer { OnSome result (length self.new.pairs + 1 ≡ length self.old.pairs) }
         ensures same { IfNone result (self.new.pairs ≡ self.old.pairs) }
@@ -73,7 +73,7 @@ impl<K: Eq + Hash, V, S: BuildHasher> LinkedHashMap<K, V, S> {
         ensures to_visit { IfNone result (to_visit self.new ≡ to_visit self.old) }
         ensures valid { IsValid K.eq self.old }
         ensures stays_valid { IsValid K.eq self.new }
-        // Consequences of `pair` and `pairs`, for the proofs of callers.
+        // The key is gone, the others keep their values, and a present one is one pair fewer.
         ensures updates { UpdatesBy K.eq self.old.pairs self.new.pairs (Q.equivalent key) None }
         ensures fewer { OnSome result (length self.new.pairs + 1 ≡ length self.old.pairs) }
         ensures same { IfNone result (self.new.pairs ≡ self.old.pairs) }
@@ -102,7 +102,7 @@ impl<K: Eq + Hash, V, S: BuildHasher> LinkedHashMap<K, V, S> {
         ensures unchanged { IfNone result (self.new ≡ self.old) }
         ensures valid { IsValid K.eq self.old }
         ensures stays_valid { IsValid K.eq self.new }
-        // Consequences of `pair` and `pairs`, for the proofs of callers.
+        // The key of the pair is gone, and the others keep their values.
         ensures updates { IfSome result (λ pair.
             Updates K.eq self.old.pairs self.new.pairs pair.0 None) }
         ensures gone { IfSome result (λ pair. find K.eq self.new.pairs pair.0 ≡ None) }
@@ -130,7 +130,7 @@ impl<K: Eq + Hash, V, S: BuildHasher> LinkedHashMap<K, V, S> {
         ensures unchanged { IfNone result (self.new ≡ self.old) }
         ensures valid { IsValid K.eq self.old }
         ensures stays_valid { IsValid K.eq self.new }
-        // Consequences of `pair` and `pairs`, for the proofs of callers.
+        // The key of the pair is gone, and the others keep their values.
         ensures updates { IfSome result (λ pair.
             Updates K.eq self.old.pairs self.new.pairs pair.0 None) }
         ensures gone { IfSome result (λ pair. find K.eq self.new.pairs pair.0 ≡ None) }
@@ -162,10 +162,10 @@ impl<K: Eq + Hash, V, S: BuildHasher> LinkedHashMap<K, V, S> {
         ensures ends_visit { to_visit self.new ≡ [] }
         ensures valid { IsValid K.eq self.old }
         ensures stays_valid { IsValid K.eq self.new }
-        // A consequence of `pairs`, for the proofs of callers.
+        // How many pairs are left.
         ensures len { length self.new.pairs ≡ min len (length self.old.pairs) }
     {
-        self.end_visit();
+        self.state.active = false; // also if no pair goes
         while self.len() > len {
             let _last = self.pop_back();
         }

@@ -25,6 +25,7 @@ impl<K: Eq + Hash, V, S: BuildHasher> LinkedHashMap<K, V, S> {
     /// assert_eq!(rt; map.len(), 1);
     /// ```
     pub fn replace_key(&mut self, key: K) -> Result<K, K>
+        // On success the stored key is returned, and `key` stands in its place.
         ensures stored { IfOk result (λ stored.
             option_map (λ pair. pair.0) (find K.eq self.old.pairs key) ≡ Some stored) }
         ensures pairs { self.new.pairs ≡ set_key K.eq self.old.pairs key }
@@ -32,12 +33,13 @@ impl<K: Eq + Hash, V, S: BuildHasher> LinkedHashMap<K, V, S> {
         ensures to_visit { to_visit self.new ≡ map (replaced K.eq key) (to_visit self.old) }
         ensures valid { IsValid K.eq self.old }
         ensures stays_valid { IsValid K.eq self.new }
-        // Consequences of `pairs`, for the proofs of callers.
+        // Each key has the value that it had.
         ensures keys { keys_of self.new.pairs ≡ map (replaced K.eq key) (keys_of self.old.pairs) }
         ensures values { (q : K)
             → value_at K.eq self.new.pairs q ≡ value_at K.eq self.old.pairs q }
         ensures len { length self.new.pairs ≡ length self.old.pairs }
 
+        // On failure the key comes back and nothing changes: it is absent.
         ensures key_back { IfErr result (λ back. back ≡ key) }
         ensures unchanged { OnErr result (self.new ≡ self.old) }
         ensures absent { OnErr result (find K.eq self.old.pairs key ≡ None) }

@@ -1,7 +1,8 @@
 -- For callers: which items are in a union, an intersection, a difference or a symmetric difference
 -- of two sets, and in a set after a loop of insertions or removals.
-use Rattle.std.proofs.Common.{◌≡◌, ◌==◌, length, Bool, true, false, cond, not, ◌||◌, ◌&&◌, List, [], ◌∷◌, ◌++◌, filter, fold, map, refl, sym, ap, ap₂}
-use Rattle.std.proofs.{Common.◌∙◌, Common.arith, lemmas.List.Folds.list_any-append, lemmas.Map.Views.any-filter_same}
+use Rattle.std.proofs.Common.{◌≡◌, ◌==◌, Bool, true, false, cond, not, ◌||◌, ◌&&◌, List, [], ◌∷◌, ◌++◌, length, filter, fold, map, refl}
+use Rattle.std.proofs.{Common.sym, Common.ap, Common.ap₂, Common.◌∙◌, Common.arith}
+use Rattle.std.proofs.lemmas.{List.Folds.list_any-append, Map.Views.any-filter_same}
 use Rattle.std.specs.{Cmp.IsEquivalence, List.list_any, Map.keys_of}
 use Rattle.linked_hash_map.specs.declared.map.Mode.TheVariants.{Touch}
 use Rattle.linked_hash_set.specs.Operations.{difference, intersection, is_subset, union, symmetric_difference}

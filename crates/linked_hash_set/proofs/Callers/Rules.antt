@@ -1,12 +1,12 @@
 -- For callers: sets of lemmas that an attribute names, as #[tactic(auto,
 -- using(linked_hash_set::proofs::Callers::Rules::set_operations))]. At numbers a lemma is stated at
 -- their equality; the first part of a conclusion shows `grind` the call to match.
-use Rattle.std.proofs.Common.{◌≡◌, ℕ, true, not, ◌||◌, ◌&&◌, List, [], ◌∷◌, refl, nat_eq}
+use Rattle.std.proofs.Common.{◌≡◌, ℕ, true, not, ◌||◌, ◌&&◌, List, [], refl, nat_eq}
 use Rattle.std.specs.Cmp.{nat_eq_equiv}
-use Rattle.linked_hash_set.specs.Items.{contains, push_if_absent}
+use Rattle.linked_hash_set.specs.Items.{contains}
 use Rattle.linked_hash_set.specs.Operations.{difference, intersection, is_subset, union, symmetric_difference}
 use Rattle.linked_hash_set.proofs.Callers.Operations.{contains-difference, contains-intersection, contains-is_subset, contains-union}
-use Rattle.linked_hash_set.proofs.Callers.Unions.{IsUniting, IsUniting-start, IsUniting-more, IsUniting-end, IsUniting-contains}
+use Rattle.linked_hash_set.proofs.Callers.Unions.{IsUniting, IsUniting-start, IsUniting-end, IsUniting-contains}
 use Rattle.linked_hash_set.proofs.Callers.{Operations.contains-symmetric_difference, Texts.contains-by_item}
 
 module _ (xs ys : List ℕ) (q : ℕ) where
@@ -33,10 +33,6 @@ module _ (xs ys : List ℕ) (q : ℕ) where
   contains-is_subset_number = (refl, contains-is_subset nat_eq_equiv xs ys q)
 
 -- a union that is made an item at a time
-pub IsUniting-more_number : {old other items left after ys : List ℕ} {x : ℕ} → IsUniting nat_eq old other items left → left ≡ x ∷ ys
-    → after ≡ push_if_absent nat_eq items x → IsUniting nat_eq old other after ys
-IsUniting-more_number = IsUniting-more nat_eq_equiv
-
 module _ {old other items left : List ℕ} (w : IsUniting nat_eq old other items left) where
   pub uniting-contains : left ≡ [] → (q : ℕ) → contains nat_eq items q ≡ (contains nat_eq old q || contains nat_eq other q)
   uniting-contains none q = IsUniting-contains nat_eq_equiv w none q
@@ -50,7 +46,6 @@ pub ruleset set_operations = (
   contains-symmetric_difference_number,
   contains-is_subset_number,
   IsUniting-start,
-  IsUniting-more_number,
   IsUniting-end,
   uniting-contains,
 )

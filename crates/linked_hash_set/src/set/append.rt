@@ -39,6 +39,7 @@ impl<T: Eq + Hash, S: BuildHasher> LinkedHashSet<T, S> {
     ) -> Result<(), ReserveError>
     where
         T: Drop,
+        // On success the items of `other` are inserted, in order, and it is empty.
         ensures items { OnOk result
             (self.new.items ≡ insert_each T.eq self.old.items other.old.items) }
         ensures capacity { OnOk result
@@ -49,10 +50,11 @@ impl<T: Eq + Hash, S: BuildHasher> LinkedHashSet<T, S> {
         ensures other_keeps { Keeps other.old other.new }
         ensures other_valid { IsValid T.eq other.old }
         ensures other_stays_valid { IsValid T.eq other.new }
-        // A consequence of `items`, for the proofs of callers.
+        // An item is there if it was in either set.
         ensures contains { OnOk result ((q : T) → contains T.eq self.new.items q
             ≡ (contains T.eq self.old.items q || contains T.eq other.old.items q)) }
 
+        // On failure nothing changes. It fails for more items than fit, or without memory.
         ensures unchanged { OnErr result (self.new ≡ self.old) }
         ensures other_unchanged { OnErr result (other.new ≡ other.old) }
         ensures too_large { IsErrOf result ReserveError.TooLarge ↔

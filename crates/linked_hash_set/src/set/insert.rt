@@ -35,13 +35,14 @@ impl<T: Eq + Hash, S: BuildHasher> LinkedHashSet<T, S> {
     pub fn insert(&mut self, item: T) -> Result<bool, Refused<T>>
     where
         T: Drop,
+        // On success the item is at the back, and the others stay.
         ensures new { IfOk result (λ new. new ≡ not (contains T.eq self.old.items item)) }
         ensures items { OnOk result (self.new.items ≡ to_back T.eq self.old.items item) }
         ensures capacity { OnOk result
             (self.new.capacity ≡ max self.old.capacity (length self.new.items)) }
         ensures hasher { self.new.hasher ≡ self.old.hasher }
         ensures stays_valid { IsValid T.eq self.new }
-        // Consequences of `new` and `items`, for the proofs of callers.
+        // Where it stands, and how many there are.
         ensures updates { OnOk result
             (Updates T.eq self.old.items self.new.items (T.eq item) true) }
         ensures last { OnOk result (last self.new.items
@@ -51,6 +52,7 @@ impl<T: Eq + Hash, S: BuildHasher> LinkedHashSet<T, S> {
         ensures len { IfOk result (λ new.
             length self.new.items ≡ length self.old.items + (if new then 1 else 0)) }
 
+        // On failure the item comes back and nothing changes: it is new, and the set is full.
         ensures item_back { IfErr result (λ refused. refused.item ≡ item) }
         ensures unchanged { OnErr result (self.new ≡ self.old) }
         ensures absent { OnErr result (contains T.eq self.old.items item ≡ false) }
@@ -81,13 +83,14 @@ impl<T: Eq + Hash, S: BuildHasher> LinkedHashSet<T, S> {
     pub fn insert_front(&mut self, item: T) -> Result<bool, Refused<T>>
     where
         T: Drop,
+        // On success the item is at the front, and the others stay.
         ensures new { IfOk result (λ new. new ≡ not (contains T.eq self.old.items item)) }
         ensures items { OnOk result (self.new.items ≡ put_front T.eq self.old.items item) }
         ensures capacity { OnOk result
             (self.new.capacity ≡ max self.old.capacity (length self.new.items)) }
         ensures hasher { self.new.hasher ≡ self.old.hasher }
         ensures stays_valid { IsValid T.eq self.new }
-        // Consequences of `new` and `items`, for the proofs of callers.
+        // Where it stands, and how many there are.
         ensures updates { OnOk result
             (Updates T.eq self.old.items self.new.items (T.eq item) true) }
         ensures first { OnOk result (first self.new.items
@@ -97,6 +100,7 @@ impl<T: Eq + Hash, S: BuildHasher> LinkedHashSet<T, S> {
         ensures len { IfOk result (λ new.
             length self.new.items ≡ length self.old.items + (if new then 1 else 0)) }
 
+        // On failure the item comes back and nothing changes: it is new, and the set is full.
         ensures item_back { IfErr result (λ refused. refused.item ≡ item) }
         ensures unchanged { OnErr result (self.new ≡ self.old) }
         ensures absent { OnErr result (contains T.eq self.old.items item ≡ false) }
@@ -126,13 +130,14 @@ impl<T: Eq + Hash, S: BuildHasher> LinkedHashSet<T, S> {
     pub fn insert_if_absent(&mut self, item: T) -> Result<bool, Refused<T>>
     where
         T: Drop,
+        // On success a new item is at the back, and the others stay.
         ensures new { IfOk result (λ new. new ≡ not (contains T.eq self.old.items item)) }
         ensures items { OnOk result (self.new.items ≡ push_if_absent T.eq self.old.items item) }
         ensures capacity { OnOk result
             (self.new.capacity ≡ max self.old.capacity (length self.new.items)) }
         ensures hasher { self.new.hasher ≡ self.old.hasher }
         ensures stays_valid { IsValid T.eq self.new }
-        // Consequences of `new` and `items`, for the proofs of callers.
+        // Where it stands, and how many there are.
         ensures updates { OnOk result
             (Updates T.eq self.old.items self.new.items (T.eq item) true) }
         ensures last { IfOk result (λ new. IsTrue new → last self.new.items ≡ Some item) }
@@ -141,6 +146,7 @@ impl<T: Eq + Hash, S: BuildHasher> LinkedHashSet<T, S> {
         ensures len { IfOk result (λ new.
             length self.new.items ≡ length self.old.items + (if new then 1 else 0)) }
 
+        // On failure the item comes back and nothing changes: it is new, and the set is full.
         ensures item_back { IfErr result (λ refused. refused.item ≡ item) }
         ensures unchanged { OnErr result (self.new ≡ self.old) }
         ensures absent { OnErr result (contains T.eq self.old.items item ≡ false) }
@@ -171,16 +177,18 @@ impl<T: Eq + Hash, S: BuildHasher> LinkedHashSet<T, S> {
     pub fn replace(&mut self, item: T) -> Result<Option<T>, Refused<T>>
     where
         T: Drop,
+        // On success the item is there, and an equal one that was stored is returned.
         ensures old { IfOk result (λ old. old ≡ find T.eq self.old.items item) }
         ensures items { OnOk result (self.new.items ≡ set_or_push T.eq self.old.items item) }
         ensures capacity { OnOk result
             (self.new.capacity ≡ max self.old.capacity (length self.new.items)) }
         ensures hasher { self.new.hasher ≡ self.old.hasher }
         ensures stays_valid { IsValid T.eq self.new }
-        // A consequence of `items`, for the proofs of callers.
+        // What is there.
         ensures updates { OnOk result
             (Updates T.eq self.old.items self.new.items (T.eq item) true) }
 
+        // On failure the item comes back and nothing changes: it is new, and the set is full.
         ensures item_back { IfErr result (λ refused. refused.item ≡ item) }
         ensures unchanged { OnErr result (self.new ≡ self.old) }
         ensures absent { OnErr result (contains T.eq self.old.items item ≡ false) }

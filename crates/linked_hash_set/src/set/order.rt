@@ -29,7 +29,7 @@ impl<T: Eq + Hash, S: BuildHasher> LinkedHashSet<T, S> {
         ensures keeps { Keeps self.old self.new }
         ensures unchanged { IsFalse result → self.new ≡ self.old }
         ensures stays_valid { IsValid T.eq self.new }
-        // Consequences of `items`, for the proofs of callers.
+        // As many items as before, and each is found that was.
         ensures len { length self.new.items ≡ length self.old.items }
         ensures finds { (q : T) → find T.eq self.new.items q ≡ find T.eq self.old.items q }
         ensures contains { (q : T)
@@ -57,7 +57,7 @@ impl<T: Eq + Hash, S: BuildHasher> LinkedHashSet<T, S> {
         ensures keeps { Keeps self.old self.new }
         ensures unchanged { IsFalse result → self.new ≡ self.old }
         ensures stays_valid { IsValid T.eq self.new }
-        // Consequences of `items`, for the proofs of callers.
+        // As many items as before, and each is found that was.
         ensures len { length self.new.items ≡ length self.old.items }
         ensures finds { (q : T) → find T.eq self.new.items q ≡ find T.eq self.old.items q }
         ensures contains { (q : T)
@@ -85,7 +85,7 @@ impl<T: Eq + Hash, S: BuildHasher> LinkedHashSet<T, S> {
         ensures keeps { Keeps self.old self.new }
         ensures unchanged { IsFalse result → self.new ≡ self.old }
         ensures stays_valid { IsValid T.eq self.new }
-        // Consequences of `items`, for the proofs of callers.
+        // As many items as before, and each is found that was.
         ensures len { length self.new.items ≡ length self.old.items }
         ensures finds { (q : T) → find T.eq self.new.items q ≡ find T.eq self.old.items q }
         ensures contains { (q : T)
@@ -116,7 +116,7 @@ impl<T: Eq + Hash, S: BuildHasher> LinkedHashSet<T, S> {
         ensures keeps { Keeps self.old self.new }
         ensures unchanged { IsFalse result → self.new ≡ self.old }
         ensures stays_valid { IsValid T.eq self.new }
-        // Consequences of `items`, for the proofs of callers.
+        // As many items as before, and each is found that was.
         ensures len { length self.new.items ≡ length self.old.items }
         ensures finds { (q : T) → find T.eq self.new.items q ≡ find T.eq self.old.items q }
         ensures contains { (q : T)
@@ -147,7 +147,7 @@ impl<T: Eq + Hash, S: BuildHasher> LinkedHashSet<T, S> {
         ensures keeps { Keeps self.old self.new }
         ensures unchanged { IsFalse result → self.new ≡ self.old }
         ensures stays_valid { IsValid T.eq self.new }
-        // Consequences of `items`, for the proofs of callers.
+        // As many items as before, and each is found that was.
         ensures len { length self.new.items ≡ length self.old.items }
         ensures finds { (q : T) → find T.eq self.new.items q ≡ find T.eq self.old.items q }
         ensures contains { (q : T)
@@ -170,7 +170,7 @@ impl<T: Eq + Hash, S: BuildHasher> LinkedHashSet<T, S> {
         ensures items { self.new.items ≡ reverse self.old.items }
         ensures keeps { Keeps self.old self.new }
         ensures stays_valid { IsValid T.eq self.new }
-        // Consequences of `items`, for the proofs of callers.
+        // As many items as before, and each is found that was.
         ensures len { length self.new.items ≡ length self.old.items }
         ensures finds { (q : T) → find T.eq self.new.items q ≡ find T.eq self.old.items q }
         ensures contains { (q : T)

@@ -42,7 +42,7 @@ impl<T: Eq + Hash, S: BuildHasher> LinkedHashSet<T, S> {
         ensures items { self.new.items ≡ without Q.equivalent self.old.items item }
         ensures keeps { Keeps self.old self.new }
         ensures stays_valid { IsValid T.eq self.new }
-        // Consequences of `present` and `items`, for the proofs of callers.
+        // The item is gone, the others stay, and a present one is one fewer.
         ensures updates { Updates T.eq self.old.items self.new.items (Q.equivalent item) false }
         ensures fewer { IsTrue result → length self.new.items + 1 ≡ length self.old.items }
         ensures same { IsFalse result → self.new.items ≡ self.old.items }
@@ -68,7 +68,7 @@ impl<T: Eq + Hash, S: BuildHasher> LinkedHashSet<T, S> {
         ensures items { self.new.items ≡ without Q.equivalent self.old.items item }
         ensures keeps { Keeps self.old self.new }
         ensures stays_valid { IsValid T.eq self.new }
-        // Consequences of `stored` and `items`, for the proofs of callers.
+        // The item is gone, the others stay, and a present one is one fewer.
         ensures updates { Updates T.eq self.old.items self.new.items (Q.equivalent item) false }
         ensures fewer { OnSome result (length self.new.items + 1 ≡ length self.old.items) }
         ensures same { IfNone result (self.new.items ≡ self.old.items) }
@@ -93,7 +93,7 @@ impl<T: Eq + Hash, S: BuildHasher> LinkedHashSet<T, S> {
         ensures keeps { Keeps self.old self.new }
         ensures unchanged { IfNone result (self.new ≡ self.old) }
         ensures stays_valid { IsValid T.eq self.new }
-        // A consequence of `item` and `items`, for the proofs of callers.
+        // The item is gone, and the others stay.
         ensures updates { IfSome result (λ item.
             Updates T.eq self.old.items self.new.items (T.eq item) false) }
     {
@@ -117,7 +117,7 @@ impl<T: Eq + Hash, S: BuildHasher> LinkedHashSet<T, S> {
         ensures keeps { Keeps self.old self.new }
         ensures unchanged { IfNone result (self.new ≡ self.old) }
         ensures stays_valid { IsValid T.eq self.new }
-        // A consequence of `item` and `items`, for the proofs of callers.
+        // The item is gone, and the others stay.
         ensures updates { IfSome result (λ item.
             Updates T.eq self.old.items self.new.items (T.eq item) false) }
     {
@@ -143,7 +143,7 @@ impl<T: Eq + Hash, S: BuildHasher> LinkedHashSet<T, S> {
         ensures items { self.new.items ≡ take len self.old.items }
         ensures keeps { Keeps self.old self.new }
         ensures stays_valid { IsValid T.eq self.new }
-        // A consequence of `items`, for the proofs of callers.
+        // How many items are left.
         ensures len { length self.new.items ≡ min len (length self.old.items) }
     {
         self.map.truncate(len);

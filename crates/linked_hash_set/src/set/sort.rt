@@ -31,7 +31,7 @@ impl<T: Eq + Hash, S: BuildHasher> LinkedHashSet<T, S> {
         ensures sorted { IsSorted T.cmp self.new.items }
         ensures keeps { Keeps self.old self.new }
         ensures stays_valid { IsValid T.eq self.new }
-        // Consequences of `permutation`, for the proofs of callers.
+        // As many items as before, and each is found that was.
         ensures len { length self.new.items ≡ length self.old.items }
         ensures finds { (q : T) → find T.eq self.new.items q ≡ find T.eq self.old.items q }
         ensures contains { (q : T)
@@ -60,7 +60,7 @@ impl<T: Eq + Hash, S: BuildHasher> LinkedHashSet<T, S> {
         ensures stable { IsStableByClosure F.FnMut compare self.old.items self.new.items }
         ensures keeps { Keeps self.old self.new }
         ensures stays_valid { IsValid T.eq self.new }
-        // Consequences of `permutation`, for the proofs of callers.
+        // As many items as before, and each is found that was.
         ensures len { length self.new.items ≡ length self.old.items }
         ensures finds { (q : T) → find T.eq self.new.items q ≡ find T.eq self.old.items q }
         ensures contains { (q : T)
@@ -97,18 +97,20 @@ impl<T: Eq + Hash, S: BuildHasher> LinkedHashSet<T, S> {
         mut sort_key: F,
     ) -> Result<(), NoRoom>
         requires { F.IsAlwaysCallable sort_key }
+        // On success the items are sorted by what the closure makes of each.
         ensures permutation { IsPermutation self.old.items self.new.items }
         ensures sorted { OnOk result (IsSortedByKeyClosure F.FnMut K.cmp sort_key self.new.items) }
         ensures stable { OnOk result
             (IsStableByKeyClosure F.FnMut K.cmp sort_key self.old.items self.new.items) }
         ensures keeps { Keeps self.old self.new }
         ensures stays_valid { IsValid T.eq self.new }
-        // Consequences of `permutation`, for the proofs of callers.
+        // As many items as before, and each is found that was.
         ensures len { length self.new.items ≡ length self.old.items }
         ensures finds { (q : T) → find T.eq self.new.items q ≡ find T.eq self.old.items q }
         ensures contains { (q : T)
             → contains T.eq self.new.items q ≡ contains T.eq self.old.items q }
 
+        // On failure nothing changes. One item or none cannot fail.
         ensures unchanged { OnErr result (self.new ≡ self.old) }
         ensures succeeds { length self.old.items ≤ 1 → IsOk result }
     {

@@ -34,7 +34,7 @@ impl<K: Eq + Hash, V, S: BuildHasher> LruCache<K, V, S> {
         ensures unchanged { IsFalse result → self.new ≡ self.old }
         ensures valid { IsValidCache K.eq self.old }
         ensures stays_valid { IsValidCache K.eq self.new }
-        // A consequence of `pairs`, for the proofs of callers.
+        // Each key finds what it found.
         ensures finds { (q : K) → find K.eq self.new.pairs q ≡ find K.eq self.old.pairs q }
     {
         self.map.move_to_back(key)

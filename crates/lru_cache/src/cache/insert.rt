@@ -36,6 +36,7 @@ impl<K: Eq + Hash, V, S: BuildHasher> LruCache<K, V, S> {
     where
         K: Drop,
         V: Drop,
+        // On success the key has the value, and its old value is returned.
         ensures old { IfOk result (λ old. old ≡ value_at K.eq self.old.pairs key) }
         ensures pairs { OnOk result
             (self.new.pairs ≡ inserted K.eq self.old.limit self.old.pairs key value) }
@@ -44,11 +45,11 @@ impl<K: Eq + Hash, V, S: BuildHasher> LruCache<K, V, S> {
         ensures room { OnOk result (IsRoomAfter K.eq self.old key self.new.room) }
         ensures valid { IsValidCache K.eq self.old }
         ensures stays_valid { IsValidCache K.eq self.new }
-        // Consequences of `room`: room for one pair more than the limit is room enough.
+        // Room for one pair more than the limit is room enough.
         ensures room_least { self.old.room ≤ self.new.room }
         ensures room_most { self.new.room ≤ max self.old.room (self.old.limit + 1) }
         ensures room_enough { self.old.limit < self.old.room → self.new.room ≡ self.old.room }
-        // Consequences of `pairs`, for the proofs of callers.
+        // Where the pair stands, and what the other keys find.
         ensures here { OnOk result
             (0 < self.old.limit → value_at K.eq self.new.pairs key ≡ Some value) }
         ensures not_here { OnOk result
@@ -62,6 +63,7 @@ impl<K: Eq + Hash, V, S: BuildHasher> LruCache<K, V, S> {
             ⊎ (length self.old.pairs < self.old.limit)
             → Updates K.eq self.old.pairs self.new.pairs key (Some value)) }
 
+        // On failure the pair comes back and nothing changes: its key is new, below the limit.
         ensures key_back { IfErr result (λ refused. refused.key ≡ key) }
         ensures value_back { IfErr result (λ refused. refused.value ≡ value) }
         ensures unchanged { OnErr result (self.new ≡ self.old) }
@@ -97,6 +99,7 @@ impl<K: Eq + Hash, V, S: BuildHasher> LruCache<K, V, S> {
     where
         K: Drop,
         V: Drop,
+        // On success the key has the value, and the pair comes back that it replaces or that goes.
         ensures gone { IfOk result (λ pair.
             pair ≡ gone K.eq self.old.limit self.old.pairs key value) }
         ensures pairs { OnOk result
@@ -106,11 +109,11 @@ impl<K: Eq + Hash, V, S: BuildHasher> LruCache<K, V, S> {
         ensures room { OnOk result (IsRoomAfter K.eq self.old key self.new.room) }
         ensures valid { IsValidCache K.eq self.old }
         ensures stays_valid { IsValidCache K.eq self.new }
-        // Consequences of `room`: room for one pair more than the limit is room enough.
+        // Room for one pair more than the limit is room enough.
         ensures room_least { self.old.room ≤ self.new.room }
         ensures room_most { self.new.room ≤ max self.old.room (self.old.limit + 1) }
         ensures room_enough { self.old.limit < self.old.room → self.new.room ≡ self.old.room }
-        // Consequences of `pairs`, for the proofs of callers.
+        // Where the pair stands, and what the other keys find.
         ensures here { OnOk result
             (0 < self.old.limit → value_at K.eq self.new.pairs key ≡ Some value) }
         ensures not_here { OnOk result
@@ -124,6 +127,7 @@ impl<K: Eq + Hash, V, S: BuildHasher> LruCache<K, V, S> {
             ⊎ (length self.old.pairs < self.old.limit)
             → Updates K.eq self.old.pairs self.new.pairs key (Some value)) }
 
+        // On failure the pair comes back and nothing changes: its key is new, below the limit.
         ensures key_back { IfErr result (λ refused. refused.key ≡ key) }
         ensures value_back { IfErr result (λ refused. refused.value ≡ value) }
         ensures unchanged { OnErr result (self.new ≡ self.old) }

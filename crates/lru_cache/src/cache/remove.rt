@@ -35,7 +35,7 @@ impl<K: Eq + Hash, V, S: BuildHasher> LruCache<K, V, S> {
         ensures keeps { Keeps self.old self.new }
         ensures valid { IsValidCache K.eq self.old }
         ensures stays_valid { IsValidCache K.eq self.new }
-        // A consequence of `pairs`, for the proofs of callers.
+        // The key is gone, and the others keep their values.
         ensures updates { UpdatesBy K.eq self.old.pairs self.new.pairs (Q.equivalent key) None }
     {
         self.map.remove(key)
@@ -59,7 +59,7 @@ impl<K: Eq + Hash, V, S: BuildHasher> LruCache<K, V, S> {
         ensures keeps { Keeps self.old self.new }
         ensures valid { IsValidCache K.eq self.old }
         ensures stays_valid { IsValidCache K.eq self.new }
-        // A consequence of `pairs`, for the proofs of callers.
+        // The key is gone, and the others keep their values.
         ensures updates { UpdatesBy K.eq self.old.pairs self.new.pairs (Q.equivalent key) None }
     {
         self.map.remove_entry(key)
@@ -83,7 +83,7 @@ impl<K: Eq + Hash, V, S: BuildHasher> LruCache<K, V, S> {
         ensures unchanged { IfNone result (self.new ≡ self.old) }
         ensures valid { IsValidCache K.eq self.old }
         ensures stays_valid { IsValidCache K.eq self.new }
-        // Consequences of `pair` and `pairs`, for the proofs of callers.
+        // The key of the pair is gone, and the others keep their values.
         ensures updates { IfSome result (λ pair.
             Updates K.eq self.old.pairs self.new.pairs pair.0 None) }
         ensures finds { (q : K) → SameOrNone K.eq self.old.pairs self.new.pairs q }
@@ -113,7 +113,7 @@ impl<K: Eq + Hash, V, S: BuildHasher> LruCache<K, V, S> {
         ensures hasher { self.new.hasher ≡ self.old.hasher }
         ensures valid { IsValidCache K.eq self.old }
         ensures stays_valid { IsValidCache K.eq self.new }
-        // A consequence of `pairs`, for the proofs of callers.
+        // Each key finds what it found, or nothing.
         ensures finds { (q : K) → SameOrNone K.eq self.old.pairs self.new.pairs q }
     {
         #[tactic(auto, using(crate::proofs::Newest::newest_first))]
@@ -204,7 +204,7 @@ impl<K: Eq + Hash, V, S: BuildHasher> LruCache<K, V, S> {
         ensures keeps { Keeps self.old self.new }
         ensures valid { IsValidCache K.eq self.old }
         ensures stays_valid { IsValidCache K.eq self.new }
-        // A consequence of `keys`, for the proofs of callers.
+        // No key comes.
         ensures absent { (q : K) → find K.eq self.old.pairs q ≡ None
             → find K.eq self.new.pairs q ≡ None }
     {

@@ -6,15 +6,12 @@ use Rattle.ordered_json.specs.Pointers.{child}
 use Rattle.ordered_json.specs.View.{members_view, view}
 use Rattle.ordered_json.specs.declared.edit.EditError.{EditError}
 use Rattle.ordered_json.specs.declared.value.Value.{Value}
-use Rattle.ordered_json.proofs.Views.{view-Object}
-use Rattle.ordered_json.proofs.Children.{Map}
+use Rattle.ordered_json.proofs.Views.{view-Object, view-lent}
 use Rattle.ordered_json.proofs.edit.take_from.Goals as goal
 
 pub returns-in-Object-clause-value : goal.returns-in-Object-clause-value
 returns-in-Object-clause-value c =
-    let parent_is : view c.args.parent.now ≡ object (members_view c.deref_mut.result.now.pairs) =
-    ap view (sym c.replace.ensures.value ∙ c.in-Object.is) ∙ view-Object c.in-Object.members
-    ∙ ap (λ (m : Map). object (members_view m.pairs)) (sym c.deref_mut.ensures.value) in
+    let parent_is = view-lent (sym c.replace.ensures.value ∙ c.in-Object.is) c.deref_mut.ensures.value in
     IfOk-weaker c.take_member-taken.result
     (λ (v : Value). child c.args.name.now (object (members_view c.deref_mut.result.now.pairs)) ≡ Some (view v))
     (λ (v : Value). child c.args.name.now (view c.args.parent.now) ≡ Some (view v))
@@ -22,17 +19,13 @@ returns-in-Object-clause-value c =
 
 pub returns-in-Object-clause-rest : goal.returns-in-Object-clause-rest
 returns-in-Object-clause-rest c =
-    let parent_is : view c.args.parent.now ≡ object (members_view c.deref_mut.result.now.pairs) =
-    ap view (sym c.replace.ensures.value ∙ c.in-Object.is) ∙ view-Object c.in-Object.members
-    ∙ ap (λ (m : Map). object (members_view m.pairs)) (sym c.deref_mut.ensures.value) in
+    let parent_is = view-lent (sym c.replace.ensures.value ∙ c.in-Object.is) c.deref_mut.ensures.value in
     on_ok_weaker c.take_member-taken.result
     (λ is. ap (without_child c.args.name.now) parent_is ∙ is ∙ ap Ok (sym (view-Object _))) c.take_member-taken.ensures.rest
 
 pub returns-in-Object-clause-why : goal.returns-in-Object-clause-why
 returns-in-Object-clause-why c =
-    let parent_is : view c.args.parent.now ≡ object (members_view c.deref_mut.result.now.pairs) =
-    ap view (sym c.replace.ensures.value ∙ c.in-Object.is) ∙ view-Object c.in-Object.members
-    ∙ ap (λ (m : Map). object (members_view m.pairs)) (sym c.deref_mut.ensures.value) in
+    let parent_is = view-lent (sym c.replace.ensures.value ∙ c.in-Object.is) c.deref_mut.ensures.value in
     IfErr-weaker c.take_member-taken.result
     (λ (e : EditError). without_child c.args.name.now (object (members_view c.deref_mut.result.now.pairs)) ≡ Err e)
     (λ (e : EditError). without_child c.args.name.now (view c.args.parent.now) ≡ Err e)
@@ -40,8 +33,6 @@ returns-in-Object-clause-why c =
 
 pub returns-in-Object-clause-unchanged : goal.returns-in-Object-clause-unchanged
 returns-in-Object-clause-unchanged c =
-    let parent_is : view c.args.parent.now ≡ object (members_view c.deref_mut.result.now.pairs) =
-    ap view (sym c.replace.ensures.value ∙ c.in-Object.is) ∙ view-Object c.in-Object.members
-    ∙ ap (λ (m : Map). object (members_view m.pairs)) (sym c.deref_mut.ensures.value) in
+    let parent_is = view-lent (sym c.replace.ensures.value ∙ c.in-Object.is) c.deref_mut.ensures.value in
     on_err_weaker c.take_member-taken.result
     (λ is. view-Object _ ∙ ap (λ ps. object (members_view ps)) is ∙ sym parent_is) c.take_member-taken.ensures.unchanged

@@ -4,24 +4,20 @@ use Rattle.json.specs.Json.{object}
 use Rattle.ordered_json.specs.Edits.{move_child}
 use Rattle.ordered_json.specs.View.{members_view, view}
 use Rattle.ordered_json.specs.declared.edit.EditError.{EditError}
-use Rattle.ordered_json.proofs.Children.{Map}
-use Rattle.ordered_json.proofs.Views.{view-Object}
+use Rattle.ordered_json.specs.Room.{Map}
+use Rattle.ordered_json.proofs.Views.{view-Object, view-lent}
 use Rattle.ordered_json.proofs.edit_move.move_in.Goals as goal
 
 pub returns-in-Object-clause-child : goal.returns-in-Object-clause-child
 returns-in-Object-clause-child c =
-    let parent_is : view c.args.parent.now ≡ object (members_view c.deref_mut.result.now.pairs) =
-    ap view (sym c.replace.ensures.value ∙ c.in-Object.is) ∙ view-Object c.in-Object.members
-    ∙ ap (λ (m : Map). object (members_view m.pairs)) (sym c.deref_mut.ensures.value) in
+    let parent_is = view-lent (sym c.replace.ensures.value ∙ c.in-Object.is) c.deref_mut.ensures.value in
     on_ok_weaker c.move_member-done.result
     (λ is. ap (move_child c.args.behind c.args.other.now c.args.name.now) parent_is ∙ is
     ∙ ap Ok (sym (view-Object _))) c.move_member-done.ensures.child
 
 pub returns-in-Object-clause-why : goal.returns-in-Object-clause-why
 returns-in-Object-clause-why c =
-    let parent_is : view c.args.parent.now ≡ object (members_view c.deref_mut.result.now.pairs) =
-    ap view (sym c.replace.ensures.value ∙ c.in-Object.is) ∙ view-Object c.in-Object.members
-    ∙ ap (λ (m : Map). object (members_view m.pairs)) (sym c.deref_mut.ensures.value) in
+    let parent_is = view-lent (sym c.replace.ensures.value ∙ c.in-Object.is) c.deref_mut.ensures.value in
     IfErr-weaker c.move_member-done.result
     (λ (e : EditError). move_child c.args.behind c.args.other.now c.args.name.now (object
     (members_view c.deref_mut.result.now.pairs)) ≡ Err e)
@@ -30,8 +26,6 @@ returns-in-Object-clause-why c =
 
 pub returns-in-Object-clause-unchanged : goal.returns-in-Object-clause-unchanged
 returns-in-Object-clause-unchanged c =
-    let parent_is : view c.args.parent.now ≡ object (members_view c.deref_mut.result.now.pairs) =
-    ap view (sym c.replace.ensures.value ∙ c.in-Object.is) ∙ view-Object c.in-Object.members
-    ∙ ap (λ (m : Map). object (members_view m.pairs)) (sym c.deref_mut.ensures.value) in
+    let parent_is = view-lent (sym c.replace.ensures.value ∙ c.in-Object.is) c.deref_mut.ensures.value in
     on_err_weaker c.move_member-done.result
     (λ is. view-Object _ ∙ ap (λ (m : Map). object (members_view m.pairs)) is ∙ sym parent_is) c.move_member-done.ensures.unchanged

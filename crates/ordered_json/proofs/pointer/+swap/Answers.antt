@@ -6,8 +6,8 @@ use Rattle.std.specs.List.{slice_get}
 use Rattle.json.specs.Json.{array, object}
 use Rattle.ordered_json.specs.Pointers.{change_at, find_member, get_at, index}
 use Rattle.ordered_json.specs.View.{members_view, view}
-use Rattle.ordered_json.proofs.Views.{view-Object}
-use Rattle.ordered_json.proofs.Children.{Map, find_member-view, change_member-view, change_member-own, item-found}
+use Rattle.ordered_json.proofs.Views.{view-Object, view-lent}
+use Rattle.ordered_json.proofs.Children.{find_member-view, change_member-view, change_member-own, item-found}
 use Rattle.ordered_json.proofs.Children.{items-changed, items-kept}
 use Rattle.ordered_json.proofs.pointer.+swap.Goals as goal
 
@@ -16,9 +16,7 @@ swap_at-returns-in-Object-clause-there t c =
     let path_is : map string_bytes c.args.names.now ≡ c.as_str-in-Object.result.now ∷ map string_bytes c.in-Some.rest.now =
     ap (map string_bytes) c.in-Some.ensures.cases.0
     ∙ ap (λ n. n ∷ map string_bytes c.in-Some.rest.now) (sym c.as_str-in-Object.ensures.value) in
-    let target_is : view c.args.target.now ≡ object (members_view c.deref_mut.result.now.pairs) =
-    ap view (sym c.replace.ensures.value ∙ c.in-Object.is) ∙ view-Object c.in-Object.members
-    ∙ ap (λ (m : Map). object (members_view m.pairs)) (sym c.deref_mut.ensures.value) in
+    let target_is = view-lent (sym c.replace.ensures.value ∙ c.in-Object.is) c.deref_mut.ensures.value in
     c.swap_in_object-there.ensures.there ∙ sym (ap₂ (λ p j. is_some (get_at p j)) path_is target_is)
 
 pub swap_at-returns-in-Object-clause-document : goal.swap_at-returns-in-Object-clause-document
@@ -26,9 +24,7 @@ swap_at-returns-in-Object-clause-document t c =
     let path_is : map string_bytes c.args.names.now ≡ c.as_str-in-Object.result.now ∷ map string_bytes c.in-Some.rest.now =
     ap (map string_bytes) c.in-Some.ensures.cases.0
     ∙ ap (λ n. n ∷ map string_bytes c.in-Some.rest.now) (sym c.as_str-in-Object.ensures.value) in
-    let target_is : view c.args.target.now ≡ object (members_view c.deref_mut.result.now.pairs) =
-    ap view (sym c.replace.ensures.value ∙ c.in-Object.is) ∙ view-Object c.in-Object.members
-    ∙ ap (λ (m : Map). object (members_view m.pairs)) (sym c.deref_mut.ensures.value) in
+    let target_is = view-lent (sym c.replace.ensures.value ∙ c.in-Object.is) c.deref_mut.ensures.value in
     view-Object _ ∙ c.swap_in_object-there.ensures.document
     ∙ sym (ap₂ (λ p j. change_at (λ _. view c.args.other.now) p j) path_is target_is)
 
@@ -37,9 +33,7 @@ swap_at-returns-in-Object-clause-value t c =
     let path_is : map string_bytes c.args.names.now ≡ c.as_str-in-Object.result.now ∷ map string_bytes c.in-Some.rest.now =
     ap (map string_bytes) c.in-Some.ensures.cases.0
     ∙ ap (λ n. n ∷ map string_bytes c.in-Some.rest.now) (sym c.as_str-in-Object.ensures.value) in
-    let target_is : view c.args.target.now ≡ object (members_view c.deref_mut.result.now.pairs) =
-    ap view (sym c.replace.ensures.value ∙ c.in-Object.is) ∙ view-Object c.in-Object.members
-    ∙ ap (λ (m : Map). object (members_view m.pairs)) (sym c.deref_mut.ensures.value) in
+    let target_is = view-lent (sym c.replace.ensures.value ∙ c.in-Object.is) c.deref_mut.ensures.value in
     c.swap_in_object-there.ensures.value ∙ sym (ap₂ (λ p j. unwrap_or (get_at p j) (view c.args.other.now)) path_is target_is)
 
 pub swap_in_array-returns-in-Some-get_mut-clause-there : goal.swap_in_array-returns-in-Some-get_mut-clause-there

@@ -1,6 +1,23 @@
-use Rattle.lhm_ring.proofs.Names.{ap, arith, ◌∙◌, pointer_of, pointer_of_some}
+use Rattle.lhm_ring.proofs.{Names.[], Names.ap, Names.arith, Names.refl, Names.◌∙◌, Names.pointer_of, Names.pointer_of_some}
 use Rattle.lhm_ring.proofs.indexes.IndexPuts.{IsHeld-rehashing, IsRehashing-step, count-rehashing, length-rehashing}
+use Rattle.lhm_ring.proofs.indexes.WholeBuckets.{Indexes-none}
 use Rattle.lhm_ring.proofs.index.Index.put_in_all.Goals as goal
+
+pub loop-pointer-init : goal.loop-pointer-init
+loop-pointer-init g c = record {
+  rehashing = record {
+    done = [];
+    rest = c.args.ring.now.held;
+    is = refl;
+    indexed = Indexes-none c.args.self.now c.requires.empty c.requires.words;
+    pointer_is = c.first-pointer.ensures;
+    count_is = refl;
+    kept = refl;
+    buckets_is = refl;
+  };
+  spares = refl;
+  nodes = refl;
+}
 
 pub next-pointer-requires : goal.next-pointer-requires
 next-pointer-requires g c = IsHeld-rehashing c.loop-pointer.invariant.rehashing (pointer_of c.in-Some.at) (ap pointer_of_some c.in-Some.is)

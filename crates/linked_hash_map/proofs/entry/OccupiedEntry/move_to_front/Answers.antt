@@ -1,5 +1,6 @@
 use Rattle.linked_hash_map.proofs.Names.{ap, length, ◌∙◌, occupied_key, occupied_map, find}
-use Rattle.linked_hash_map.proofs.{Callers.Moves.find-to_front, Callers.Moves.length-to_front, pairs.OccupiedEntries.IsIndex-occupied, pairs.OccupiedEntries.within-moved}
+use Rattle.linked_hash_map.proofs.Callers.Moves.{find-to_front, length-to_front}
+use Rattle.linked_hash_map.proofs.pairs.OccupiedEntries.{IsIndex-occupied, within-moved}
 use Rattle.linked_hash_map.proofs.entry.OccupiedEntry.move_to_front.Goals as goal
 
 pub invariant_of-self : goal.invariant_of-self

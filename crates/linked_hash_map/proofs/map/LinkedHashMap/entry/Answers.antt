@@ -1,6 +1,6 @@
 use Rattle.linked_hash_map.proofs.Names.{Some, ap, refl, sym, ◌∙◌, cursor_state, nowhere, key_or}
-use Rattle.linked_hash_map.proofs.Callers.Updates.{Updates-put, Updates-set_or_push, Updates-without}
-use Rattle.linked_hash_map.proofs.{Callers.Keys.without-absent, log.ActsAs.ActsAs-same, log.ActsAs.put-ActsAs, pairs.OccupiedEntries.occupied_pair-index}
+use Rattle.linked_hash_map.proofs.Callers.{Keys.without-absent, Updates.Updates-put, Updates.Updates-set_or_push, Updates.Updates-without}
+use Rattle.linked_hash_map.proofs.{log.ActsAs.ActsAs-same, log.ActsAs.put-ActsAs, pairs.OccupiedEntries.occupied_pair-index}
 use Rattle.linked_hash_map.proofs.pairs.Indexes.{find-index, is_some-index, value_at-index}
 use Rattle.linked_hash_map.proofs.map.LinkedHashMap.entry.Goals as goal
 
@@ -60,4 +60,5 @@ pub returns-clause-removes : goal.returns-clause-removes
 returns-clause-removes g c = Updates-without g.met.K.Eq.laws c.args.self.now.pairs _ c.args.key refl
 
 pub returns-clause-absent : goal.returns-clause-absent
-returns-clause-absent g c = λ _. without-absent g.K.PartialEq.eq c.args.self.now.pairs c.args.key (c.seek-hash.ensures.absent c.if-found.false)
+returns-clause-absent g c = λ _.
+    without-absent g.K.PartialEq.eq c.args.self.now.pairs c.args.key (c.seek-hash.ensures.absent c.if-found.false)
