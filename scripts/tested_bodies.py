@@ -10,8 +10,8 @@ import tempfile
 
 from shared import ROOT, copy_crates, read, run, write
 
-# The folders of a crate that no try needs.
-LEFT_OUT = ("must-fail", "by-clause", "only-tested")
+# The folders of a crate that have bodies: the first two those that are refused.
+FOLDERS = ("must-fail", "by-clause", "only-tested")
 # The module of tests with maps of a million pairs, which are run for their own bodies alone.
 SLOW = "growths"
 # The seconds that the tests of a crate have, on a busy machine too.
@@ -73,7 +73,7 @@ def failed_tests(folder, tests):
 
 def copy_changed(root, work, crate, texts):
     """Copies the crates of a repository, with other texts of one."""
-    copy_crates(root, work, *LEFT_OUT)
+    copy_crates(root, work, *FOLDERS)
     for path, text in texts.items():
         write(f"{work}/crates/{crate}/{path}", text)
 
