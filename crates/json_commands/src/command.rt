@@ -1,6 +1,6 @@
 //! Commands: what texts say, and what they make of a document.
 
-ghost use Rattle.std.specs.Prelude.{◌≡◌, ◌≢◌, Err, IfErr, Ok, OnOk, option_map, string_bytes};
+ghost use Rattle.std.specs.Prelude.{◌≡◌, ◌≢◌, Err, IfErr, Ok, OnErr, OnOk, option_map, string_bytes};
 ghost use Rattle.ordered_json.specs.Read.{read};
 ghost use Rattle.ordered_json.specs.View.{view};
 ghost use Rattle.ordered_json.specs.declared.edit.EditError.TheVariants.{NoRoom};
@@ -32,11 +32,12 @@ pub enum Command {
 }
 
 impl Command {
-    /// Edits a document.
+    /// Edits a document, which stays as it is if this returns an error.
     pub fn apply(self, document: &mut Value, alloc: Global) -> Result<(), EditError>
         ensures document { OnOk result (edit self (view document.old) ≡ Ok (view document.new)) }
         ensures why { IfErr result (λ error. error ≢ NoRoom
             → edit self (view document.old) ≡ Err error) }
+        ensures unchanged { OnErr result (view document.new ≡ view document.old) }
     {
         match self {
             Command::Set(pointer, value) => match document.set(pointer.as_str(), value, alloc) {
@@ -61,14 +62,19 @@ impl Command {
                 Err(_refused) => Err(EditError::NoRoom),
             },
             Command::Sort(pointer) => document.sort_keys(pointer.as_str(), alloc),
-            Command::Get(pointer) => match document.pointer_mut(pointer.as_str()) {
-                Some(target) => {
-                    let value = target.take();
-                    *document = value;
-                    Ok(())
+            Command::Get(pointer) => {
+                if document.pointer(pointer.as_str()).is_none() {
+                    return Err(EditError::Absent);
                 }
-                None => Err(EditError::Absent),
-            },
+                match document.pointer_mut(pointer.as_str()) {
+                    Some(target) => {
+                        let value = target.take();
+                        *document = value;
+                        Ok(())
+                    }
+                    None => Err(EditError::Absent),
+                }
+            }
         }
     }
 }
