@@ -11,15 +11,16 @@ pub use Rattle.lhm_ring.specs.Buckets.{BitsHaveChains, BucketState, HasNoChain, 
 pub use Rattle.lhm_ring.specs.Buckets.{leads_to, made_fitted, made_raised, may_contain, rechained_fitted, rechained_lowered}
 pub use Rattle.lhm_ring.specs.Buckets.{rechained_raised}
 pub use Rattle.lhm_ring.specs.ContentLoan.{Bodies, HasBody, bodies, bodies_of, borrows_bodies, cleared, firsts, seconds, with_bodies}
-pub use Rattle.lhm_ring.specs.Drain.{HasRow, IsRow, SameButLinks, SparesRow, StartsAt, onto, triple_of}
+pub use Rattle.lhm_ring.specs.Drain.{HasRow, IsRow, SameButLinks, SparesRow, StartsAt, onto}
 pub use Rattle.lhm_ring.specs.Index.{ChangesLinks, HasChain, HasChains, HoldsOthers, Indexes, IsChain, IsIndexed, IsLast}
 pub use Rattle.lhm_ring.specs.Index.{IsOnChain, IsPutFirst, IsRearranged, OfNodeAt, PutsFirst, PutsIn, Spot, count_in_bucket}
 pub use Rattle.lhm_ring.specs.Index.{count_with_hash, entries, is_in, spot, spots}
 pub use Rattle.lhm_ring.specs.{Iter.held_left, Iter.loan_name, Ring.unvalued}
-pub use Rattle.lhm_ring.specs.Links.{AreLinked, AreNeighbours, ChainsTo, HasContent, HasEnds, IsJoined, IsLaid, IsOwned, IsRing, IsSpan}
+pub use Rattle.lhm_ring.specs.Links.{AreLinked, AreNeighbours, ChainsTo, HasContent, HasEnds, IsJoined, IsLaid, IsOwned, HasSpan, IsRing, IsSpan}
 pub use Rattle.lhm_ring.specs.Links.{IsSpareList, IsThere, LeadsBack, LeadsOn, chaining_to, content_at, content_of, ends_links, has_links}
-pub use Rattle.lhm_ring.specs.Links.{is_there, last_pointer, leading_back, leading_on, least_more, link_at, link_of, most_nodes, next_at}
-pub use Rattle.lhm_ring.specs.Links.{next_of, nodes_grown, one_of, prev_at, prev_of, ring_cells, ring_list, ring_pointers, span_triples}
+pub use Rattle.lhm_ring.specs.Links.{is_there, leading_back, leading_on, least_more, link_at, link_of, most_nodes, next_at}
+pub use Rattle.lhm_ring.specs.Links.{next_of, nodes_grown, one_of, prev_at, prev_of, ring_cells, span}
+pub use Rattle.lhm_ring.specs.{Links.holders, Nodes.AtCell, Nodes.BeforeCell, Nodes.IsPlaceFor, Nodes.first_place}
 pub use Rattle.lhm_ring.specs.Nodes.{AreBlocks, Cell, Chunk, Holds, IsApart, IsAt, IsChunk, IsKey, IsUnit, IsValue, block_owns, body_at}
 pub use Rattle.lhm_ring.specs.Nodes.{body_lent, body_of, body_owns, cell, cell_lent, cell_owns, cells_lent, cells_own, chunk, chunk_token}
 pub use Rattle.lhm_ring.specs.Nodes.{chunk_type, chunk_units, chunks_own, deed_owns, fields_own, head_owns, head_type, head_val, is_block}
@@ -30,14 +31,14 @@ pub use Rattle.lhm_ring.specs.Pointer.{led_to, pointer_of, pointer_of_some, targ
 pub use Rattle.lhm_ring.specs.Positions.{PlaceAt, index_of, insert_at, to_back_at, to_before_at, to_front_at}
 pub use Rattle.lhm_ring.specs.Ring.{AtHeld, BeforeHeld, ChangesOnly, Held, IsHeld, IsTripleClone, SplitAt, SplitLast, State, change_at}
 pub use Rattle.lhm_ring.specs.Ring.{first_at, held, last_at, last_of, linked_to, pair, rekeyed, revalued, set_held_values, state, triples}
-pub use Rattle.lhm_ring.specs.RingAfterLoan.{cleared_nodes, holding, value_set, with_value, with_values}
+pub use Rattle.lhm_ring.specs.RingAfterLoan.{KeepsAllButValues, cleared_nodes, holding, value_set, with_value, with_values}
 pub use Rattle.lhm_ring.specs.Search.{Compares, CountsAll, CountsSome, DifferAll, FindsKey, FindsNone, HasKey, IsPart, LacksKey}
 pub use Rattle.lhm_ring.specs.Sort.{AscendsBoth, ComparesBy, MergesRuns, PairOrder, Reorders, RunAt, RunsAt, Sorts, SortsRun, by_pair}
 pub use Rattle.lhm_ring.specs.Table.{CallsAt, IsTable, KeepsCounts, RetainsAt, RetainsHeld, TableState, TakesAt, WritesOnly, table_of}
 pub use Rattle.lhm_ring.specs.ValueLoan.{AreLent, HasValueAt, Spread, borrowed, spread}
 pub use Rattle.lhm_ring.specs.declared.bucket_block.{Head.Head, Word.Word}
 pub use Rattle.lhm_ring.specs.declared.{content_loan.ContentLoan.ContentLoan, nodes.Nodes.Nodes, value_loan.ValueLoan.ValueLoan}
-pub use Rattle.lhm_ring.specs.declared.{pointer.Link.Link, pointer.Position.Position, ring.Ends.Ends, ring.Links.Links}
+pub use Rattle.lhm_ring.specs.declared.{links.Ends.Ends, links.Links.Links, pointer.Link.Link, pointer.Position.Position}
 pub use Rattle.std.proofs.Math.{Nat.mod-lt, Nat.pow-le-pow_right, Nat.pow-suc, Seq.drop-append-add, Seq.drop-length, Seq.take-length}
 pub use Rattle.std.proofs.{RawLayout.as_raw, RawLayout.as_written, lemmas.Nat.and_mask, lemmas.Nat.pow_pos}
 pub use Rattle.std.proofs.RcSteps.{Good, word, word-Good, word_ty}
@@ -96,7 +97,7 @@ pub use prog.Wp.{Calls, Closed, Loops, Wp, WpFn, after_seq, at_return}
 pub use seplogic.Ra.Ura.{Ura}
 pub use types.ByLocal.{alloc_all, env, free_all, get, get_in, get_tag, is, lands_as, lands_last, look_at, pass_all, sets, sets_last}
 pub use types.{ByLocal.through, Kit.◌∵◌, Kit.◌⊛◌, Mut.close_ref, Mut.open_ref, SemTy.Body, SemTy.SemTy, Logic.Logic, Logic.lfts, Logic.sem}
-pub use types.{Follow.after₂, Follow.takes_beside, Follow.takes_part, Follow.takes_two, Part.agg, Part.look_in, Part.sub, Part.whole}
+pub use types.{Follow.after₂, Follow.takes_beside, Follow.takes_two, Part.agg, Part.look_in, Part.sub, Part.whole}
 pub use types.Kit.{Goal, Item, Seq, Step, allocs, any_q, assume, at_ret, await, !, by, check, done, drop, feq_i, feq_l, fjoin, fjoin3}
 pub use types.Kit.{flt_i, flt_l, fpack, fpick, frame, fsplit, fsplit3, given, group, join, keep, later, learn, mean, move, now, params'}
 pub use types.Kit.{pick, prop, qed, raw, rewrite, runs, show, some, split, split3, step, suffices, updating, use0, use1, use2, use3, ‵, ◌$◌}
@@ -105,7 +106,7 @@ pub use types.Run.{of_opd, returns, size_lit, size_word, stop, store, switches_o
 unfoldable pub use Rattle.lhm_ring.specs.{Buckets.buckets, Sort.IsAscending, ValueLoan.value_at, ValueLoan.without_value}
 unfoldable pub use Rattle.lhm_ring.specs.Index.{CoversAll}
 unfoldable pub use Rattle.lhm_ring.specs.ContentLoan.{body_in, without_body}
-unfoldable pub use Rattle.lhm_ring.specs.Links.{IsStacked, follow, listed, place_count, pointers_from}
+unfoldable pub use Rattle.lhm_ring.{proofs.rings.Listed.listed, specs.Links.IsStacked, specs.Links.contents, specs.Links.from_at, specs.Links.place_count}
 unfoldable pub use Rattle.lhm_ring.specs.Nodes.{cell_at, change, places, row}
 unfoldable pub use Rattle.std.specs.List.{IsDistinct}
 unfoldable pub use base.Fml.{fseps}

@@ -1,4 +1,5 @@
 pub mod Apart
+pub mod Cuts
 pub mod ForAll
 pub mod Last
 pub mod LinkRows

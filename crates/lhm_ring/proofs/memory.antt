@@ -12,15 +12,16 @@ pub mod FieldSeen
 pub mod Lodging
 pub mod NodeAdded
 pub mod NodeFields
+pub mod NodeMoved
 pub mod NodeTaken
 pub mod NodesWithBodies
 pub mod OneNodeChanged
 pub mod PartsTaken
 pub mod PlaceCut
 pub mod Places
+pub mod PlacesRearranged
 pub mod Sharing
 pub mod Steps
 pub mod ValueTaken
 pub mod ValuesInOrder
-pub mod ValuesReplaced
 pub mod ValuesSplitOff

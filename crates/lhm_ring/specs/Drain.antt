@@ -2,7 +2,7 @@
 use Rattle.std.specs.Prelude.{◌≡◌, ℕ, ◌+◌, List, [], ◌∷◌, ◌++◌, length, Option, Some, None}
 use Rattle.std.specs.List.{AllByRecursion}
 use denote.RawPtr.{Ptr}
-use Rattle.lhm_ring.specs.declared.ring.Links.{Links}
+use Rattle.lhm_ring.specs.declared.links.Links.{Links}
 use Rattle.lhm_ring.specs.declared.drain.Spliced.{Spliced}
 use Rattle.lhm_ring.specs.declared.pointer.Link.{Link}
 use Rattle.std.specs.Borrow.{GName}
@@ -10,8 +10,8 @@ use Rattle.lhm_ring.specs.ContentLoan.{cleared}
 use Rattle.lhm_ring.specs.declared.drain.Drain.{Drain}
 use Rattle.lhm_ring.specs.Nodes.{Cell, IsApart}
 use Rattle.lhm_ring.specs.Links.{AreLinked, IsSpareList, next_at, prev_at, is_there, IsThere}
-use Rattle.lhm_ring.specs.Links.{content_at, ring_list, IsOwned, IsSpan, span_triples}
-use Rattle.lhm_ring.specs.Ring.{Held, triples}
+use Rattle.lhm_ring.specs.Links.{contents, holders, IsOwned, IsSpan}
+use Rattle.lhm_ring.specs.Ring.{triples}
 
 -- the pointers ps, the last first, and then ss
 abbrev pub onto : List Ptr → List Ptr → List Ptr
@@ -23,17 +23,14 @@ StartsAt [] f = Unit {0}
 StartsAt (p ∷ ps) f = p ≡ f
 
 module _ {B : Type 0} where
-  abbrev pub triple_of : Option (Held B) → Option (ℕ × B)
-  triple_of None = None
-  triple_of (Some t) = Some (t.hash, t.pair)
-
   -- the same nodes, except for their chain links
   pub record SameButLinks (cs ds : List (Cell Links B)) : Type 0 where
     pub next : (q : Ptr) → next_at ds q ≡ next_at cs q
     pub prev : (q : Ptr) → prev_at ds q ≡ prev_at cs q
     pub there : (q : Ptr) → is_there ds q ≡ is_there cs q
-    pub triple : (q : Ptr) → triple_of (content_at ds q) ≡ triple_of (content_at cs q)
     pub count : length ds ≡ length cs
+    pub order : holders ds ≡ holders cs
+    pub held : triples (contents ds) ≡ triples (contents cs)
 
   -- the n nodes ps from f on, and the spare nodes ss, none of them among ps
   pub record IsRow (cs : List (Cell Links B)) (f : Ptr) (n : ℕ) (spare : Option Ptr)
@@ -58,18 +55,18 @@ module _ {B : Type 0} where
 
   -- the nodes are a ring of n held ones
   abbrev pub HasRing : List (Cell Links B) → Link → ℕ → Type 0
-  HasRing cs spare n = (m : ℕ) × IsOwned cs spare n m
+  HasRing cs spare n = (ps : List Ptr) × ((m : ℕ) × IsOwned cs ps spare n m)
 
   -- in ds all nodes of the ring are spare
   abbrev pub SplicesRing : List (Cell Links B) → Link → ℕ → List (Cell Links B) → Spliced → Type 0
-  SplicesRing cs spare n ds s = (m : ℕ) → IsOwned cs spare n m → IsOwned (cleared ds) s.spare 0 (m + n)
+  SplicesRing cs spare n ds s =
+      (ps : List Ptr) (m : ℕ) → IsOwned cs ps spare n m → IsOwned (cleared ds) [] s.spare 0 (m + n)
 
   -- what the ring held is in the nodes ds, from s.first to s.last
   abbrev pub KeepsRow : List (Cell Links B) → Link → ℕ → List (Cell Links B) → Spliced → Type 0
   KeepsRow cs spare n ds s =
-      (m : ℕ) → IsOwned cs spare n m
-      → IsSpan ds s.first.ptr s.last.ptr n
-      × (span_triples ds n s.first.ptr ≡ triples (ring_list cs n))
+      (m : ℕ) → IsOwned cs (holders cs) spare n m
+      → IsSpan ds (contents ds) s.first.ptr s.last.ptr n × (triples (contents ds) ≡ triples (contents cs))
 
 module _ {K V : Type 0} where
   -- r is the first of xs and the others are ys, or there is none

@@ -5,9 +5,9 @@ use base.Fml.{GName}
 use denote.RawPtr.{Ptr}
 use Rattle.lhm_ring.specs.declared.pointer.NodePointer.{NodePointer}
 use mathlib.Core.Option as core
-use Rattle.lhm_ring.specs.declared.iter.IterMut.{IterMut}
-use Rattle.lhm_ring.specs.declared.iter.IterMut.TheVariants.{Empty, Lent}
-use Rattle.lhm_ring.specs.declared.value_loan.LentValues.{LentValues}
+use Rattle.lhm_ring.specs.declared.iter_mut.TriplesMut.{TriplesMut}
+use Rattle.lhm_ring.specs.declared.iter_mut.TriplesMut.TheVariants.{Empty, Lent}
+use Rattle.lhm_ring.specs.declared.iter_mut.LentValues.{LentValues}
 use Rattle.lhm_ring.specs.ValueLoan.{AreLent}
 use Rattle.lhm_ring.specs.Ring.{Held, held}
 
@@ -65,16 +65,16 @@ module _ {K V : Type 0} where
 
 module _ {K V : Type 0} where
   -- the triples that are still to come
-  abbrev pub held_left : IterMut K V → List (Held (K × V))
+  abbrev pub held_left : TriplesMut K V → List (Held (K × V))
   held_left (Empty e) = []
   held_left (Lent l) = l.0
 
   -- their pairs
-  abbrev pub pairs_left : IterMut K V → List (K × V)
+  abbrev pub pairs_left : TriplesMut K V → List (K × V)
   pairs_left i = map (λ t. t.pair) (held_left i)
 
   -- the name of the loan of the values
-  abbrev pub loan_name : IterMut K V → core.Option GName
+  abbrev pub loan_name : TriplesMut K V → core.Option GName
   loan_name (Empty e) = core.some e.ghost_name
   loan_name (Lent l) = core.some l.1
 

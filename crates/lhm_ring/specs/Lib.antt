@@ -10,10 +10,8 @@ pub mod Nodes
 pub mod OwnedProp
 pub mod Placed
 pub mod Pointer
-pub mod PointerLists
 pub mod Positions
-pub mod Rebodied
-pub mod Refill
+pub mod Rearranged
 pub mod Ring
 pub mod RingAfterLoan
 pub mod SameNodes

@@ -3,15 +3,15 @@
 -- right after the last.
 use Rattle.std.specs.Prelude.{◌≡◌, ℕ, suc, zero, ◌+◌, ◌≤◌, ◌^◌, Bool, true, false, cond, List, []}
 use Rattle.std.specs.Prelude.{◌∷◌, ◌++◌, length, Option, Some, None, ◌-◌, ◌*◌, ◌/◌, min, max, nat_le, ◌==◌}
-use Rattle.std.specs.Prelude.{if◌then◌else◌}
+use Rattle.std.specs.Prelude.{if◌then◌else◌, map, take}
 use Rattle.std.proofs.Common.{refl}
 use Rattle.std.specs.List.{AllByRecursion}
 use denote.RawPtr.{Ptr, null_ptr}
 use Rattle.lhm_ring.specs.declared.pointer.Link.{Link}
-use Rattle.lhm_ring.specs.declared.ring.Links.{Links}
-use Rattle.lhm_ring.specs.declared.ring.Ends.{Ends}
+use Rattle.lhm_ring.specs.declared.links.Links.{Links}
+use Rattle.lhm_ring.specs.declared.links.Ends.{Ends}
 use Rattle.lhm_ring.specs.Nodes.{Cell, cell, same_ptr, links_at, body_at, with_links, IsApart, is_block, Chunk}
-use Rattle.lhm_ring.specs.Ring.{Held, triples}
+use Rattle.lhm_ring.specs.Ring.{Held, last_of}
 use Rattle.lhm_ring.specs.Pointer.{target}
 
 -- the links, with the chain link o, or with the next node o, or with the node before
@@ -115,26 +115,22 @@ module _ {B : Type 0} where
       : Type 0 where
     pub linked : AreLinked cs (null_ptr ∷ (ps ++ null_ptr ∷ []))
     pub chained : IsSpareList cs spare ss
-    pub held : AllByRecursion (HasContent cs) ps
     pub there : AllByRecursion (IsThere cs) (null_ptr ∷ (ps ++ ss))
     pub apart : IsApart (null_ptr ∷ (ps ++ ss))
     pub count : length cs ≡ suc (length ps + length ss)
-    -- a spare node holds nothing
-    pub empty : AllByRecursion (λ p. content_at cs p ≡ None) ss
-
-  -- the n pointers after p
-  unfoldable pub follow : List (Cell Links B) → ℕ → Ptr → List Ptr
-  follow cs zero p = []
-  follow cs (suc n) p = next_at cs p ∷ follow cs n (next_at cs p)
 
   abbrev pub one_of : Option (Held B) → List (Held B)
   one_of None = []
   one_of (Some x) = x ∷ []
 
-  -- what the nodes at ps hold
-  unfoldable pub listed : List (Cell Links B) → List Ptr → List (Held B)
-  listed cs [] = []
-  listed cs (p ∷ ps) = one_of (content_at cs p) ++ listed cs ps
+  -- what the nodes hold, in the order in which they are listed
+  unfoldable pub contents : List (Cell Links B) → List (Held B)
+  contents [] = []
+  contents (c ∷ cs) = one_of (content_of c.at (Some c.links) c.body) ++ contents cs
+
+  -- where the nodes lie that hold something, in the same order
+  abbrev pub holders : List (Cell Links B) → List Ptr
+  holders cs = map (λ t. t.at) (contents cs)
 
   -- the same nodes, except that b comes right after a
   pub record IsJoined (cs ds : List (Cell Links B)) (a b : Ptr) : Type 0 where
@@ -144,55 +140,48 @@ module _ {B : Type 0} where
     pub content : (q : Ptr) → content_at ds q ≡ content_at cs q
     pub there : (q : Ptr) → is_there ds q ≡ is_there cs q
     pub count : length ds ≡ length cs
-
-abbrev pub last_pointer : Ptr → List Ptr → Ptr
-last_pointer p [] = p
-last_pointer p (q ∷ qs) = last_pointer q qs
-
--- ps begins with f and ends with b
-abbrev pub HasEnds : List Ptr → Ptr → Ptr → Type 0
-HasEnds [] f b = Unit {0}
-HasEnds (p ∷ ps) f b = (p ≡ f) × (last_pointer p ps ≡ b)
+    pub order : holders ds ≡ holders cs
 
 module _ {B : Type 0} where
-  -- the n pointers from p on
-  unfoldable pub pointers_from : List (Cell Links B) → ℕ → Ptr → List Ptr
-  pointers_from cs zero p = []
-  pointers_from cs (suc n) p = p ∷ pointers_from cs n (next_at cs p)
+  -- hs begins at f and ends at b
+  abbrev pub HasEnds : List (Held B) → Ptr → Ptr → Type 0
+  HasEnds [] f b = Unit {0}
+  HasEnds (t ∷ hs) f b = (t.at ≡ f) × (last_of t hs ≡ b)
 
-  -- the triples of the n nodes from p on
-  abbrev pub span_triples : List (Cell Links B) → ℕ → Ptr → List (ℕ × B)
-  span_triples cs n p = triples (listed cs (pointers_from cs n p))
+  -- what is held from p on
+  unfoldable pub from_at : Ptr → List (Held B) → List (Held B)
+  from_at p [] = []
+  from_at p (t ∷ hs) = cond (same_ptr t.at p) (t ∷ hs) (from_at p hs)
 
-  -- the pointers of what a ring of n nodes holds
-  abbrev pub ring_pointers : List (Cell Links B) → ℕ → List Ptr
-  ring_pointers cs n = follow cs n null_ptr
+  -- the first n of what nodes hold from p on
+  abbrev pub span : List (Cell Links B) → ℕ → Ptr → List (Held B)
+  span cs n p = take n (from_at p (contents cs))
 
-  -- what it holds
-  abbrev pub ring_list : List (Cell Links B) → ℕ → List (Held B)
-  ring_list cs n = listed cs (ring_pointers cs n)
-
-  -- the nodes are a ring of n held and at least m spare ones
-  pub record IsOwned (cs : List (Cell Links B)) (spare : Link) (n m : ℕ) : Type 0 where
-    -- where the held nodes lie, in order, and the spare ones, from the first on
-    pub held_pointers : List Ptr
+  -- the nodes are a ring of n held and at least m spare ones, and the held ones lie at ps, in order
+  pub record IsOwned (cs : List (Cell Links B)) (ps : List Ptr) (spare : Link) (n m : ℕ)
+      : Type 0 where
+    -- where the spare ones lie, from the first on
     pub spare_pointers : List Ptr
-    pub ring : IsRing cs held_pointers (target spare) spare_pointers
-    pub held_count : length held_pointers ≡ n
+    pub ring : IsRing cs ps (target spare) spare_pointers
+    pub held_count : length ps ≡ n
     -- there may be more spare nodes than are counted
     pub enough_spares : m ≤ length spare_pointers
     pub bounded : n + m ≤ 2 ^ 59
 
-  -- n nodes that hold something, each right after the one before, from f to b
-  pub record IsSpan (cs : List (Cell Links B)) (f b : Ptr) (n : ℕ) : Type 0 where
-    -- where they lie, in order
-    pub pointers : List Ptr
-    pub count : length pointers ≡ n
-    pub linked : AreLinked cs pointers
-    pub ends : HasEnds pointers f b
-    pub held : AllByRecursion (HasContent cs) pointers
-    -- no pointer comes twice
-    pub apart : IsApart pointers
+  -- hs are n in number, each right after the one before, from f to b
+  pub record IsSpan (cs : List (Cell Links B)) (hs : List (Held B)) (f b : Ptr) (n : ℕ)
+      : Type 0 where
+    pub count : length hs ≡ n
+    pub linked : AreLinked cs (map (λ t. t.at) hs)
+    pub ends : HasEnds hs f b
+
+  -- a part of what nodes hold is such
+  pub record HasSpan (cs : List (Cell Links B)) (f b : Ptr) (n : ℕ) : Type 0 where
+    pub before : List (Held B)
+    pub part : List (Held B)
+    pub after : List (Held B)
+    pub is : contents cs ≡ before ++ (part ++ after)
+    pub span : IsSpan cs part f b n
 
 module _ {B : Type 0} where
   -- ds has n nodes more than cs, the first of them f, and the last with a link to s. The one on top

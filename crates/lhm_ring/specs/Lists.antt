@@ -1,12 +1,8 @@
--- What holds of each element of a list holds of the elements of its parts.
-use Rattle.std.specs.Prelude.{List, [], ◌∷◌, ◌++◌}
+-- A fact of each element of a list, from another of each, or of every element.
+use Rattle.std.specs.Prelude.{List, [], ◌∷◌}
 use Rattle.std.specs.List.{AllByRecursion}
 
 module _ {X : Type 0} (P : X → Type 0) where
-  pub AllByRecursion-left : (xs ys : List X) → AllByRecursion P (xs ++ ys) → AllByRecursion P xs
-  AllByRecursion-left [] ys a = tt
-  AllByRecursion-left (x ∷ xs) ys a = (a.0, AllByRecursion-left xs ys a.1)
-
   pub AllByRecursion-map : (Q : X → Type 0) → ((x : X) → P x → Q x) → (xs : List X)
       → AllByRecursion P xs → AllByRecursion Q xs
   AllByRecursion-map Q f [] a = tt

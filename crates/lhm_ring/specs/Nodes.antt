@@ -1,6 +1,6 @@
 -- The nodes that a ring owns, the chunks that they are cut from, and what is owned with them.
 use Rattle.std.specs.Prelude.{◌≡◌, Bool, true, false, ◌&&◌, ◌==◌, cond, nat_lt, ◌^◌, List, [], ◌∷◌}
-use Rattle.std.specs.Prelude.{map, Option, Some, None, ℕ, zero, suc, ◌*◌, ◌++◌, ◌+◌, ◌/◌, ◌<◌}
+use Rattle.std.specs.Prelude.{map, Option, Some, None, ℕ, zero, suc, ◌*◌, ◌++◌, ◌+◌, ◌/◌, ◌<◌, ◌⊎◌}
 use Rattle.std.specs.List.{IsDistinct, IsDistinct-prop, AllByRecursion, AllByRecursion-prop}
 use mathlib.Core.Bool.{Bool-set}
 use denote.RawPtr.{Ptr, block_ptr, null_ptr, ptr_val, room_for, ◌+ₚ◌, lies_at}
@@ -102,6 +102,29 @@ module _ {L B : Type 0} where
   -- a node lies at p and holds something
   abbrev pub Holds : List (Cell L B) → Ptr → Type 0
   Holds cs p = (b : B) × (body_at cs p ≡ Some b)
+
+  -- P holds of the node at p, with what is listed before it and after it
+  abbrev pub AtCell : List (Cell L B) → Ptr
+      → (List (Cell L B) → Cell L B → List (Cell L B) → Type 0) → Type 0
+  AtCell cs p P =
+      (xs : List (Cell L B)) (c : Cell L B) (ys : List (Cell L B)) → cs ≡ xs ++ c ∷ ys → c.at ≡ p
+      → P xs c ys
+
+  -- the pointer of the first, or null if there is none
+  abbrev pub first_place : List (Cell L B) → Ptr
+  first_place [] = null_ptr
+  first_place (c ∷ cs) = c.at
+
+  -- P holds of what is listed before the node at q and of what is listed from it on, or for null of
+  -- all and of nothing
+  abbrev pub BeforeCell : List (Cell L B) → Ptr → (List (Cell L B) → List (Cell L B) → Type 0)
+      → Type 0
+  BeforeCell cs q P =
+      (us : List (Cell L B)) (vs : List (Cell L B)) → cs ≡ us ++ vs → q ≡ first_place vs → P us vs
+
+  -- q is null, or the pointer of another node than that at p
+  abbrev pub IsPlaceFor : List (Cell L B) → Ptr → Ptr → Type 0
+  IsPlaceFor cs p q = (q ≡ null_ptr) ⊎ (IsAt cs q × (same_ptr p q ≡ false))
 
   -- the nodes, with the one at p changed
   unfoldable pub change : Ptr → (Cell L B → Cell L B) → List (Cell L B) → List (Cell L B)

@@ -4,19 +4,16 @@ use Rattle.std.specs.Prelude.{◌≡◌, ℕ, ◌≤◌, List, [], ◌∷◌, �
 use Rattle.std.specs.List.{AllByRecursion-prop}
 use mathlib.Core.Path.{refl, sym, ap, subst, ◌∙◌}
 use mathlib.Core.Bool.{Bool-set}
-use mathlib.Core.HLevel.{×_prop, ×₃_prop, Unit-prop, is_prop→PathP, Σ_prop_path}
+use mathlib.Core.HLevel.{×_prop, ×₃_prop, Unit-prop, is_prop→PathP}
 use native.Mathlib.Nat.{ℕ_set}
 use native.Mathlib.Bridge.{le_prop}
-use base.Stored.{Coded, Coded-set, coded_via, coded_list}
+use base.Stored.{Coded-set, coded_via, coded_list}
 use denote.RawPtr.{Ptr, null_ptr, coded_ptr}
-use Rattle.lhm_ring.specs.declared.ring.Links.{Links}
+use Rattle.lhm_ring.specs.declared.links.Links.{Links}
 use Rattle.lhm_ring.specs.declared.pointer.Link.{Link}
 use Rattle.lhm_ring.specs.Nodes.{Cell, Chunk, IsApart-prop}
 use Rattle.lhm_ring.specs.Pointer.{target}
-use Rattle.lhm_ring.specs.Ring.{Held, State, state}
-use Rattle.lhm_ring.specs.Links.{AreLinked, HasContent, IsChain, IsLaid, IsOwned, IsRing, IsSpareList, IsThere, content_at}
-use Rattle.lhm_ring.specs.Links.{follow, link_at}
-use Rattle.lhm_ring.specs.SameNodes.{follow-row}
+use Rattle.lhm_ring.specs.Links.{AreLinked, IsChain, IsLaid, IsOwned, IsRing, IsSpareList, IsThere, link_at}
 
 -- what may be missing, as a list
 abbrev as_list : {A : Type 0} → Option A → List A
@@ -35,11 +32,7 @@ links_set : IsSet (Option Ptr)
 links_set = Coded-set (coded_via (coded_list coded_ptr) as_list
     (λ x y e. sym (as_option-as_list x) ∙ ap as_option e ∙ as_option-as_list y))
 
-held_set : {B : Type 0} → Coded (State B) → IsSet (Option (Held B))
-held_set c = Coded-set (coded_via c (λ o. state (as_list o) 0 0)
-    (λ x y e. sym (as_option-as_list x) ∙ ap (λ s. as_option s.held) e ∙ as_option-as_list y))
-
-module _ {B : Type 0} (c : Coded (State B)) (cs : List (Cell Links B)) where
+module _ {B : Type 0} (cs : List (Cell Links B)) where
   AreLinked-prop : (ps : List Ptr) → IsProp (AreLinked cs ps)
   AreLinked-prop [] = Unit-prop
   AreLinked-prop (x ∷ []) = Unit-prop
@@ -57,33 +50,23 @@ module _ {B : Type 0} (c : Coded (State B)) (cs : List (Cell Links B)) where
       let e : Some p ≡ Some q = sym a.0 ∙ b.0 in let f : p ≡ q = cc in
       λ i. f i ∷ IsSpareList-alone (link_at cs p) ss ts a.1 (subst (λ z. IsSpareList cs (link_at cs z) ts) (sym f) b.1) i
 
-  HasContent-prop : (p : Ptr) → IsProp (HasContent cs p)
-  HasContent-prop p x y =
-      let e : Some x.0 ≡ Some y.0 = sym x.1 ∙ y.1 in let f : x.0 ≡ y.0 = cc in Σ_prop_path (λ z. held_set c _ _) f
-
   IsRing-prop : (ps : List Ptr) (o : Option Ptr) (ss : List Ptr) → IsProp (IsRing cs ps o ss)
   IsRing-prop ps o ss r t = λ i. record {
     linked = AreLinked-prop (null_ptr ∷ (ps ++ null_ptr ∷ [])) r.linked t.linked i;
     chained = IsSpareList-prop o ss r.chained t.chained i;
-    held = AllByRecursion-prop (HasContent cs) HasContent-prop ps r.held t.held i;
     there = AllByRecursion-prop (IsThere cs) (λ p. Bool-set _ _) (null_ptr ∷ (ps ++ ss)) r.there t.there i;
     apart = IsApart-prop (null_ptr ∷ (ps ++ ss)) r.apart t.apart i;
     count = ℕ_set _ _ r.count t.count i;
-    empty = AllByRecursion-prop (λ p. content_at cs p ≡ None) (λ p. held_set c _ _) ss r.empty t.empty i;
   }
 
-  pub IsOwned-prop : (s : Link) (n m : ℕ) → IsProp (IsOwned cs s n m)
-  IsOwned-prop s n m o q =
-      let row : (w : IsOwned cs s n m) → follow cs n null_ptr ≡ w.held_pointers = λ w.
-      ap (λ k. follow cs k null_ptr) (sym w.held_count) ∙ follow-row cs null_ptr w.held_pointers null_ptr w.ring.linked in
-      let e : o.held_pointers ≡ q.held_pointers = sym (row o) ∙ row q in
+  pub IsOwned-prop : (ps : List Ptr) (s : Link) (n m : ℕ) → IsProp (IsOwned cs ps s n m)
+  IsOwned-prop ps s n m o q =
       let f : o.spare_pointers ≡ q.spare_pointers =
       IsSpareList-alone (target s) o.spare_pointers q.spare_pointers o.ring.chained q.ring.chained in
       λ i. record {
-        held_pointers = e i;
         spare_pointers = f i;
-        ring = is_prop→PathP (λ j. IsRing cs (e j) (target s) (f j)) (λ j. IsRing-prop (e j) (target s) (f j)) o.ring q.ring i;
-        held_count = is_prop→PathP (λ j. length (e j) ≡ n) (λ j. ℕ_set _ _) o.held_count q.held_count i;
+        ring = is_prop→PathP (λ j. IsRing cs ps (target s) (f j)) (λ j. IsRing-prop ps (target s) (f j)) o.ring q.ring i;
+        held_count = ℕ_set _ _ o.held_count q.held_count i;
         enough_spares = is_prop→PathP (λ j. m ≤ length (f j)) (λ j. le_prop) o.enough_spares q.enough_spares i;
         bounded = le_prop o.bounded q.bounded i;
       }

@@ -4,6 +4,7 @@ use Rattle.std.specs.Prelude.{◌≡◌, ◌++◌, Option, Some, None, ◌+◌, 
 use Rattle.std.specs.Borrow.{Fml, RattleType, MutBor, GName, Lends, follows, Array, u8, follows_if}
 use Rattle.std.proofs.Common.{refl, sym, subst}
 use denote.RawPtr.{Ptr}
+use Rattle.lhm_ring.specs.Rearranged.{IsRearranged}
 use Rattle.lhm_ring.specs.declared.nodes.Nodes.{Nodes}
 use Rattle.lhm_ring.specs.contracts.nodes.Nodes.{the_row as nodes_row}
 use mathlib.Core.Option as core
@@ -33,7 +34,7 @@ holding n p w =
       unused = n.unused;
       chunks = n.chunks;
       unused_blocks = n.unused_blocks;
-      laid = subst (λ ps. n.unused ++ ps ≡ places n.node_bytes n.chunks)
+      laid = subst (λ ps. IsRearranged (n.unused ++ ps) (places n.node_bytes n.chunks))
           (sym (pointers-change p (λ c. cell c.at c.links (value_set w (body_at n.cells p))) (λ c.
           refl) n.cells)) n.laid;
     }
@@ -54,7 +55,7 @@ cleared_nodes n =
       unused = n.unused;
       chunks = n.chunks;
       unused_blocks = n.unused_blocks;
-      laid = subst (λ ps. n.unused ++ ps ≡ places n.node_bytes n.chunks)
+      laid = subst (λ ps. IsRearranged (n.unused ++ ps) (places n.node_bytes n.chunks))
           (sym (pointers-cleared n.cells)) n.laid;
     }
 

@@ -3,9 +3,9 @@ ghost use Rattle.std.specs.Prelude.{◌≡◌, ◌<◌, ◌/◌, ◌*◌, ◌^�
 ghost use Rattle.lhm_ring.specs.Nodes.{row, chunk, chunk_units, is_block, IsChunk};
 ghost use Rattle.lhm_ring.specs.Links.{IsChain};
 
+use crate::links::Links;
 use crate::nodes::{ChunkHead, ChunkUnit, Node, Nodes, allocate, deallocate, size};
 use crate::pointer::NodePointer;
-use crate::ring::Links;
 use std::alloc::{AllocError, Global};
 
 /// Returns whether so many bytes are whole units.

@@ -9,9 +9,10 @@ ghost use Rattle.lhm_ring.specs.Links.{ring_cells};
 ghost use Rattle.lhm_ring.specs.Pointer.{target};
 
 use crate::content_loan::ContentLoan;
+use crate::links::{Ends, Links, join, set_chain};
 use crate::nodes::Nodes;
 use crate::pointer::{Link, NodePointer};
-use crate::ring::{Ends, Links, Ring, join, set_chain};
+use crate::ring::Ring;
 use crate::value_loan::Hole;
 use std::iter::{DoubleEndedIterator, ExactSizeIterator, Iterator};
 use std::marker::Model;
@@ -27,16 +28,16 @@ struct Remaining<'a, K, V> {
 
 impl<'a, K, V> Model for Remaining<'a, K, V> {
     ghost use Rattle.std.specs.Prelude.{List, ℕ};
-    ghost use Rattle.lhm_ring.specs.Links.{IsSpan, span_triples};
+    ghost use Rattle.lhm_ring.specs.Links.{contents as held_in, IsSpan};
     ghost use Rattle.lhm_ring.specs.ContentLoan.{with_bodies};
+    ghost use Rattle.lhm_ring.specs.Ring.{triples};
 
     ghost Value = { List (ℕ × (K × V)) };
 
-    ghost view = { λ r. span_triples (with_bodies r.nodes.now.cells r.contents.run) r.left
-        r.first.ptr };
+    ghost view = { λ r. triples (held_in (with_bodies r.nodes.now.cells r.contents.run)) };
 
-    ghost invariant = { λ r.
-        IsSpan (with_bodies r.nodes.now.cells r.contents.run) r.first.ptr r.last.ptr r.left };
+    ghost invariant = { λ r. IsSpan (with_bodies r.nodes.now.cells r.contents.run)
+        (held_in (with_bodies r.nodes.now.cells r.contents.run)) r.first.ptr r.last.ptr r.left };
 }
 
 impl<'a, K, V> Remaining<'a, K, V> {

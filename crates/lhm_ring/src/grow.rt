@@ -4,9 +4,10 @@ ghost use Rattle.lhm_ring.specs.Nodes.{row};
 ghost use Rattle.lhm_ring.specs.Links.{nodes_grown, next_chunk, least_more, IsStacked};
 
 use crate::chunks::new_chunk;
+use crate::links::Links;
 use crate::nodes::Nodes;
 use crate::pointer::{Link, NodePointer};
-use crate::ring::{Links, Ring};
+use crate::ring::Ring;
 use std::alloc::AllocError;
 
 /// The most nodes of a ring. At 32 bytes or more, no machine has so many.

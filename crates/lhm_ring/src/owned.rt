@@ -7,9 +7,10 @@ ghost use Rattle.lhm_ring.specs.Ring.{triples, IsTripleClone};
 ghost use Rattle.lhm_ring.specs.Drain.{HandsOutFirst, HandsOutLast};
 
 use crate::chunks::free_chunks;
+use crate::links::Links;
 use crate::nodes::Nodes;
 use crate::pointer::NodePointer;
-use crate::ring::{Links, Ring};
+use crate::ring::Ring;
 use std::alloc::{AllocError, Global};
 use std::iter::{DoubleEndedIterator, ExactSizeIterator, Iterator};
 use std::marker::Model;
@@ -120,15 +121,16 @@ pub struct OwnedPairs<K, V> {
 impl<K, V> Model for OwnedPairs<K, V> {
     ghost use Rattle.std.specs.Prelude.{◌≡◌, List, ℕ};
     ghost use denote.RawPtr.{Ptr};
-    ghost use Rattle.lhm_ring.specs.Links.{IsChain, IsSpan, span_triples};
+    ghost use Rattle.lhm_ring.specs.Links.{contents, IsChain, IsSpan};
+    ghost use Rattle.lhm_ring.specs.Ring.{triples};
 
     ghost Value = { List (ℕ × (K × V)) };
 
-    ghost view = { λ p. span_triples p.nodes.cells p.left p.first.ptr };
+    ghost view = { λ p. triples (contents p.nodes.cells) };
 
     ghost invariant = { λ p. record {
       last : Ptr;
-      span : IsSpan p.nodes.cells p.first.ptr last p.left;
+      span : IsSpan p.nodes.cells (contents p.nodes.cells) p.first.ptr last p.left;
       all_listed : IsChain p.nodes.chunks p.chunks.ptr;
     } };
 }

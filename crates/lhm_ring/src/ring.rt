@@ -1,20 +1,21 @@
 //! The ring: the held nodes in order, and the spare ones.
-ghost use Rattle.std.specs.Prelude.{◌≡◌, ◌+◌, ◌≤◌, ◌^◌, [], length, IfOk, IsOk, ◌∷◌, ◌++◌, map, ◌-◌, ◌<◌, None, Some, true, IfSome};
+ghost use Rattle.std.specs.Prelude.{◌≡◌, ◌+◌, ◌≤◌, ◌^◌, [], length, IfOk, IsOk, ◌∷◌, ◌++◌, map, ◌-◌, ◌<◌, None, Some, IfSome};
 ghost use Rattle.std.specs.Borrow.{sem};
 ghost use Rattle.lhm_ring.specs.Ring.{triples, IsHeld, AtHeld, BeforeHeld, ChangesOnly, linked_to, rekeyed, first_at, last_at, held};
-ghost use Rattle.lhm_ring.specs.Nodes.{IsApart, AreBlocks, IsAt};
-ghost use Rattle.lhm_ring.specs.Links.{ring_cells, IsJoined, LeadsOn, LeadsBack, ChainsTo, is_there, next_at, prev_at};
+ghost use Rattle.lhm_ring.specs.Nodes.{IsApart, AreBlocks};
 
 use crate::chunks::free_chunks;
 pub use crate::drain::Drain;
-pub use crate::iter::{Iter, IterMut, Lent};
-use crate::nodes::{Node, Nodes};
+pub use crate::iter::Iter;
+pub use crate::iter_mut::{Lent, TriplesMut};
+pub use crate::links::Links;
+use crate::links::{Ends, join, next_of, prev_of, set_chain};
+use crate::nodes::Nodes;
 use crate::owned::OwnedPairs;
 use crate::pointer::NodePointer;
 pub use crate::pointer::{Link, Position};
 use std::alloc::{AllocError, Global};
 use std::marker::Model;
-use std::mem::size_of;
 
 /// Triples of a hash, a key and a value, in order, and spare nodes for more. A position stays until
 /// its triple leaves or `compact` moves it.
@@ -37,15 +38,15 @@ pub struct Ring<K, V> {
 }
 
 impl<K, V> Model for Ring<K, V> {
-    ghost use Rattle.lhm_ring.specs.Links.{ring_cells, ring_list, IsOwned, IsLaid};
+    ghost use Rattle.lhm_ring.specs.Links.{contents, holders, ring_cells, IsOwned, IsLaid};
     ghost use Rattle.lhm_ring.specs.Ring.{State, state};
 
     ghost Value = { State (K × V) };
 
-    ghost view = { λ r. state (ring_list (ring_cells r.ends r.nodes.cells) r.len) r.spares r.made };
+    ghost view = { λ r. state (contents r.nodes.cells) r.spares r.made };
 
     ghost invariant = { λ r. record {
-      ring : IsOwned (ring_cells r.ends r.nodes.cells) r.spare r.len r.spares;
+      ring : IsOwned (ring_cells r.ends r.nodes.cells) (holders r.nodes.cells) r.spare r.len r.spares;
       laid : IsLaid r.nodes.unused r.nodes.chunks r.chunks.ptr r.made;
     } };
 }
@@ -298,6 +299,7 @@ impl<K, V> Ring<K, V> {
         let next = next_of(&self.nodes, &self.ends, previous);
         join(&mut self.nodes, &mut self.ends, previous, moved);
         join(&mut self.nodes, &mut self.ends, moved, next);
+        self.nodes.list_before(at.pointer, next.address());
     }
 
     /// Moves the triple at a position to the back. The others keep their order, and positions stay.
@@ -315,6 +317,7 @@ impl<K, V> Ring<K, V> {
         let last = self.ends.last;
         join(&mut self.nodes, &mut self.ends, last, moved);
         join(&mut self.nodes, &mut self.ends, moved, Link::none());
+        self.nodes.list_before(at.pointer, Link::none().address());
     }
 
     /// Puts a triple into a spare node at the back, and returns its position. Its chain link leads
@@ -341,6 +344,7 @@ impl<K, V> Ring<K, V> {
         self.nodes.fill(at.pointer, key, value);
         join(&mut self.nodes, &mut self.ends, previous, node);
         join(&mut self.nodes, &mut self.ends, node, Link::none());
+        self.nodes.list_before(at.pointer, Link::none().address());
         self.spare = old.link;
         self.spares -= 1;
         self.len += 1;
@@ -367,117 +371,4 @@ impl<K, V> Ring<K, V> {
         self.spares += 1;
         (old.hash, key, value)
     }
-}
-
-/// The links of a node for the order, its chain link, and its hash.
-///
-/// `prev` of the front and `next` of the back node lead nowhere. `link` of a spare node leads to
-/// the next one; that of a held node belongs to the caller.
-#[derive(Clone, Copy)]
-pub struct Links {
-    pub(crate) prev: Link,
-    pub(crate) next: Link,
-    pub link: Link,
-    pub hash: u64,
-}
-
-// A node with a `u64` as key and as value: six words.
-const _: () = prove!(size_of::<Node<Links, u64, u64>>() == 48);
-
-// A node with a `u64` as key and no value, as in a set: five words.
-const _: () = prove!(size_of::<Node<Links, u64, ()>>() == 40);
-
-/// The front and the back node of a ring, if any.
-#[derive(Clone, Copy)]
-pub(crate) struct Ends {
-    pub(crate) first: Link,
-    pub(crate) last: Link,
-}
-
-/// Makes `b` the node behind `a`. A link to nowhere stands for the ends.
-#[inline]
-pub(crate) fn join<K, V>(nodes: &mut Nodes<Links, K, V>, ends: &mut Ends, a: Link, b: Link)
-    requires { (is_there (ring_cells ends.old nodes.old.cells) a.ptr ≡ true)
-        × (is_there (ring_cells ends.old nodes.old.cells) b.ptr ≡ true) }
-    ensures joined { IsJoined (ring_cells ends.old nodes.old.cells)
-        (ring_cells ends.new nodes.new.cells) a.ptr b.ptr }
-    ensures land { (nodes.new.unused ≡ nodes.old.unused) × (nodes.new.chunks ≡ nodes.old.chunks) }
-{
-    set_next(nodes, ends, a, b);
-    set_prev(nodes, ends, b, a);
-}
-
-/// Returns the link to the node behind the one at `at`, or to the front.
-#[inline]
-fn next_of<K, V>(nodes: &Nodes<Links, K, V>, ends: &Ends, at: Link) -> Link
-    requires { is_there (ring_cells ends.now nodes.now.cells) at.ptr ≡ true }
-    ensures { result.ptr ≡ next_at (ring_cells ends.now nodes.now.cells) at.ptr }
-{
-    let there: Option<Position<K, V>> = at.get();
-    match there {
-        Some(at) => nodes.links(at.pointer).next,
-        None => ends.first,
-    }
-}
-
-/// Returns the link to the node before the one at `at`, or to the back.
-#[inline]
-fn prev_of<K, V>(nodes: &Nodes<Links, K, V>, ends: &Ends, at: Link) -> Link
-    requires { is_there (ring_cells ends.now nodes.now.cells) at.ptr ≡ true }
-    ensures { result.ptr ≡ prev_at (ring_cells ends.now nodes.now.cells) at.ptr }
-{
-    let there: Option<Position<K, V>> = at.get();
-    match there {
-        Some(at) => nodes.links(at.pointer).prev,
-        None => ends.last,
-    }
-}
-
-/// Makes the node at `at`, or the front, lead on to `next`.
-#[inline]
-fn set_next<K, V>(nodes: &mut Nodes<Links, K, V>, ends: &mut Ends, at: Link, next: Link)
-    requires { is_there (ring_cells ends.old nodes.old.cells) at.ptr ≡ true }
-    ensures written { LeadsOn (ring_cells ends.old nodes.old.cells) at.ptr next
-        (ring_cells ends.new nodes.new.cells) }
-    ensures land { (nodes.new.unused ≡ nodes.old.unused) × (nodes.new.chunks ≡ nodes.old.chunks) }
-{
-    let there: Option<Position<K, V>> = at.get();
-    match there {
-        Some(at) => {
-            let mut links = *nodes.links(at.pointer);
-            links.next = next;
-            nodes.set_links(at.pointer, links);
-        }
-        None => ends.first = next,
-    }
-}
-
-/// Makes the node at `at`, or the back, lead back to `prev`.
-#[inline]
-fn set_prev<K, V>(nodes: &mut Nodes<Links, K, V>, ends: &mut Ends, at: Link, prev: Link)
-    requires { is_there (ring_cells ends.old nodes.old.cells) at.ptr ≡ true }
-    ensures written { LeadsBack (ring_cells ends.old nodes.old.cells) at.ptr prev
-        (ring_cells ends.new nodes.new.cells) }
-    ensures land { (nodes.new.unused ≡ nodes.old.unused) × (nodes.new.chunks ≡ nodes.old.chunks) }
-{
-    let there: Option<Position<K, V>> = at.get();
-    match there {
-        Some(at) => {
-            let mut links = *nodes.links(at.pointer);
-            links.prev = prev;
-            nodes.set_links(at.pointer, links);
-        }
-        None => ends.last = prev,
-    }
-}
-
-/// Sets the chain link of the node at `at`.
-pub(crate) fn set_chain<K, V>(nodes: &mut Nodes<Links, K, V>, at: NodePointer, link: Link)
-    requires { IsAt nodes.old.cells at.ptr }
-    ensures written { ChainsTo nodes.old.cells at.ptr link nodes.new.cells }
-    ensures land { (nodes.new.unused ≡ nodes.old.unused) × (nodes.new.chunks ≡ nodes.old.chunks) }
-{
-    let mut links = *nodes.links(at);
-    links.link = link;
-    nodes.set_links(at, links);
 }

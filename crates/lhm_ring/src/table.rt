@@ -13,7 +13,7 @@ use crate::index::Index;
 pub use crate::index::Probe;
 pub use crate::owned::{IntoIter, OwnedPairs};
 use crate::ring::Ring;
-pub use crate::ring::{Drain, Iter, IterMut, Lent, Position};
+pub use crate::ring::{Drain, Iter, Lent, Position, TriplesMut};
 use equivalent::Equivalent;
 use std::alloc::{AllocError, Global};
 use std::hash::Hash;
@@ -353,7 +353,7 @@ impl<K, V> Table<K, V> {
 
     /// Returns a double-ended iterator over the pairs, front to back, with mutable references to
     /// the values.
-    pub fn iter_mut(&mut self) -> IterMut<'_, K, V>
+    pub fn iter_mut(&mut self) -> TriplesMut<'_, K, V>
         ensures* writes_back { sem 𝓛 (lends_values K.row V.row self.entry (loan_name result)) }
         ensures rest { pairs_left result ≡ map (λ t. t.pair) self.old.held }
     {

@@ -1,14 +1,11 @@
 //! Lends values one by one, while links and keys are shared.
 ghost use Rattle.std.specs.Prelude.{◌≡◌, List as Seq, Some};
-ghost use Rattle.std.specs.Borrow.{sem};
 ghost use base.Fml.{GName, ftrue, ffalse};
 ghost use denote.RawPtr.{Ptr};
 ghost use Rattle.lhm_ring.specs.ValueLoan.{borrowed, value_at, without_value, HasValueAt};
 
-use crate::iter::IterMut;
 use crate::nodes::Node;
 use crate::pointer::NodePointer;
-use crate::ring::{Links, Ring};
 use std::cell::UnsafeCell;
 use std::marker::{Model, Move, Owns, PhantomData};
 
@@ -54,30 +51,5 @@ impl<'a, L, K, V> ValueLoan<'a, L, K, V> {
     {
         let node = at.ptr.cast_mut() as *mut Node<L, K, V>;
         unsafe { &mut (*node).value }
-    }
-}
-
-/// A ring whose values are lent, for `IterMut::of`.
-pub(crate) struct LentValues<'a, K, V> {
-    pub(crate) ring: &'a Ring<K, Hole<V>>,
-    pub(crate) loan: ValueLoan<'a, Links, K, V>,
-}
-
-impl<K, V> Ring<K, V> {
-    ghost use Rattle.lhm_ring.specs.RingAfterLoan.{lends_values};
-    ghost use Rattle.lhm_ring.specs.Iter.{held_left, loan_name};
-
-    /// Shares the ring except its values, and lends the values.
-    pub(crate) fn lend<'a>(&'a mut self) -> IterMut<'a, K, V>
-        ensures* writes_back { sem 𝓛 (lends_values K.row V.row self.entry (loan_name result)) }
-        ensures rest { held_left result ≡ self.old.held }
-    {
-        let ring = &raw mut *self as *const Ring<K, Hole<V>>;
-        IterMut::of(LentValues {
-            ring: unsafe { &*ring },
-            loan: ValueLoan {
-                marker: PhantomData,
-            },
-        })
     }
 }

@@ -1,11 +1,12 @@
 -- The spots of nodes, and the node of a spot.
-use Rattle.lhm_ring.proofs.Names.{Bool, List, None, Option, Some, [], ap, arith, cond, eq-eqb, false, length, refl, subst, sym, true, ℕ}
-use Rattle.lhm_ring.proofs.Names.{◌%◌, ◌&&◌, ◌++◌, ◌+◌, ◌==◌, ◌∙◌, ◌∷◌, ◌≡◌, ◌≤◌, count_by, eqb-true, filter, same_ptr, IsRearranged}
+use Rattle.lhm_ring.proofs.Names.{Bool, List, None, Option, Some, ap, arith, eq-eqb, false, length, refl, subst, sym, true, ℕ}
+use Rattle.lhm_ring.proofs.Names.{◌%◌, ◌&&◌, ◌++◌, ◌==◌, ◌∙◌, ◌∷◌, ◌≡◌, ◌≤◌, count_by, eqb-true, filter, same_ptr, IsRearranged}
 use Rattle.lhm_ring.proofs.Names.{OfNodeAt, PutsIn, Spot, is_in, spot, spots, Held, IsHeld, SplitAt, count_by-le-length, length-filter}
 use Rattle.lhm_ring.proofs.Names.{length-map, map-append, Ptr}
 use Rattle.lhm_ring.proofs.lists.{Apart.same_ptr-equal, Apart.same_ptr-reflexive, Splits.SplitAround}
-use Rattle.lhm_ring.proofs.lists.Rearranged.{PutsIn-filter_in, PutsIn-middle, length-IsRearranged}
-use Rattle.lhm_ring.proofs.lists.RearrangedCounts.{count_by-append, count_by-cons, count_by-filter, count_by-map}
+use Rattle.lhm_ring.proofs.lists.Rearranged.{PutsIn-filter_in, PutsIn-middle, SplitAround-IsRearranged, SplitAt-counted, count_by-own}
+use Rattle.lhm_ring.proofs.lists.Rearranged.{length-IsRearranged}
+use Rattle.lhm_ring.proofs.lists.RearrangedCounts.{count_by-filter, count_by-map}
 
 -- nodes that are known by an equation: their spots, of all of them and of those of a bucket
 module _ {K V : Type 0} {nodes : List (Held (K × V))} (before : List (Held (K × V))) (x : Held (K × V)) (after : List (Held (K × V)))
@@ -67,33 +68,16 @@ module _ {X : Type 0} (f : X → Spot) (t : Spot → Bool) (s : Spot) where
   hits x = t (f x) && same_spot s (f x)
 
   Counted-some : (xs : List X) → (count_by hits xs ≡ 0 → ⊥) → Counted f t xs s
-  Counted-some [] h = absurd (h refl)
-  Counted-some (x ∷ xs) h = (elim (hits x) as (λ b. hits x ≡ b → Counted f t (x ∷ xs) s) [
-    | true ↦ λ e.
-        let same : s ≡ f x = same_spot-equal s (f x) (and-right (t (f x)) _ e) in
-        record {
-          of = record { before = []; node = x; after = xs; is = refl; at_is = sym same };
-          passes = ap t same ∙ and-left (t (f x)) _ e;
-        }
-    | false ↦ λ e.
-        let none : cond {A = ℕ} (hits x) 1 0 ≡ 0 = ap (λ b. cond {A = ℕ} b 1 0) e in
-        let i = Counted-some xs (λ z. h (count_by-cons hits x xs ∙ (λ j. none j + z j))) in
-        record {
-          of = record { before = x ∷ i.of.before; node = i.of.node; after = i.of.after; is = ap (λ v. x ∷ v) i.of.is; at_is = i.of.at_is };
-          passes = i.passes;
-        }
-  ]) refl
+  Counted-some xs h =
+      let i = SplitAt-counted hits xs h in let same : s ≡ f i.node = same_spot-equal s (f i.node) (and-right (t (f i.node)) _ i.at_is) in
+      record {
+        of = record { before = i.before; node = i.node; after = i.after; is = i.is; at_is = sym same };
+        passes = ap t same ∙ and-left (t (f i.node)) _ i.at_is;
+      }
 
 -- each of a list is in another that is the same in another order
-hits-own : (s : Spot) (us vs : List Spot) → count_by (same_spot s) (us ++ s ∷ vs) ≡ 0 → ⊥
-hits-own s us vs z =
-    let own : cond {A = ℕ} (same_spot s s) 1 0 ≡ 1 = ap (λ b. cond {A = ℕ} b 1 0) (same_spot-reflexive s) in
-    omega (arith, own, z, count_by-append (same_spot s) us (s ∷ vs), count_by-cons (same_spot s) s vs)
-
 pub SplitAround-rearranged : (xs : List Spot) (x : Spot) (ws zs : List Spot) → IsRearranged xs zs → PutsIn x ws zs → SplitAround xs x
-SplitAround-rearranged xs x ws zs h p =
-    let c = Counted-some (λ v. v) (λ v. true) x xs (λ z. hits-own x [] ws (p _ ∙ sym (h _) ∙ z)) in
-    record { before = c.of.before; after = c.of.after; is = c.of.is ∙ ap (λ v. c.of.before ++ v ∷ c.of.after) c.of.at_is }
+SplitAround-rearranged = SplitAround-IsRearranged same_spot same_spot-equal same_spot-reflexive
 
 -- a spot of a chain is a held node's
 abbrev pub OnNode : {K V : Type 0} → ℕ → ℕ → Spot → List (Held (K × V)) → Type 0
@@ -102,7 +86,7 @@ OnNode n b s nodes = Counted spot (is_in n b) nodes s
 pub OnNode-rearranged : {K V : Type 0} (n b : ℕ) (done : List Spot) (s : Spot) (rest : List Spot) (nodes : List (Held (K × V)))
     → IsRearranged (done ++ s ∷ rest) (filter (is_in n b) (spots nodes)) → OnNode n b s nodes
 OnNode-rearranged n b done s rest nodes h =
-    Counted-some spot (is_in n b) s nodes (λ z. hits-own s done rest
+    Counted-some spot (is_in n b) s nodes (λ z. count_by-own same_spot same_spot-equal same_spot-reflexive s done rest
     (h _ ∙ count_by-filter _ (is_in n b) (spots nodes) ∙ count_by-map (hits (λ v. v) (is_in n b) s) spot nodes ∙ z))
 
 abbrev pub IsHeld-spot : {K V : Type 0} {s : Spot} {nodes : List (Held (K × V))} {p : Ptr} → SplitAt spot nodes s → s.at ≡ p

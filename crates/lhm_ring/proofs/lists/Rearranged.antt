@@ -1,6 +1,7 @@
 -- Lists that are one another in another order.
-use Rattle.lhm_ring.proofs.Names.{Bool, List, [], ap, arith, cond, false, length, nil_from_length, sym, true, ℕ, ◌&&◌, ◌+◌, ◌++◌, ◌∙◌, ◌∷◌}
-use Rattle.lhm_ring.proofs.Names.{◌≡◌, count_by, filter, IsRearranged, PutsIn}
+use Rattle.lhm_ring.proofs.Names.{Bool, List, [], ap, arith, cond, false, length, nil_from_length, refl, subst, sym, true, ℕ, ◌&&◌, ◌+◌}
+use Rattle.lhm_ring.proofs.Names.{◌++◌, ◌∙◌, ◌∷◌, ◌≡◌, count_by, filter, AllByRecursion, IsRearranged, PutsIn, SplitAt}
+use Rattle.lhm_ring.proofs.lists.{ForAll.AllByRecursion-removed, ForAll.AllByRecursion-right, Splits.SplitAround}
 use Rattle.lhm_ring.proofs.lists.RearrangedCounts.{count_by-all, count_by-append, count_by-cons, count_by-filter}
 
 module _ {X : Type 0} where
@@ -45,3 +46,41 @@ module _ {X : Type 0} where
 
   pub IsRearranged-filter : (t : X → Bool) (xs ys : List X) → IsRearranged xs ys → IsRearranged (filter t xs) (filter t ys)
   IsRearranged-filter t xs ys h p = count_by-filter p t xs ∙ h (λ x. t x && p x) ∙ sym (count_by-filter p t ys)
+
+-- an element that passes a test
+pub SplitAt-counted : {X : Type 0} (t : X → Bool) (xs : List X) → (count_by t xs ≡ 0 → ⊥) → SplitAt t xs true
+SplitAt-counted t [] h = absurd (h refl)
+SplitAt-counted t (x ∷ xs) h = (elim (t x) as (λ b. t x ≡ b → SplitAt t (x ∷ xs) true) [
+  | true ↦ λ e. record { before = []; node = x; after = xs; is = refl; at_is = e }
+  | false ↦ λ e.
+      let none : cond {A = ℕ} (t x) 1 0 ≡ 0 = ap (λ b. cond {A = ℕ} b 1 0) e in
+      let i = SplitAt-counted t xs (λ z. h (count_by-cons t x xs ∙ (λ j. none j + z j))) in
+      record { before = x ∷ i.before; node = i.node; after = i.after; is = ap (λ v. x ∷ v) i.is; at_is = i.at_is }
+]) refl
+
+-- elements that are told apart
+module _ {X : Type 0} (same : X → X → Bool) (equal : (x y : X) → same x y ≡ true → x ≡ y) (reflexive : (x : X) → same x x ≡ true) where
+  pub count_by-own : (x : X) (us vs : List X) → count_by (same x) (us ++ x ∷ vs) ≡ 0 → ⊥
+  count_by-own x us vs z =
+      let own : cond {A = ℕ} (same x x) 1 0 ≡ 1 = ap (λ b. cond {A = ℕ} b 1 0) (reflexive x) in
+      omega (arith, own, z, count_by-append (same x) us (x ∷ vs), count_by-cons (same x) x vs)
+
+  -- each of a list is in another that is the same in another order
+  pub SplitAround-IsRearranged : (xs : List X) (x : X) (ws zs : List X) → IsRearranged xs zs → PutsIn x ws zs → SplitAround xs x
+  SplitAround-IsRearranged xs x ws zs h p =
+      let k = SplitAt-counted (same x) xs (λ z. count_by-own x [] ws (p _ ∙ sym (h _) ∙ z)) in
+      record { before = k.before; after = k.after; is = k.is ∙ ap (λ v. k.before ++ v ∷ k.after) (sym (equal x k.node k.at_is)) }
+
+  -- what is so of each list and of another order of it, if it stays so when both get an element more
+  pub IsRearranged-elim {ℓ} : (R : List X → List X → Type ℓ) → ((xs : List X) → R xs [])
+      → ((us : List X) (x : X) (vs ys : List X) → R (us ++ vs) ys → R (us ++ x ∷ vs) (x ∷ ys))
+      → (xs ys : List X) → IsRearranged xs ys → R xs ys
+  IsRearranged-elim R none more xs [] h = none xs
+  IsRearranged-elim R none more xs (y ∷ ys) h =
+      let k = SplitAround-IsRearranged xs y ys (y ∷ ys) h (λ p. refl) in
+      let left = IsRearranged-less_middle k.before y k.after ys (y ∷ ys) (λ p. refl) (subst (λ zs. IsRearranged zs (y ∷ ys)) k.is h) in
+      subst (λ zs. R zs (y ∷ ys)) (sym k.is) (more k.before y k.after ys (IsRearranged-elim R none more (k.before ++ k.after) ys left))
+
+  pub AllByRecursion-IsRearranged : (P : X → Type 0) (xs ys : List X) → IsRearranged xs ys → AllByRecursion P xs → AllByRecursion P ys
+  AllByRecursion-IsRearranged P = IsRearranged-elim (λ xs ys. AllByRecursion P xs → AllByRecursion P ys) (λ xs a. tt)
+      (λ us x vs ys i a. ((AllByRecursion-right P us (x ∷ vs) a).0, i (AllByRecursion-removed P us x vs a)))

@@ -1,9 +1,10 @@
 -- The pointers of what a ring holds are the starts of blocks.
 use Rattle.lhm_ring.proofs.Names.{List, Some, [], ap, map, subst, sym, true, ℕ, ◌++◌, ◌∙◌, ◌∷◌, ◌≡◌, HasContent, IsOwned, has_links, listed}
-use Rattle.lhm_ring.proofs.Names.{one_of, ring_cells, ring_list, AreBlocks, Cell, is_block, links_at, pointers, Held, State, state, Link}
+use Rattle.lhm_ring.proofs.Names.{one_of, ring_cells, AreBlocks, Cell, is_block, links_at, pointers, Held, State, Link}
 use Rattle.lhm_ring.proofs.Names.{Ends, Links, AllByRecursion, Ptr}
-use Rattle.lhm_ring.proofs.rings.{Contents.IsAt-content, Contents.at-content, Lookup.AllByRecursion-at, RingNodes.ring_list-listed}
+use Rattle.lhm_ring.proofs.rings.{Contents.IsAt-content, Contents.at-content, Lookup.AllByRecursion-at}
 use Rattle.lhm_ring.proofs.rings.RingCells.{is_block-there, same_ptr-content}
+use Rattle.lhm_ring.proofs.rings.RingNodes.{Seen}
 
 module _ {B : Type 0} (e : Ends) (nodes : List (Cell Links B)) (all : AreBlocks (pointers nodes)) where
   abbrev cs : List (Cell Links B)
@@ -19,13 +20,10 @@ module _ {B : Type 0} (e : Ends) (nodes : List (Cell Links B)) (all : AreBlocks 
       let here : is_block h.0.0.at ≡ true = ap is_block (at-content cs p h.0.1) ∙ is_block-content p h.0 in
       subst (λ o. AreBlocks (map (λ (t : Held B). t.at) (one_of o ++ listed cs ps))) (sym h.0.1) (here, AreBlocks-listed ps h.1)
 
-  pub AreBlocks-held : (spare : Link) (n m : ℕ) (v : State B) {total : ℕ} → IsOwned cs spare n m
-      → state (ring_list cs n) m total ≡ v → AreBlocks (map (λ (t : Held B). t.at) v.held)
-  AreBlocks-held spare n m v ok w =
-      subst (λ (s : State B). AreBlocks (map (λ (t : Held B). t.at) s.held)) w
-      (subst (λ hs. AreBlocks (map (λ (t : Held B). t.at) hs))
-      (sym (ring_list-listed ok.ring ok.held_count))
-      (AreBlocks-listed ok.held_pointers ok.ring.held))
+  pub AreBlocks-held : (ps : List Ptr) (spare : Link) (n m : ℕ) (v : State B) {total : ℕ} → IsOwned cs ps spare n m
+      → Seen cs ps m total v → AreBlocks (map (λ (t : Held B). t.at) v.held)
+  AreBlocks-held ps spare n m v ok w =
+      subst (λ hs. AreBlocks (map (λ (t : Held B). t.at) hs)) w.list (AreBlocks-listed ps w.held)
 
 -- where a node lies
 module _ {B : Type 0} (cs : List (Cell Links B)) (all : AreBlocks (pointers cs)) where

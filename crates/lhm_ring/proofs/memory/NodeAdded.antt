@@ -4,10 +4,8 @@ use Rattle.lhm_ring.proofs.Names.{IsRing, IsSpareList, IsThere, has_links, link_
 use Rattle.lhm_ring.proofs.Names.{cell_at, is_block, links_of, pointers, same_ptr, Ends, Links, Ptr, null_ptr}
 use Rattle.lhm_ring.proofs.lists.Apart.{IsApart-inserted, IsFresh, IsFresh-head, same_ptr-equal, same_ptr-reflexive, same_ptr-symmetric}
 use Rattle.lhm_ring.proofs.lists.ForAll.{AllByRecursion-append, AllByRecursion-left, AllByRecursion-map, AllByRecursion-right}
-use Rattle.lhm_ring.proofs.memory.OneNodeChanged.{AllByRecursion-content_other, AreLinked-other, IsSpareList-other, listed-other}
+use Rattle.lhm_ring.proofs.memory.OneNodeChanged.{AreLinked-other, IsSpareList-other, listed-other}
 use Rattle.lhm_ring.proofs.rings.RingCells.{cell_at-ring_cells, same_ptr-null}
-use Rattle.lhm_ring.proofs.Names.{content_of, body_of}
-use Rattle.lhm_ring.proofs.memory.OneNodeChanged.{AreEmpty-other}
 
 false_true : false ≡ true → ⊥
 false_true e = cc
@@ -73,7 +71,6 @@ module _ {B : Type 0} (e : Ends) (nodes : List (Cell Links B)) (p : Ptr) (l : Li
             (AllByRecursion-right P ps ss IsFresh-added.1) (subst (λ z. IsSpareList cs z ss)
             (sym (link_at-added ∙ f)) r.chained),
       );
-      held = AllByRecursion-content_other cs ds p cell_at-other ps (AllByRecursion-left P ps ss IsFresh-added.1) r.held;
       there = (
         is_there-added null_ptr r.there.0,
         AllByRecursion-append (IsThere ds) ps (p ∷ ss)
@@ -86,10 +83,6 @@ module _ {B : Type 0} (e : Ends) (nodes : List (Cell Links B)) (p : Ptr) (l : Li
       );
       apart = IsApart-inserted (null_ptr ∷ ps) p ss IsFresh-added r.apart;
       count = ap (λ n. suc n) r.count ∙ omega arith;
-      empty = (
-        ap (λ z. content_of p (links_of z) (body_of z)) cell_at-added,
-        AreEmpty-other cs ds p cell_at-other ss (AllByRecursion-right P ps ss IsFresh-added.1) r.empty,
-      );
     }
 
     pub listed-added : listed ds ps ≡ listed cs ps

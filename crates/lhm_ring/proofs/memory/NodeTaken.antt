@@ -1,7 +1,7 @@
 -- One node is taken out of the nodes, and put back, changed. Assumes `Logic`.
-use Rattle.lhm_ring.proofs.Names.{List, [], subst, sym, ◌++◌, ◌∷◌, ◌≡◌, AreBlocks, Cell, IsApart, cell_lent, cells_lent, change, places}
+use Rattle.lhm_ring.proofs.Names.{List, [], subst, sym, ◌++◌, ◌∷◌, ◌≡◌, AreBlocks, Cell, IsApart, cell_lent, cells_lent, change}
 use Rattle.lhm_ring.proofs.Names.{pointers, pointers-change, Nodes, Fml, Lft, ent, fst∗, id⊢, sep, snd∗, via, Ptr, Ura, !, done, fjoin}
-use Rattle.lhm_ring.proofs.Names.{fsplit, move, qed, split, use1, use2, ‵, ◌$◌, ◌∵◌, ◌⊛◌, Logic, sem}
+use Rattle.lhm_ring.proofs.Names.{fsplit, move, qed, split, use1, use2, ‵, ◌$◌, ◌∵◌, ◌⊛◌, Logic, sem, IsRearranged, places}
 use Rattle.lhm_ring.proofs.memory.NodeFields.{Cells, Node, One, RK, RL, RV, Three}
 use Rattle.lhm_ring.proofs.rings.Lookup.{Cut}
 
@@ -17,7 +17,7 @@ module _ {L K V : Type 0} (n : Nodes L K V) where
     unused = n.unused;
     chunks = n.chunks;
     unused_blocks = n.unused_blocks;
-    laid = subst (λ (ps : List Ptr). n.unused ++ ps ≡ places n.node_bytes n.chunks) (sym same) n.laid;
+    laid = subst (λ (ps : List Ptr). IsRearranged (n.unused ++ ps) (places n.node_bytes n.chunks)) (sym same) n.laid;
   }
 
   -- the same, of which the one at p is changed
@@ -26,14 +26,14 @@ module _ {L K V : Type 0} (n : Nodes L K V) where
 
 module _ {M : Type 1} {𝓤 : Ura M} (𝓛 : Logic 𝓤) (E : Three) where
   module _ (Z : Fml) where
-    cells_cut : (xs : List (Node E)) (c : Node E) (ys : List (Node E))
+    pub cells_cut : (xs : List (Node E)) (c : Node E) (ys : List (Node E))
         → ent 𝓤 (sem 𝓛 (Cells E Z (xs ++ c ∷ ys))) (sep 𝓤 (sem 𝓛 (One E c)) (sem 𝓛 (Cells E Z (xs ++ ys))))
     cells_cut [] c ys = id⊢ 𝓤 _
     cells_cut (x ∷ xs) c ys = qed 𝓛 (‵ (Cells E Z (x ∷ xs ++ c ∷ ys)) ∷ []) ∵ fsplit ! $ move ! (1 ∷ []) $
         use1 𝓛 (‵ (One E c) ⊛ ‵ (Cells E Z (xs ++ ys))) (cells_cut xs c ys) $ split ! $ move !
         (2 ∷ 1 ∷ []) $ fjoin ! $ move ! (1 ∷ []) $ done !
 
-    cells_glue : (xs : List (Node E)) (c : Node E) (ys : List (Node E))
+    pub cells_glue : (xs : List (Node E)) (c : Node E) (ys : List (Node E))
         → ent 𝓤 (sep 𝓤 (sem 𝓛 (One E c)) (sem 𝓛 (Cells E Z (xs ++ ys)))) (sem 𝓛 (Cells E Z (xs ++ c ∷ ys)))
     cells_glue [] c ys = id⊢ 𝓤 _
     cells_glue (x ∷ xs) c ys = qed 𝓛 (‵ (One E c) ∷ ‵ (Cells E Z (x ∷ xs ++ ys)) ∷ []) ∵ move ! (1 ∷ []) $ fsplit ! $ move ! (2 ∷ 1 ∷ []) $

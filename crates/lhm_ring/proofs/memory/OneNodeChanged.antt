@@ -4,7 +4,7 @@ use Rattle.lhm_ring.proofs.Names.{HasContent, IsSpareList, IsThere, content_at, 
 use Rattle.lhm_ring.proofs.Names.{Cell, body_at, body_of, cell, cell_at, links_at, links_of, same_ptr, with_body, with_links, Links}
 use Rattle.lhm_ring.proofs.lists.{Apart.IsFresh, Apart.same_ptr-equal, ForAll.AllByRecursion-map}
 use Rattle.lhm_ring.proofs.rings.Writes.{cell_at-change, cell_at-change_other, length-change, links_of-seen, reader-with_links_same}
-use Rattle.lhm_ring.proofs.Names.{AllByRecursion, None, Ptr}
+use Rattle.lhm_ring.proofs.Names.{AllByRecursion, Ptr}
 use Rattle.lhm_ring.specs.SameNodes.{IsSpareList-same, SameLink}
 
 -- every node except the one at p is as it was
@@ -64,11 +64,6 @@ module _ {B : Type 0} where
         → AllByRecursion (HasContent cs) ps → AllByRecursion (HasContent ds) ps
     AllByRecursion-content_other [] f a = tt
     AllByRecursion-content_other (x ∷ xs) f a = ((a.0.0, content_at-other x f.0 ∙ a.0.1), AllByRecursion-content_other xs f.1 a.1)
-
-    pub AreEmpty-other : (ps : List Ptr) → IsFresh p ps
-        → AllByRecursion (λ q. content_at cs q ≡ None) ps → AllByRecursion (λ q. content_at ds q ≡ None) ps
-    AreEmpty-other [] f a = tt
-    AreEmpty-other (x ∷ xs) f a = (content_at-other x f.0 ∙ a.0, AreEmpty-other xs f.1 a.1)
 
     pub listed-other : (ps : List Ptr) → IsFresh p ps → listed ds ps ≡ listed cs ps
     unfolding listed

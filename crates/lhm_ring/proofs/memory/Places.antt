@@ -2,13 +2,14 @@
 use Rattle.lhm_ring.proofs.Names.{List, None, [], ap, append_assoc, arith, false, length, length-append, lt→ltb, refl, subst, suc, sym}
 use Rattle.lhm_ring.proofs.Names.{true, zero, ℕ, ◌*◌, ◌++◌, ◌+◌, ◌-◌, ◌<◌, ◌^◌, ◌∙◌, ◌∷◌, ◌≡◌, nat_lt, IsLaid, place_count, AreBlocks, Cell}
 use Rattle.lhm_ring.proofs.Names.{Chunk, chunk, is_block, is_null, is_null_or_block, places, pointers, row, led_to, length-map, next}
-use Rattle.lhm_ring.proofs.Names.{one_more, InBlock, Ptr, block_ptr, null_ptr, ◌+ₚ◌}
+use Rattle.lhm_ring.proofs.Names.{one_more, InBlock, Ptr, block_ptr, null_ptr, ◌+ₚ◌, IsRearranged, count_by}
+use Rattle.lhm_ring.proofs.lists.{Rearranged.length-IsRearranged, RearrangedCounts.count_by-append}
 use Rattle.lhm_ring.{proofs.lists.ForAll.AllByRecursion-left, proofs.lists.ForAll.AllByRecursion-right, specs.Links.IsChain}
 use Rattle.std.proofs.Flags.{T_true}
 
-pub places-none : (s : ℕ) → [] ≡ places s []
+pub places-none : (s : ℕ) → IsRearranged [] (places s [])
 unfolding places
-places-none s = refl
+places-none s p = refl
 
 pub row-none : (p : Ptr) (s n : ℕ) → n ≡ 0 → row p s n ≡ []
 unfolding row
@@ -71,15 +72,16 @@ module _ (p : Ptr) (s n : ℕ) (us : List Ptr) (e : us ≡ row p s (n + 1)) wher
   AreBlocks-row_other all = AllByRecursion-left (λ q. is_block q ≡ true) (row p s n) ((p +ₚ (n * s)) ∷ []) (subst AreBlocks last_too all)
 
   -- the last unused place becomes the newest node
-  pub row-next : (ps ls : List Ptr) → us ++ ps ≡ ls → row p s n ++ (p +ₚ (n * s)) ∷ ps ≡ ls
-  row-next ps ls h = sym (append_assoc (row p s n) ((p +ₚ (n * s)) ∷ []) ps) ∙ ap (λ qs. qs ++ ps) (sym last_too) ∙ h
+  pub row-next : (ps : List Ptr) → row p s n ++ (p +ₚ (n * s)) ∷ ps ≡ us ++ ps
+  row-next ps = sym (append_assoc (row p s n) ((p +ₚ (n * s)) ∷ []) ps) ∙ ap (λ qs. qs ++ ps) (sym last_too)
 
 -- a chunk more
-pub row-more : (s : ℕ) (c : Chunk) (us ps : List Ptr) (cs : List Chunk) → us ++ ps ≡ places s cs
-    → (row (c.at +ₚ 16) s c.count ++ us) ++ ps ≡ places s (c ∷ cs)
-row-more s c us ps cs h =
+pub row-more : (s : ℕ) (c : Chunk) (us ps : List Ptr) (cs : List Chunk) → IsRearranged (us ++ ps) (places s cs)
+    → IsRearranged ((row (c.at +ₚ 16) s c.count ++ us) ++ ps) (places s (c ∷ cs))
+row-more s c us ps cs h t =
     let new : List Ptr = row (c.at +ₚ 16) s c.count in
-    append_assoc new us ps ∙ ap (λ qs. new ++ qs) h ∙ sym (places-head s c cs)
+    ap (count_by t) (append_assoc new us ps) ∙ count_by-append t new (us ++ ps) ∙ ap (λ k. count_by t new + k) (h t)
+    ∙ sym (count_by-append t new (places s cs)) ∙ ap (count_by t) (sym (places-head s c cs))
 
 pub length-places : (s : ℕ) (cs : List Chunk) → length (places s cs) ≡ place_count cs
 unfolding places place_count
@@ -112,8 +114,9 @@ row-less p s n some = let same : n ≡ n - 1 + 1 = omega arith in ap (row p s) s
 
 -- if no place is unused, there are as many nodes as places
 pub length-made : {L B : Type 0} (ns : List (Cell L B)) (us : List Ptr) (s : ℕ)
-    (cs : List Chunk) → us ++ pointers ns ≡ places s cs → us ≡ [] → length ns ≡ place_count cs
-length-made ns us s cs h e = sym (length-map ns (λ n. n.at)) ∙ ap length (ap (λ qs. qs ++ pointers ns) (sym e) ∙ h) ∙ length-places s cs
+    (cs : List Chunk) → IsRearranged (us ++ pointers ns) (places s cs) → us ≡ [] → length ns ≡ place_count cs
+length-made ns us s cs h e =
+    sym (length-map ns (λ n. n.at)) ∙ ap (λ qs. length (qs ++ pointers ns)) (sym e) ∙ length-IsRearranged _ _ h ∙ length-places s cs
 
 -- a chunk more
 pub IsLaid-grown : {us vs : List Ptr} {cs ds : List Chunk} {p : Ptr} {made : ℕ} (c : Chunk) → IsLaid us cs p made → vs ≡ []

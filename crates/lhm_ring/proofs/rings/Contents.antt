@@ -1,13 +1,23 @@
 -- What a node holds, as its links and its body say.
 use Rattle.lhm_ring.proofs.Names.{List, None, Option, Some, ap, refl, sym, ◌∙◌, ◌≡◌, content_at, content_of, link_of, Cell, Holds, IsAt}
-use Rattle.lhm_ring.proofs.Names.{body_at, links_at, Held, Links, Ptr}
+use Rattle.lhm_ring.proofs.Names.{body_at, links_at, Held, held, Links, Ptr}
 use Rattle.lhm_ring.proofs.lists.Options.{Some-injective}
-use Rattle.lhm_ring.specs.Refill.{Read, Read-content_of}
+
+-- what the links and the body at p say, if t is held there
+record Read {B : Type 0} (p : Ptr) (o : Option Links) (b : Option B) (t : Held B) : Type 0 where
+  pub links : Links
+  pub body : B
+  pub links_are : o ≡ Some links
+  pub body_is : b ≡ Some body
+  pub is : t ≡ held p links.hash (link_of (Some links)) body
 
 module _ {B : Type 0} where
-  pub content_of-none : (p : Ptr) (o : Option Links) → content_of {B = B} p o None ≡ None
-  content_of-none p None = refl
-  content_of-none p (Some l) = refl
+  Read-content_of : (p : Ptr) (o : Option Links) (b : Option B) (t : Held B) → content_of p o b ≡ Some t → Read p o b t
+  Read-content_of p None b t e = absurd (cc)
+  Read-content_of p (Some l) None t e = absurd (cc)
+  Read-content_of p (Some l) (Some x) t e =
+      let same : held p l.hash (link_of (Some l)) x ≡ t = cc in
+      record { links = l; body = x; links_are = refl; body_is = refl; is = sym same }
 
   -- what is read at p, where t is held
   module _ (cs : List (Cell Links B)) (p : Ptr) {t : Held B} (c : content_at cs p ≡ Some t) where

@@ -1,9 +1,10 @@
 -- The first and the last of a ring.
 use Rattle.lhm_ring.proofs.Names.{List, [], ap, arith, sym, ℕ, ◌++◌, ◌∙◌, ◌∷◌, ◌≡◌, AreLinked, HasContent, IsOwned, listed, next_at, one_of}
-use Rattle.lhm_ring.proofs.Names.{prev_at, ring_list, Cell, led_to, State, first_at, last_at, last_of, state, Link, Links, AllByRecursion}
+use Rattle.lhm_ring.proofs.Names.{prev_at, Cell, led_to, State, first_at, last_at, last_of, Link, Links, AllByRecursion}
 use Rattle.lhm_ring.proofs.lists.{ForAll.AllByRecursion-left, LinkRows.RowCut-linked, Last.AllByRecursion-last, Last.last_from}
-use Rattle.lhm_ring.proofs.rings.{Contents.at-content, RingCells.led_to-apart, RingNodes.listed-held}
+use Rattle.lhm_ring.proofs.rings.{Contents.at-content, RingCells.led_to-apart}
 use Rattle.lhm_ring.proofs.{Names.Ptr, Names.null_ptr, lists.Apart.IsFresh, lists.Apart.IsFresh-head}
+use Rattle.lhm_ring.proofs.rings.RingNodes.{Seen}
 
 module _ {B : Type 0} (cs : List (Cell Links B)) where
   last_of-listed : (p : Ptr) (h : HasContent cs p) (ps : List Ptr)
@@ -24,14 +25,14 @@ module _ {B : Type 0} (cs : List (Cell Links B)) where
   unfolding listed
   last_at-led_to p ps c f l = grind (arith, last_of-listed, RowCut-linked, led_to-apart, AllByRecursion-last)
 
-module _ {B : Type 0} {cs : List (Cell Links B)} {spare : Link} {n m : ℕ} {v : State B} {total : ℕ}
-    (ok : IsOwned cs spare n m) (w : state (ring_list cs n) m total ≡ v) where
-  IsFresh-null : IsFresh null_ptr ok.held_pointers
+module _ {B : Type 0} {cs : List (Cell Links B)} {ps : List Ptr} {spare : Link} {n m : ℕ} {v : State B} {total : ℕ}
+    (ok : IsOwned cs ps spare n m) (w : Seen cs ps m total v) where
+  IsFresh-null : IsFresh null_ptr ps
   IsFresh-null = grind (arith, AllByRecursion-left, IsFresh-head)
 
   pub led_to-first : led_to (next_at cs null_ptr) ≡ first_at v.held
-  led_to-first = sym (first_at-led_to cs null_ptr ok.held_pointers ok.ring.held IsFresh-null
-      ok.ring.linked) ∙ ap first_at (listed-held ok w)
+  led_to-first = sym (first_at-led_to cs null_ptr ps w.held IsFresh-null
+      ok.ring.linked) ∙ ap first_at w.list
 
   pub led_to-last : led_to (prev_at cs null_ptr) ≡ last_at v.held
-  led_to-last = sym (last_at-led_to cs null_ptr ok.held_pointers ok.ring.held IsFresh-null ok.ring.linked) ∙ ap last_at (listed-held ok w)
+  led_to-last = sym (last_at-led_to cs null_ptr ps w.held IsFresh-null ok.ring.linked) ∙ ap last_at w.list

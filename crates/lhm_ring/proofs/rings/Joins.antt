@@ -1,6 +1,6 @@
 -- Two nodes are joined: what stays of a row, a chain and contents, and the rows that come of it.
 use Rattle.lhm_ring.proofs.Names.{List, Option, [], append-nil, append_assoc, arith, false, refl, subst, sym, ◌++◌, ◌∙◌, ◌∷◌, ◌≡◌}
-use Rattle.lhm_ring.proofs.Names.{AreLinked, AreNeighbours, HasContent, IsJoined, IsSpareList, IsThere, listed, next_at, one_of, prev_at}
+use Rattle.lhm_ring.proofs.Names.{AreLinked, AreNeighbours, IsJoined, IsSpareList, IsThere, listed, next_at, one_of, prev_at}
 use Rattle.lhm_ring.proofs.Names.{Cell, IsApart, same_ptr, Links, AllByRecursion, Ptr}
 use Rattle.lhm_ring.proofs.lists.Apart.{AllByRecursion-fresh_across, IsApart-left, IsApart-removed, IsApart-tail, IsFresh, IsFresh-head}
 use Rattle.lhm_ring.proofs.lists.Apart.{IsFresh-middle, same_ptr-flip, same_ptr-reflexive}
@@ -8,7 +8,6 @@ use Rattle.lhm_ring.proofs.lists.ForAll.{AllByRecursion-always, AllByRecursion-a
 use Rattle.lhm_ring.proofs.lists.{ForAll.AllByRecursion-right, LinkRows.AreLinked-glued, LinkRows.RowCut-linked}
 use Rattle.lhm_ring.proofs.lists.Last.{AllByRecursion-last, first_from, last_from}
 use Rattle.lhm_ring.specs.SameNodes.{IsSpareList-same, SameLink}
-use Rattle.lhm_ring.proofs.Names.{content_at, None}
 
 -- a is none of those that lead on, and b none of those that are led to
 abbrev pub AvoidsSource : Ptr → List Ptr → Type 0
@@ -56,13 +55,6 @@ module _ {B : Type 0} where
 
     pub IsSpareList-unchanged : (h : Option Ptr) (ss : List Ptr) → IsSpareList cs h ss → IsSpareList ds h ss
     IsSpareList-unchanged h ss = IsSpareList-same cs ds h ss (AllByRecursion-always (SameLink cs ds) j.link ss)
-
-    pub AllByRecursion-content_unchanged : (ps : List Ptr) → AllByRecursion (HasContent cs) ps → AllByRecursion (HasContent ds) ps
-    AllByRecursion-content_unchanged = AllByRecursion-map (HasContent cs) (HasContent ds) (λ p h. (h.0, j.content p ∙ h.1))
-
-    pub AreEmpty-unchanged : (ps : List Ptr) → AllByRecursion (λ p. content_at cs p ≡ None) ps
-        → AllByRecursion (λ p. content_at ds p ≡ None) ps
-    AreEmpty-unchanged = AllByRecursion-map (λ p. content_at cs p ≡ None) (λ p. content_at ds p ≡ None) (λ p h. j.content p ∙ h)
 
     pub AllByRecursion-there_unchanged : (ps : List Ptr) → AllByRecursion (IsThere cs) ps → AllByRecursion (IsThere ds) ps
     AllByRecursion-there_unchanged = AllByRecursion-map (IsThere cs) (IsThere ds) (λ p h. j.there p ∙ h)
@@ -152,27 +144,3 @@ module _ {B : Type 0} where
       subst (λ qs. AreLinked es (g ∷ qs)) (sym (append_assoc ps (p ∷ []) (g ∷ [])))
       (AreLinked-inserted g ps p [] (subst (λ qs. IsApart (g ∷ qs)) none d) (subst (λ qs. IsFresh p (g ∷ qs)) none free) l
       (subst (λ z. IsJoined cs ds z p) (RowCut-linked cs g ps g [] l).edge.1 j) k)
-
-  -- a node p comes first
-  pub AreLinked-first : {cs ds es : List (Cell Links B)} (g : Ptr) (ps : List Ptr) (p : Ptr) → IsApart (g ∷ ps) → IsFresh p (g ∷ ps)
-      → AreLinked cs (g ∷ (ps ++ g ∷ [])) → IsJoined cs ds p (next_at cs g) → IsJoined ds es g p → AreLinked es (g ∷ p ∷ (ps ++ g ∷ []))
-  AreLinked-first {cs} {ds} {es} g ps p d free l j k =
-      let P : Ptr → Type 0 = λ q. same_ptr p q ≡ false in (
-        AreNeighbours-made k,
-        AreLinked-unchanged k (p ∷ (ps ++ g ∷ []))
-            (AvoidsSource-but_last g p ps g (same_ptr-flip p g free.0, IsFresh-head g ps d))
-            (AllByRecursion-append P ps (g ∷ []) free.1 (free.0, tt)) (behind ps free.1 d l),
-      )
-    where
-      behind : (xs : List Ptr) → IsFresh p xs → IsApart (g ∷ xs) → AreLinked cs (g ∷ (xs ++ g ∷ []))
-          → AreLinked ds (p ∷ (xs ++ g ∷ []))
-      behind [] f a h = let j' = subst (λ z. IsJoined cs ds p z) h.0.0 j in (AreNeighbours-made j', tt)
-      behind (x ∷ xs) f a h =
-          let j' = subst (λ z. IsJoined cs ds p z) h.0.0 j in
-          let Q : Ptr → Type 0 = λ q. same_ptr x q ≡ false in (
-            AreNeighbours-made j',
-            AreLinked-unchanged j' (x ∷ (xs ++ g ∷ []))
-                (AvoidsSource-but_last p x xs g f)
-                (AllByRecursion-append Q xs (g ∷ []) (IsFresh-head x xs (IsApart-tail g (x ∷ xs) a))
-                (same_ptr-flip g x (IsFresh-head g (x ∷ xs) a).0, tt)) h.1,
-          )

@@ -1,8 +1,8 @@
 -- A node of a ring moves: before another one, or to the back.
 use Rattle.lhm_ring.proofs.Names.{append-nil, append_assoc, length-append, suc, AreNeighbours, IsSpareList, pointer_of_some, AllByRecursion}
-use Rattle.lhm_ring.proofs.Names.{sym, true≢false, AreLinked, HasContent, IsJoined, content_at, ring_list, links_at, pointer_of, BeforeHeld}
+use Rattle.lhm_ring.proofs.Names.{sym, true≢false, AreLinked, HasContent, IsJoined, content_at, links_at, pointer_of, BeforeHeld}
 use Rattle.lhm_ring.proofs.Names.{[], IsOwned, IsThere, next_at, next_of, prev_at, prev_of, IsApart, same_ptr, first_at, Position, null_ptr}
-use Rattle.lhm_ring.proofs.Names.{Option, arith, false, length, subst, IfSome, IsRing, listed, one_of, led_to, AtHeld, IsHeld, State, state}
+use Rattle.lhm_ring.proofs.Names.{Option, arith, false, length, subst, IfSome, IsRing, listed, one_of, led_to, AtHeld, IsHeld, State}
 use Rattle.lhm_ring.proofs.Names.{Bool, List, None, Some, ap, cond, refl, true, ℕ, ◌++◌, ◌+◌, ◌∙◌, ◌∷◌, ◌≡◌, Cell, Held, Link, Links, Ptr}
 use Rattle.lhm_ring.proofs.lists.Apart.{IsApart-inserted, IsApart-left, IsApart-removed, IsFresh, IsFresh-middle, same_ptr-equal}
 use Rattle.lhm_ring.proofs.lists.{Apart.same_ptr-flip, Apart.same_ptr-reflexive, ForAll.AllByRecursion-right, Splits.SplitAround}
@@ -10,11 +10,13 @@ use Rattle.lhm_ring.proofs.lists.ForAll.{AllByRecursion-append, AllByRecursion-i
 use Rattle.lhm_ring.proofs.lists.Last.{AllByRecursion-first, AllByRecursion-last, first_from, last_from}
 use Rattle.lhm_ring.proofs.lists.LinkRows.{AreNeighbours-cut, RowCut-linked, listed-append}
 use Rattle.lhm_ring.proofs.rings.{Contents.at-content, Joins.AreLinked-removed, Joins.IsSpareList-unchanged, Joins.listed-unchanged}
-use Rattle.lhm_ring.proofs.rings.Joins.{AllByRecursion-content_unchanged, AllByRecursion-there_unchanged, AreLinked-inserted}
+use Rattle.lhm_ring.proofs.rings.Joins.{AllByRecursion-there_unchanged, AreLinked-inserted}
 use Rattle.lhm_ring.proofs.rings.RingCells.{IsJoined-same, led_to-none, led_to-some}
-use Rattle.lhm_ring.proofs.rings.RingNodes.{Found-held, ListCut-listed, NodeAt-held, ring_list-listed, ring_split}
-use Rattle.lhm_ring.proofs.Names.{None}
-use Rattle.lhm_ring.proofs.rings.Joins.{AreEmpty-unchanged}
+use Rattle.lhm_ring.proofs.rings.RingNodes.{Found-held, ListCut-listed, NodeAt-held, ring_split}
+use Rattle.lhm_ring.proofs.Names.{AtCell, BeforeCell, Ends, Holds, IsAt, IsPlaceFor, None, Nodes, contents, holders, inl, inr, ring_cells}
+use Rattle.lhm_ring.proofs.rings.{Contents.Holds-content, Contents.IsAt-content, HeldPointers.IsApart-owned, Lookup.Cut, Lookup.Cut-held}
+use Rattle.lhm_ring.proofs.rings.{Lookup.held_here, Order.holders-moved, Holders.AllByRecursion-holders}
+use Rattle.lhm_ring.proofs.rings.RingNodes.{Seen}
 
 -- one of some pointers, among the others than another one
 split_others : (xs : List Ptr) (p : Ptr) (ys us : List Ptr) (q : Ptr) (vs : List Ptr) → xs ++ p ∷ ys ≡ us ++ q ∷ vs
@@ -179,10 +181,6 @@ module _ {B : Type 0} {cs : List (Cell Links B)} {ps : List Ptr} {spare : Option
           linked = linked;
           chained = kept (λ zs. IsSpareList zs spare ss) (IsSpareList-unchanged j spare ss)
               (IsSpareList-unchanged k spare ss) (IsSpareList-unchanged l spare ss) r.chained;
-          held = let qs = ahead ++ p ∷ behind in let P = HasContent cs in
-              kept (λ zs. AllByRecursion (HasContent zs) qs) (AllByRecursion-content_unchanged j qs)
-              (AllByRecursion-content_unchanged k qs) (AllByRecursion-content_unchanged l qs)
-              (AllByRecursion-inserted P ahead p behind (AllByRecursion-right P us (p ∷ vs) r.held).0 (All-others P r.held));
           there = let qs = null_ptr ∷ ((ahead ++ p ∷ behind) ++ ss) in
               kept (λ zs. AllByRecursion (IsThere zs) qs) (AllByRecursion-there_unchanged j qs)
               (AllByRecursion-there_unchanged k qs) (AllByRecursion-there_unchanged l qs) (
@@ -196,8 +194,6 @@ module _ {B : Type 0} {cs : List (Cell Links B)} {ps : List Ptr} {spare : Option
               (IsApart-inserted (null_ptr ∷ ahead) p (behind ++ ss) (subst (λ qs. IsFresh p (null_ptr ∷ qs)) same IsFresh-others)
               (subst (λ qs. IsApart (null_ptr ∷ qs)) same IsApart-others));
           count = l.count ∙ k.count ∙ j.count ∙ ring.count ∙ ap (λ n. suc (n + length ss)) length-placed;
-          empty = kept (λ zs. AllByRecursion (λ q. content_at zs q ≡ None) ss) (AreEmpty-unchanged j ss)
-              (AreEmpty-unchanged k ss) (AreEmpty-unchanged l ss) r.empty;
         }
 
         pub listed-placed : (t : Held B) → content_at cs p ≡ Some t
@@ -207,8 +203,8 @@ module _ {B : Type 0} {cs : List (Cell Links B)} {ps : List Ptr} {spare : Option
             listed-unchanged l qs ∙ listed-unchanged k qs ∙ listed-unchanged j qs ∙ listed-append cs ahead (p ∷ behind)
             ∙ ap (λ zs. listed cs ahead ++ zs) (listed-append cs (p ∷ []) behind ∙ ap (λ zs. zs ++ listed cs behind) (listed-one cs p t e))
 
-module _ {B : Type 0} {cs : List (Cell Links B)} {spare : Link} {n m : ℕ} {v : State B} {total : ℕ}
-    (ok : IsOwned cs spare n m) (w : state (ring_list cs n) m total ≡ v) where
+module _ {B : Type 0} {cs : List (Cell Links B)} {ps : List Ptr} {spare : Link} {n m : ℕ} {v : State B} {total : ℕ}
+    (ok : IsOwned cs ps spare n m) (w : Seen cs ps m total v) where
   -- the nodes beside a held one are there
   module _ {p : Ptr} (h : IsHeld v.held p) where
     pub is_there-neighbours : {l : Links} → links_at cs p ≡ Some l → (IsThere cs l.prev.ptr) × (IsThere cs l.next.ptr)
@@ -222,7 +218,7 @@ module _ {B : Type 0} {cs : List (Cell Links B)} {spare : Link} {n m : ℕ} {v :
     past : IsJoined cs ds (prev_at cs p) (next_at cs p)
     past = IsJoined-past p ep j
 
-    abbrev node : SplitAround ok.held_pointers p
+    abbrev node : SplitAround ps p
     node = NodeAt-held ok w p h
 
     abbrev others : List Ptr
@@ -233,17 +229,9 @@ module _ {B : Type 0} {cs : List (Cell Links B)} {spare : Link} {n m : ℕ} {v :
 
     -- by two more joins it is between others
     module _ {es fs : List (Cell Links B)} {a b c d : Ptr} (k : IsJoined ds es a b) (l : IsJoined es fs c d) where
-      ring_list-placed : (s : SplitAround ok.held_pointers p) (xs ys : List Ptr) → s.before ++ s.after ≡ xs ++ ys
-          → AreLinked fs (null_ptr ∷ ((xs ++ p ∷ ys) ++ null_ptr ∷ [])) → (t : Held B) → content_at cs p ≡ Some t
-          → ring_list fs n ≡ listed cs xs ++ t ∷ listed cs ys
-      ring_list-placed s xs ys e linked t here =
-          ring_list-listed (IsRing-placed ok.ring s past xs ys e k l linked) (sym (length-placed ok.ring s past xs ys e) ∙ ok.held_count)
-          ∙ listed-placed ok.ring s past xs ys e k l linked t here
-
       IsOwned-placed : (xs ys : List Ptr) → others ≡ xs ++ ys → AreLinked fs (null_ptr ∷ ((xs ++ p ∷ ys) ++ null_ptr ∷ []))
-          → IsOwned fs spare n m
+          → IsOwned fs (xs ++ p ∷ ys) spare n m
       IsOwned-placed xs ys e linked = record {
-        held_pointers = xs ++ p ∷ ys;
         spare_pointers = ok.spare_pointers;
         ring = IsRing-placed ok.ring node past xs ys e k l linked;
         held_count = sym (length-placed ok.ring node past xs ys e) ∙ ok.held_count;
@@ -261,7 +249,7 @@ module _ {B : Type 0} {cs : List (Cell Links B)} {spare : Link} {n m : ℕ} {v :
     NewPlace = PlaceIn ds others
 
     -- what is before the first of those behind a cut
-    prev_at-cut : (s : SplitAround ok.held_pointers p) (xs ys : List Ptr) → s.before ++ s.after ≡ xs ++ ys
+    prev_at-cut : (s : SplitAround ps p) (xs ys : List Ptr) → s.before ++ s.after ≡ xs ++ ys
         → prev_at ds (first_from null_ptr ys) ≡ last_from null_ptr xs
     prev_at-cut s xs ys e = (AreNeighbours-edge ok.ring s past xs ys e).1
 
@@ -299,7 +287,7 @@ module _ {B : Type 0} {cs : List (Cell Links B)} {spare : Link} {n m : ℕ} {v :
       pub is_there-before : IsThere ds b
       is_there-before = past.there b ∙ there_of o is there
 
-      next_at-place : (s : SplitAround ok.held_pointers p) (at : PlaceIn ds (s.before ++ s.after) b)
+      next_at-place : (s : SplitAround ps p) (at : PlaceIn ds (s.before ++ s.after) b)
           → next_at ds (prev_at ds b) ≡ first_from null_ptr at.after
       next_at-place s at = ap (next_at ds) at.prev_is ∙ (AreNeighbours-edge ok.ring s past at.before at.after at.is).0
 
@@ -314,42 +302,101 @@ module _ {B : Type 0} {cs : List (Cell Links B)} {spare : Link} {n m : ℕ} {v :
           is_there-next = subst (λ x. IsThere ds x) (sym (z_is ∙ ap (next_at ds) q_is ∙ next_at-place node place))
               (is_there-behind_cut ok.ring node past place.before place.after place.is)
 
+          first_is : (s : SplitAround ps p) (at : PlaceIn ds (s.before ++ s.after) b) → z ≡ first_from null_ptr at.after
+          first_is s at = z_is ∙ ap (next_at ds) q_is ∙ next_at-place s at
+
+          -- so z is a place for the node
+          module _ (ns : List (Cell Links B)) (held : AllByRecursion (HasContent ns) ps) {y : Ptr} (y_is : y ≡ z) where
+            IsPlaceFor-first : (xs ys ahead behind : List Ptr) → ps ≡ xs ++ p ∷ ys → xs ++ ys ≡ ahead ++ behind
+                → z ≡ first_from null_ptr behind → IsPlaceFor ns p y
+            IsPlaceFor-first xs ys ahead [] is cut first = inl (y_is ∙ first)
+            IsPlaceFor-first xs ys ahead (r ∷ rs) is cut first =
+                let P = HasContent ns in let Free : Ptr → Type 0 = λ x. same_ptr p x ≡ false in
+                let rest = AllByRecursion-removed P xs p ys (subst (AllByRecursion P) is held) in
+                let here : P r = (AllByRecursion-right P ahead (r ∷ rs) (subst (AllByRecursion P) cut rest)).0 in
+                let free = subst (AllByRecursion Free) cut (IsFresh-middle xs p ys (subst IsApart is (IsApart-owned ok))) in
+                inr (subst (λ x. IsAt ns x × (same_ptr p x ≡ false)) (sym (y_is ∙ first))
+                (IsAt-content ns r here.1, (AllByRecursion-right Free ahead (r ∷ rs) free).0))
+
+            pub IsPlaceFor-next : IsPlaceFor ns p y
+            IsPlaceFor-next = IsPlaceFor-first node.before node.after place.before place.after node.is place.is (first_is node place)
+
           module _ {x : Ptr} (x_is : led_to x ≡ Some p) {es fs : List (Cell Links B)} (k : IsJoined ds es q x)
               (l : IsJoined es fs x z) where
-            linked_at : (s : SplitAround ok.held_pointers p) (at : PlaceIn ds (s.before ++ s.after) b)
+            linked_at : (s : SplitAround ps p) (at : PlaceIn ds (s.before ++ s.after) b)
                 → AreLinked fs (null_ptr ∷ ((at.before ++ p ∷ at.after) ++ null_ptr ∷ []))
             linked_at s at = let moved = led_to-some x p x_is in
                 AreLinked-placed ok.ring s past at.before at.after at.is (IsJoined-same (q_is ∙ at.prev_is) moved k)
                 (IsJoined-same moved (z_is ∙ ap (next_at ds) q_is ∙ next_at-place s at) l)
 
-            pub IsOwned-before : IsOwned fs spare n m
-            IsOwned-before = IsOwned-placed k l place.before place.after place.is (linked_at node place)
+            -- hs are the held ones, once this one is listed before z, or last
+            module _ {hs : List Ptr} (order : (us vs ahead behind : List Ptr) → ps ≡ us ++ p ∷ vs → us ++ vs ≡ ahead ++ behind
+                → z ≡ first_from null_ptr behind → hs ≡ ahead ++ p ∷ behind) where
+              order_at : (s : SplitAround ps p) (at : PlaceIn ds (s.before ++ s.after) b) → hs ≡ at.before ++ p ∷ at.after
+              order_at s at = order s.before s.after at.before at.after s.is at.is (first_is s at)
 
-            ring_list-before : (s : SplitAround ok.held_pointers p) (at : PlaceIn ds (s.before ++ s.after) b) (t : Held B)
-                → content_at cs p ≡ Some t → ring_list fs n ≡ listed cs at.before ++ t ∷ listed cs at.after
-            ring_list-before s at = ring_list-placed k l s at.before at.after at.is (linked_at s at)
+              pub IsOwned-before : IsOwned fs hs spare n m
+              IsOwned-before = subst (λ qs. IsOwned fs qs spare n m) (sym (order_at node place))
+                  (IsOwned-placed k l place.before place.after place.is (linked_at node place))
 
-            pub AtHeld-before : AtHeld v.held p (λ xs t ys. BeforeHeld (xs ++ ys) o (λ us vs. ring_list fs n ≡ us ++ t ∷ vs))
-            AtHeld-before xs t ys e at us vs cut o_is =
-                let f = Found-held ok w p xs t ys e at in let s = f.split in
-                let P = HasContent cs in
-                let held = AllByRecursion-removed P s.before p s.after (ring_split ok.ring s).held in
-                let c = ListCut-listed cs (s.before ++ s.after) held us vs
-                (listed-append cs s.before s.after ∙ (λ i. f.listed_before i ++ f.listed_after i) ∙ cut) in
-                let behind = AllByRecursion-right P c.before c.after (subst (AllByRecursion P) c.is held) in
-                let first : first_from null_ptr c.after ≡ b = first_from-led_to cs b c.after behind
-                (is ∙ o_is ∙ ap first_at (sym c.listed_after)) in
-                let prev = ap (prev_at ds) (sym first) ∙ prev_at-cut s c.before c.after c.is in
-                ring_list-before s (record { before = c.before; after = c.after; is = c.is; prev_is = prev }) t f.here
-                ∙ (λ i. c.listed_before i ++ t ∷ c.listed_after i)
+              listed-before : (s : SplitAround ps p) (at : PlaceIn ds (s.before ++ s.after) b) (t : Held B)
+                  → content_at cs p ≡ Some t → listed fs hs ≡ listed cs at.before ++ t ∷ listed cs at.after
+              listed-before s at t here = ap (listed fs) (order_at s at)
+                  ∙ listed-placed ok.ring s past at.before at.after at.is k l (linked_at s at) t here
 
-            -- before itself it stays
-            pub ring_list-own : o ≡ Some p → ring_list fs n ≡ v.held
-            ring_list-own own =
-                let f = Found-held ok w p h.before h.node h.after h.is h.at_is in let s = f.split in
-                let prev = ap (prev_at ds) (led_to-some b p (is ∙ own)) ∙ prev_at-own ok.ring s past in
-                ring_list-before s (record { before = s.before; after = s.after; is = refl; prev_is = prev }) h.node f.here
-                ∙ (λ i. f.listed_before i ++ h.node ∷ f.listed_after i) ∙ sym h.is
+              pub AtHeld-before : AtHeld v.held p (λ xs t ys. BeforeHeld (xs ++ ys) o (λ us vs. listed fs hs ≡ us ++ t ∷ vs))
+              AtHeld-before xs t ys e at us vs cut o_is =
+                  let f = Found-held ok w p xs t ys e at in let s = f.split in
+                  let P = HasContent cs in
+                  let held = AllByRecursion-removed P s.before p s.after (subst (AllByRecursion P) s.is w.held) in
+                  let c = ListCut-listed cs (s.before ++ s.after) held us vs
+                  (listed-append cs s.before s.after ∙ (λ i. f.listed_before i ++ f.listed_after i) ∙ cut) in
+                  let behind = AllByRecursion-right P c.before c.after (subst (AllByRecursion P) c.is held) in
+                  let first : first_from null_ptr c.after ≡ b = first_from-led_to cs b c.after behind
+                  (is ∙ o_is ∙ ap first_at (sym c.listed_after)) in
+                  let prev = ap (prev_at ds) (sym first) ∙ prev_at-cut s c.before c.after c.is in
+                  listed-before s (record { before = c.before; after = c.after; is = c.is; prev_is = prev }) t f.here
+                  ∙ (λ i. c.listed_before i ++ t ∷ c.listed_after i)
+
+              -- before itself it stays
+              pub listed-own : o ≡ Some p → listed fs hs ≡ v.held
+              listed-own own =
+                  let f = Found-held ok w p h.before h.node h.after h.is h.at_is in let s = f.split in
+                  let prev = ap (prev_at ds) (led_to-some b p (is ∙ own)) ∙ prev_at-own ok.ring s past in
+                  listed-before s (record { before = s.before; after = s.after; is = refl; prev_is = prev }) h.node f.here
+                  ∙ (λ i. f.listed_before i ++ h.node ∷ f.listed_after i) ∙ sym h.is
+
+-- the nodes of a ring, once three joins have moved one of them
+module _ {K V : Type 0} {e f : Ends} {nodes : List (Cell Links (K × V))} {spare : Link} {n m : ℕ}
+    (ok : IsOwned (ring_cells e nodes) (holders nodes) spare n m) {ds es : List (Cell Links (K × V))} {a b a' b' a″ b″ : Ptr}
+    (j : IsJoined (ring_cells e nodes) ds a b) (k : IsJoined ds es a' b') (fs : Nodes Links K V)
+    (l : IsJoined es (ring_cells f fs.cells) a″ b″) where
+  same_holders : holders fs.cells ≡ holders nodes
+  unfolding contents
+  same_holders = l.order ∙ k.order ∙ j.order
+
+  pub AllByRecursion-moved : AllByRecursion (HasContent fs.cells) (holders nodes)
+  AllByRecursion-moved = subst (AllByRecursion (HasContent fs.cells)) same_holders (AllByRecursion-holders fs.cells fs.apart)
+
+  -- it is listed before y, or last
+  module _ {p : Ptr} (s : SplitAround (holders nodes) p) where
+    pub Holds-moved : Holds fs.cells p
+    Holds-moved =
+        let P = HasContent fs.cells in
+        let here = (AllByRecursion-right P s.before (p ∷ s.after) (subst (AllByRecursion P) s.is AllByRecursion-moved)).0 in
+        Holds-content fs.cells p here.1
+
+    abbrev pub cut_moved : Cut fs.cells p
+    cut_moved = Cut-held fs.cells p Holds-moved.0 Holds-moved.1
+
+    pub holders-placed : {gs : List (Cell Links (K × V))} {y z : Ptr}
+        → AtCell fs.cells p (λ xs c ys. BeforeCell (xs ++ ys) y (λ us vs. gs ≡ us ++ c ∷ vs)) → y ≡ z → (us vs ahead behind : List Ptr)
+        → holders nodes ≡ us ++ p ∷ vs → us ++ vs ≡ ahead ++ behind → z ≡ first_from null_ptr behind → holders gs ≡ ahead ++ p ∷ behind
+    holders-placed moved y_is us vs ahead behind is cut first =
+        let P = HasContent fs.cells in
+        holders-moved cut_moved (held_here cut_moved Holds-moved.1) moved us vs ahead behind (same_holders ∙ is)
+        (subst IsApart is (IsApart-owned ok)) (AllByRecursion-removed P us p vs (subst (AllByRecursion P) is AllByRecursion-moved))
+        cut (y_is ∙ first)
 
 -- what is asked of a place that may be none
 pub IfSome-pointer : {K V : Type 0} (P : Ptr → Type 0) (o : Option (Position K V)) → IfSome o (λ at. P (pointer_of at))

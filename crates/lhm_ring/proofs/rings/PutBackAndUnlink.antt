@@ -1,27 +1,34 @@
 -- `put_back` and `unlink`: the ring after them, and from what their steps ensure.
 use Rattle.lhm_ring.proofs.Names.{List, None, Option, Some, [], ap, append_assoc, arith, false, length, length-append, refl, subst, suc}
-use Rattle.lhm_ring.proofs.Names.{sym, true, ℕ, ◌++◌, ◌+◌, ◌-◌, ◌<◌, ◌^◌, ◌∙◌, ◌∷◌, ◌≡◌, ◌≤◌, AreLinked, ChainsTo, HasContent, IsJoined}
+use Rattle.lhm_ring.proofs.Names.{sym, true, ℕ, ◌++◌, ◌+◌, ◌-◌, ◌<◌, ◌^◌, ◌∙◌, ◌∷◌, ◌≡◌, ◌≤◌, AreLinked, ChainsTo, IsJoined}
 use Rattle.lhm_ring.proofs.Names.{IsOwned, IsRing, IsSpareList, IsThere, chaining_to, content_at, content_of, link_at, link_of, listed}
-use Rattle.lhm_ring.proofs.Names.{next_at, prev_at, prev_of, ring_cells, ring_list, Cell, Holds, IsApart, IsAt, body_at, is_block, links_at}
-use Rattle.lhm_ring.proofs.Names.{links_of, same_ptr, with_body, with_links, target, Held, IsHeld, State, held, state, Link, Ends, Links}
+use Rattle.lhm_ring.proofs.Names.{next_at, prev_at, prev_of, ring_cells, Cell, Holds, IsApart, IsAt, body_at, is_block, links_at}
+use Rattle.lhm_ring.proofs.Names.{links_of, same_ptr, with_body, with_links, target, Held, IsHeld, State, held, Link, Ends, Links}
 use Rattle.lhm_ring.proofs.Names.{AllByRecursion, IsSome, Ptr, null_ptr}
 use Rattle.lhm_ring.proofs.lists.Apart.{IsApart-left, IsFresh, IsFresh-middle, same_ptr-reflexive}
-use Rattle.lhm_ring.proofs.lists.ForAll.{AllByRecursion-append, AllByRecursion-left, AllByRecursion-removed, AllByRecursion-right}
+use Rattle.lhm_ring.proofs.lists.ForAll.{AllByRecursion-append, AllByRecursion-left, AllByRecursion-right}
 use Rattle.lhm_ring.proofs.lists.{Last.AllByRecursion-last, Options.Some-injective, Splits.SplitAround}
 use Rattle.lhm_ring.proofs.lists.LinkRows.{RowCut-linked, listed-append}
-use Rattle.lhm_ring.proofs.memory.OneNodeChanged.{AllByRecursion-content_other, AllByRecursion-there_other, AreLinked-other}
+use Rattle.lhm_ring.proofs.memory.OneNodeChanged.{AllByRecursion-there_other, AreLinked-other}
 use Rattle.lhm_ring.proofs.memory.OneNodeChanged.{IsSpareList-other, OnlyAt, OnlyAt-both, OnlyAt-with_body, OnlyAt-with_links}
 use Rattle.lhm_ring.proofs.memory.OneNodeChanged.{body_at-with_body, links_at-with_body, listed-other}
 use Rattle.lhm_ring.proofs.rings.{Joins.IsSpareList-unchanged, Joins.listed-unchanged, ReadAtPosition.content_at-held}
 use Rattle.lhm_ring.proofs.rings.Moves.{AllByRecursion-shifted, AreLinked-joined, IsApart-shifted, IsFresh-others, IsFresh-rest}
 use Rattle.lhm_ring.proofs.rings.{Contents.Holds-content, Contents.IsAt-content, Contents.pair-content}
-use Rattle.lhm_ring.proofs.rings.{Joins.AllByRecursion-content_unchanged, Joins.AllByRecursion-there_unchanged, Joins.AreLinked-pushed}
+use Rattle.lhm_ring.proofs.rings.{Joins.AllByRecursion-there_unchanged, Joins.AreLinked-pushed}
 use Rattle.lhm_ring.proofs.rings.{Moves.IsFresh-spares, Moves.IsJoined-past, Moves.listed-one, RingCells.links_at-ring_cells}
 use Rattle.lhm_ring.proofs.rings.{RingCells.ring_cells-with_body, RingCells.ring_cells-with_links, RingNodes.CutAt, RingNodes.Found-held}
-use Rattle.lhm_ring.proofs.rings.{RingNodes.ring_list-listed, RingNodes.ring_split, Writes.IsAt-there, Writes.links_at-with_links}
-use Rattle.lhm_ring.proofs.rings.Joins.{AreEmpty-unchanged}
-use Rattle.lhm_ring.proofs.memory.OneNodeChanged.{AreEmpty-other, body_at-with_body}
-use Rattle.lhm_ring.proofs.rings.{Contents.content_of-none, Writes.body_at-with_links}
+use Rattle.lhm_ring.proofs.rings.{Writes.IsAt-there, Writes.links_at-with_links}
+use Rattle.lhm_ring.proofs.rings.Holders.{holders-cut, holders-empty, holders-filled, holders-with_links}
+use Rattle.lhm_ring.proofs.Names.{AtCell, BeforeCell, Nodes, append-nil, body_of, contents, holders, inl}
+use Rattle.lhm_ring.proofs.{lists.Apart.IsApart-inserted, lists.Apart.IsApart-removed, rings.HeldPointers.IsApart-owned}
+use Rattle.lhm_ring.proofs.rings.{Holders.holders-rest, Lookup.Cut, Lookup.Cut-held, Lookup.Cut-links_at, Lookup.held_here}
+use Rattle.lhm_ring.proofs.rings.{Order.IsOwned-moved, Order.contents-moved, Order.holders-last, RingCells.Holds-in_nodes}
+use Rattle.lhm_ring.proofs.Names.{true≢false}
+use Rattle.lhm_ring.proofs.lists.Cuts.{same_ptr-fresh}
+use Rattle.std.proofs.lemmas.List.{map-id}
+use Rattle.lhm_ring.proofs.rings.Writes.{body_at-with_links}
+use Rattle.lhm_ring.proofs.rings.RingNodes.{Seen}
 
 -- the first spare node p is given links, a hash and a body, and comes last
 module _ {B : Type 0} {cs ds es fs : List (Cell Links B)} {ps : List Ptr} {spare : Option Ptr} {p : Ptr} {ss : List Ptr}
@@ -63,16 +70,11 @@ module _ {B : Type 0} {cs ds es fs : List (Cell Links B)} {ps : List Ptr} {spare
     linked = AreLinked-pushed null_ptr ps p IsApart-row IsFresh-row AreLinked-there k₁ l;
     chained = IsSpareList-unchanged l (link_at cs p) ss (IsSpareList-unchanged k₁ (link_at cs p) ss
         (IsSpareList-other cs ds p o.other (link_at cs p) ss IsFresh-chain r.chained.1));
-    held = let qs = ps ++ p ∷ [] in AllByRecursion-content_unchanged l qs
-        (AllByRecursion-content_unchanged k₁ qs (AllByRecursion-append (HasContent ds) ps (p ∷ [])
-        (AllByRecursion-content_other cs ds p o.other ps IsFresh-row.1 r.held) ((t, c), tt)));
     there = let qs = null_ptr ∷ ((ps ++ p ∷ []) ++ ss) in AllByRecursion-there_unchanged l qs
         (AllByRecursion-there_unchanged k₁ qs (AllByRecursion-there_other cs ds p o qs
         (r.there.0, AllByRecursion-put_back)));
     apart = IsApart-put_back;
     count = l.count ∙ k₁.count ∙ o.count ∙ r.count ∙ ap (λ n. suc n) (omega (arith, length-append ps (p ∷ [])));
-    empty = AreEmpty-unchanged l ss (AreEmpty-unchanged k₁ ss
-        (AreEmpty-other cs ds p o.other ss IsFresh-chain r.empty.1));
   }
 
   pub listed-put_back : listed fs (ps ++ p ∷ []) ≡ listed cs ps ++ t ∷ []
@@ -91,8 +93,8 @@ module _ {B : Type 0} {cs ds es : List (Cell Links B)} {ps : List Ptr} {spare : 
   length-rest : length ps ≡ suc (length rest)
   length-rest = ap length s.is ∙ omega (arith, length-append s.before (p ∷ s.after), length-append s.before s.after)
 
-  pub IsRing-unlinked : content_at es p ≡ None → IsRing es rest (Some p) (p ∷ ss)
-  IsRing-unlinked nothing =
+  pub IsRing-unlinked : IsRing es rest (Some p) (p ∷ ss)
+  IsRing-unlinked =
       let apart = IsFresh-others ring s in
       record {
         linked = AreLinked-other ds es p o.other (null_ptr ∷ (rest ++ null_ptr ∷ [])) (
@@ -106,18 +108,10 @@ module _ {B : Type 0} {cs ds es : List (Cell Links B)} {ps : List Ptr} {spare : 
               (IsSpareList-other ds es p o.other spare ss (IsFresh-spares ring s)
               (IsSpareList-unchanged j spare ss ring.chained)),
         );
-        held = AllByRecursion-content_other ds es p o.other rest (IsFresh-rest ring s)
-            (AllByRecursion-content_unchanged j rest
-            (AllByRecursion-removed (HasContent cs) s.before p s.after (ring_split ring s).held));
         there = let qs = null_ptr ∷ (rest ++ p ∷ ss) in AllByRecursion-there_other ds es p o qs
             (AllByRecursion-there_unchanged j qs (AllByRecursion-shifted ring s));
         apart = IsApart-shifted ring s;
         count = let a = o.count ∙ j.count ∙ ring.count in let b = length-rest in omega arith;
-        empty = (
-          nothing,
-          AreEmpty-other ds es p o.other ss (IsFresh-spares ring s)
-              (AreEmpty-unchanged j ss ring.empty),
-        );
       }
 
   pub listed-unlinked : listed es rest ≡ listed cs s.before ++ listed cs s.after
@@ -129,20 +123,19 @@ pub links_at-written : {B : Type 0} (p : Ptr) (l : Links) (cs : List (Cell Links
 links_at-written p l cs e is = grind (arith, links_at-with_links, same_ptr-reflexive)
 
 -- the first spare node, at p, and the others
-pub record Ready {B : Type 0} (cs : List (Cell Links B)) (p : Ptr) (v : State B) (n m total : ℕ) : Type 0 where
-  pub row : List Ptr
+pub record Ready {B : Type 0} (cs : List (Cell Links B)) (ps : List Ptr) (p : Ptr) (v : State B) (n m total : ℕ) : Type 0 where
   pub others : List Ptr
-  pub ring : IsRing cs row (Some p) (p ∷ others)
-  pub held_count : length row ≡ n
+  pub ring : IsRing cs ps (Some p) (p ∷ others)
+  pub held_count : length ps ≡ n
   pub enough_spares : m ≤ suc (length others)
   pub bounded : n + m ≤ 2 ^ 59
   pub some : 0 < m
-  pub seen : state (ring_list cs n) m total ≡ v
+  pub seen : Seen cs ps m total v
 
-module _ {B : Type 0} {cs : List (Cell Links B)} {spare : Link} {n m : ℕ} {v : State B} {total : ℕ} (ok : IsOwned cs spare n m)
-    (w : state (ring_list cs n) m total ≡ v) (some : 0 < v.spares) where
+module _ {B : Type 0} {cs : List (Cell Links B)} {ps : List Ptr} {spare : Link} {n m : ℕ} {v : State B} {total : ℕ} (ok : IsOwned cs ps spare n m)
+    (w : Seen cs ps m total v) (some : 0 < v.spares) where
   positive : 0 < m
-  positive = subst (λ k. 0 < k) (sym (ap (λ (z : State B). z.spares) w)) some
+  positive = subst (λ k. 0 < k) (sym w.spares) some
 
   IsSome-chained : (ss : List Ptr) → m ≤ length ss → IsSpareList cs (target spare) ss → IsSome (target spare)
   IsSome-chained [] e c = absurd (let a = positive in omega arith)
@@ -151,11 +144,11 @@ module _ {B : Type 0} {cs : List (Cell Links B)} {spare : Link} {n m : ℕ} {v :
   pub IsSome-spare : IsSome (target spare)
   IsSome-spare = IsSome-chained ok.spare_pointers ok.enough_spares ok.ring.chained
 
-  Ready-ring : (p : Ptr) (ss : List Ptr) → IsRing cs ok.held_pointers (Some p) ss → m ≤ length ss → Ready cs p v n m total
+  Ready-ring : (p : Ptr) (ss : List Ptr) → IsRing cs ps (Some p) ss → m ≤ length ss → Ready cs ps p v n m total
   Ready-ring p [] r b = absurd (let a = positive in omega arith)
   Ready-ring p (q ∷ rest) r b = grind (arith, Some-injective, positive)
 
-  pub Ready-spare : {p : Ptr} → target spare ≡ Some p → Ready cs p v n m total
+  pub Ready-spare : {p : Ptr} → target spare ≡ Some p → Ready cs ps p v n m total
   Ready-spare f = grind (arith, Ready-ring)
 
 -- in ds the node at p, which had the links l, holds t
@@ -185,51 +178,125 @@ Filled-node e {nodes} t none b {l} el free nowhere {c₁} {c₂} is₁ is₂ =
       links = ea;
     }
 
-module _ {B : Type 0} {cs : List (Cell Links B)} {p : Ptr} {v : State B} {n m total : ℕ} (r : Ready cs p v n m total) where
+module _ {B : Type 0} {cs : List (Cell Links B)} {ps : List Ptr} {p : Ptr} {v : State B} {n m total : ℕ} (r : Ready cs ps p v n m total) where
   pub IsAt-spare : IsAt cs p
-  IsAt-spare = IsAt-there cs p (AllByRecursion-right (IsThere cs) r.row (p ∷ r.others) r.ring.there.1).0
+  IsAt-spare = IsAt-there cs p (AllByRecursion-right (IsThere cs) ps (p ∷ r.others) r.ring.there.1).0
 
   module _ {ds : List (Cell Links B)} {l : Links} {t : Held B} (f : Filled cs ds p l t) where
     pub is_there-filled : (IsThere ds (prev_at cs null_ptr)) × (IsThere ds p)
     is_there-filled =
         let T : Ptr → Type 0 = λ q. IsThere cs q in
         let last : T (prev_at cs null_ptr) =
-        subst T (sym (RowCut-linked cs null_ptr r.row null_ptr [] r.ring.linked).edge.1)
-        (AllByRecursion-last T null_ptr r.row r.ring.there.0
-        (AllByRecursion-left T r.row (p ∷ r.others) r.ring.there.1)) in
-        (f.only.there (prev_at cs null_ptr) ∙ last, f.only.there p ∙ (AllByRecursion-right T r.row (p ∷ r.others) r.ring.there.1).0)
+        subst T (sym (RowCut-linked cs null_ptr ps null_ptr [] r.ring.linked).edge.1)
+        (AllByRecursion-last T null_ptr ps r.ring.there.0
+        (AllByRecursion-left T ps (p ∷ r.others) r.ring.there.1)) in
+        (f.only.there (prev_at cs null_ptr) ∙ last, f.only.there p ∙ (AllByRecursion-right T ps (p ∷ r.others) r.ring.there.1).0)
 
     module _ {es fs : List (Cell Links B)} (j : IsJoined ds es (prev_at cs null_ptr) p) (k : IsJoined es fs p null_ptr) where
-      length-longer : length (r.row ++ p ∷ []) ≡ n + 1
-      length-longer = let a = r.held_count in omega (arith, length-append r.row (p ∷ []))
+      length-longer : length (ps ++ p ∷ []) ≡ n + 1
+      length-longer = let a = r.held_count in omega (arith, length-append ps (p ∷ []))
 
-      pub IsOwned-put_back : IsOwned fs l.link (n + 1) (m - 1)
+      pub IsOwned-put_back : IsOwned fs (ps ++ p ∷ []) l.link (n + 1) (m - 1)
       IsOwned-put_back =
           let a = r.enough_spares in let b = r.bounded in let some = r.some in
           record {
-            held_pointers = r.row ++ p ∷ [];
             spare_pointers = r.others;
-            ring = subst (λ z. IsRing fs (r.row ++ p ∷ []) z r.others) (ap link_of f.links) (IsRing-put_back r.ring f.only j k f.content);
+            ring = subst (λ z. IsRing fs (ps ++ p ∷ []) z r.others) (ap link_of f.links) (IsRing-put_back r.ring f.only j k f.content);
             held_count = length-longer;
             enough_spares = omega arith;
             bounded = omega arith;
           }
 
-      pub ring_list-put_back : ring_list fs (n + 1) ≡ v.held ++ t ∷ []
-      ring_list-put_back =
-          ring_list-listed (IsRing-put_back r.ring f.only j k f.content) length-longer ∙ listed-put_back r.ring f.only j k f.content
-          ∙ ap (λ hs. hs ++ t ∷ []) (sym (ring_list-listed r.ring r.held_count) ∙ ap (λ (z : State B). z.held) r.seen)
+      pub listed-put_back_seen : listed fs (ps ++ p ∷ []) ≡ v.held ++ t ∷ []
+      listed-put_back_seen = listed-put_back r.ring f.only j k f.content
+          ∙ ap (λ hs. hs ++ t ∷ []) r.seen.list
+
+-- hs are p and the others, ps
+pub record FilledPlace (p : Ptr) (hs ps : List Ptr) : Type 0 where
+  pub split : SplitAround hs p
+  pub others : split.before ++ split.after ≡ ps
+
+-- a spare node is filled: where what is held lies then, as the nodes are listed
+module _ {B : Type 0} {e : Ends} {nodes : List (Cell Links B)} {p : Ptr} {v : State B} {n m total : ℕ}
+    (r : Ready (ring_cells e nodes) (holders nodes) p v n m total) {l : Links} (el : links_at nodes p ≡ Some l)
+    (new : Links) {c₁ : List (Cell Links B)} (is₁ : c₁ ≡ with_links p new nodes) where
+  cut : Cut c₁ p
+  cut = Cut-links_at c₁ p new (links_at-written p new nodes el is₁)
+
+  -- it held nothing
+  not_held : {x : B} → body_at nodes p ≡ Some x → ⊥
+  not_held {x} held =
+      let k = Cut-held nodes p x held in
+      let free = (IsFresh-middle (null_ptr ∷ holders nodes) p r.others r.ring.apart).1 in
+      let row = AllByRecursion-left (λ q. same_ptr p q ≡ false) (holders nodes) r.others free in
+      let at = same_ptr-fresh (λ (q : Ptr). q) p (holders k.split.before) p (holders k.split.after) (subst (IsFresh p) (sym (map-id _)) (subst (IsFresh p) (holders-cut k (held_here k held)) row)) in
+      true≢false (sym (same_ptr-reflexive p) ∙ at)
+
+  none_held : (o : Option B) → body_at nodes p ≡ o → o ≡ None
+  none_held None e = refl
+  none_held (Some x) e = absurd (not_held e)
+
+  empty : cut.split.node.body ≡ None
+  empty = sym (ap body_of cut.here) ∙ ap (λ zs. body_at zs p) is₁ ∙ body_at-with_links p new nodes el p
+      ∙ none_held (body_at nodes p) refl
+
+  pub FilledPlace-written : (x : B) {c₂ : List (Cell Links B)} → c₂ ≡ with_body p (Some x) c₁ → FilledPlace p (holders c₂) (holders nodes)
+  FilledPlace-written x is₂ = record {
+    split = record {
+      before = holders cut.split.before;
+      after = holders cut.split.after;
+      is = ap holders is₂ ∙ holders-filled cut empty x;
+    };
+    others = sym (holders-empty cut empty) ∙ ap holders is₁ ∙ holders-with_links p new nodes;
+  }
+
+-- it is joined to the ends, and listed last
+module _ {K V : Type 0} {e f : Ends} {nodes cs : List (Cell Links (K × V))} {p : Ptr} {v : State (K × V)} {n m total : ℕ}
+    (r : Ready (ring_cells e nodes) (holders nodes) p v n m total) (b : is_block p ≡ true) {l : Links} {t : Held (K × V)}
+    (fill : Filled (ring_cells e nodes) (ring_cells e cs) p l t) {es : List (Cell Links (K × V))}
+    (j : IsJoined (ring_cells e cs) es (prev_at (ring_cells e nodes) null_ptr) p) (fs : Nodes Links K V)
+    (k : IsJoined es (ring_cells f fs.cells) p null_ptr) where
+  pub Holds-last : Holds fs.cells p
+  Holds-last = Holds-in_nodes f fs.cells p b (Holds-content (ring_cells f fs.cells) p (k.content p ∙ j.content p ∙ fill.content))
+
+  module _ (d : Nodes Links K V) {q : Ptr} (null : q ≡ null_ptr) (place : FilledPlace p (holders cs) (holders nodes))
+      (moved : AtCell fs.cells p (λ xs c ys. BeforeCell (xs ++ ys) q (λ us vs. d.cells ≡ us ++ c ∷ vs))) where
+    last : Cut fs.cells p
+    last = Cut-held fs.cells p Holds-last.0 Holds-last.1
+
+    IsApart-last : IsApart (holders nodes ++ p ∷ [])
+    IsApart-last = IsApart-owned (IsOwned-put_back r fill j k)
+
+    order : holders d.cells ≡ holders nodes ++ p ∷ []
+    unfolding contents
+    order =
+        let us = place.split.before in let vs = place.split.after in
+        let none = append-nil (holders nodes) in
+        let fresh = subst (IsFresh p) (none ∙ sym place.others) (IsFresh-middle (holders nodes) p [] IsApart-last) in
+        let apart = subst IsApart (none ∙ sym place.others) (IsApart-removed (holders nodes) p [] IsApart-last) in
+        holders-last last (held_here last Holds-last.1) moved null (holders nodes)
+        (holders-rest last (held_here last Holds-last.1) us vs (k.order ∙ j.order ∙ place.split.is) (IsApart-inserted us p vs fresh apart)
+        ∙ place.others)
+
+    pub IsOwned-last : IsOwned (ring_cells f d.cells) (holders d.cells) l.link (n + 1) (m - 1)
+    IsOwned-last = IsOwned-moved fs d last (inl null) moved f order (IsOwned-put_back r fill j k)
+
+    pub contents-last : contents d.cells ≡ v.held ++ t ∷ []
+    contents-last = contents-moved fs d last (inl null) moved f order ∙ listed-put_back_seen r fill j k
+
+    pub IsApart-holders : IsApart (holders d.cells)
+    IsApart-holders = subst IsApart (sym order) IsApart-last
 
 -- the node at p is joined past, gives its body up, and is the first spare one
-module _ {B : Type 0} {cs : List (Cell Links B)} {spare : Link} {n m : ℕ} {v : State B} {total : ℕ} (ok : IsOwned cs spare n m)
-    (w : state (ring_list cs n) m total ≡ v) {p : Ptr} (h : IsHeld v.held p) where
-  abbrev found : CutAt cs ok.held_pointers h.before h.node h.after p
+module _ {B : Type 0} {cs : List (Cell Links B)} {ps : List Ptr} {spare : Link} {n m : ℕ} {v : State B} {total : ℕ} (ok : IsOwned cs ps spare n m)
+    (w : Seen cs ps m total v) {p : Ptr} (h : IsHeld v.held p) where
+  abbrev pub found : CutAt cs ps h.before h.node h.after p
   found = Found-held ok w p h.before h.node h.after h.is h.at_is
 
-  abbrev s : SplitAround ok.held_pointers p
+  abbrev pub s : SplitAround ps p
   s = found.split
 
-  abbrev rest_of : List Ptr
+  abbrev pub rest_of : List Ptr
   rest_of = s.before ++ s.after
 
   pub count-held : 1 ≤ n
@@ -266,30 +333,21 @@ module _ {B : Type 0} {cs : List (Cell Links B)} {spare : Link} {n m : ℕ} {v :
             (OnlyAt-with_body p None ds a.0 a.1)) (subst (λ z. OnlyAt c₁ z p) (sym e₂)
             (OnlyAt-with_links p (chaining_to spare b.0) c₁ b.0 b.1))
 
-        holds-nothing : content_at c₂ p ≡ None
-        holds-nothing =
-            let a = IsAt-node in let b = IsAt-unlinked in
-            ap (λ z. content_at z p) e₂
-            ∙ ap (content_of p (links_at (with_links p (chaining_to spare b.0) c₁) p))
-            (body_at-with_links p (chaining_to spare b.0) c₁ b.1 p ∙ ap (λ z. body_at z p) e₁ ∙ body_at-with_body p None ds a.0 a.1)
-            ∙ content_of-none p (links_at (with_links p (chaining_to spare b.0) c₁) p)
-
         left : IsRing c₂ rest_of (Some p) (p ∷ ok.spare_pointers)
         left = IsRing-unlinked ok.ring s past only
             (ap link_of (links_at-written p (chaining_to spare IsAt-unlinked.0) c₁ IsAt-unlinked.1
-            e₂)) holds-nothing
+            e₂))
 
         length-shorter : length rest_of ≡ n - 1
         length-shorter = let a = sym (ap length s.is) ∙ ok.held_count in
             omega (arith, length-append s.before (p ∷ s.after), length-append s.before s.after)
 
-        pub IsOwned-unlinked : {top : Link} → target top ≡ Some p → IsOwned c₂ top (n - 1) (m + 1)
+        pub IsOwned-unlinked : {top : Link} → target top ≡ Some p → IsOwned c₂ rest_of top (n - 1) (m + 1)
         IsOwned-unlinked et = grind (arith, count-held, left, length-shorter)
 
-        pub ring_list-unlinked : ring_list c₂ (n - 1) ≡ h.before ++ h.after
-        ring_list-unlinked =
-            ring_list-listed left length-shorter
-            ∙ listed-unlinked ok.ring s past only
+        pub listed-unlinked_held : listed c₂ rest_of ≡ h.before ++ h.after
+        listed-unlinked_held =
+            listed-unlinked ok.ring s past only
             (ap link_of (links_at-written p (chaining_to spare IsAt-unlinked.0) c₁ IsAt-unlinked.1
             e₂))
             ∙ (λ i. found.listed_before i ++ found.listed_after i)

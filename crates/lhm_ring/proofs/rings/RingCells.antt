@@ -1,7 +1,7 @@
 -- The nodes of a ring, and the one at null that stands for its ends.
 use Rattle.lhm_ring.proofs.Names.{List, None, Option, Some, [], ap, arith, cond, false, refl, subst, sym, true, ◌++◌, ◌∙◌, ◌∷◌, ◌≡◌}
 use Rattle.lhm_ring.proofs.Names.{AreLinked, ChainsTo, HasContent, IsJoined, IsOwned, IsRing, IsSpareList, IsThere, chaining_to, content_at}
-use Rattle.lhm_ring.proofs.Names.{content_of, ends_links, has_links, link_of, listed, next_at, one_of, prev_at, ring_cells, AreBlocks, Cell}
+use Rattle.lhm_ring.proofs.Names.{content_of, contents, ends_links, has_links, holders, link_of, listed, next_at, one_of, prev_at, ring_cells, AreBlocks, Cell}
 use Rattle.lhm_ring.proofs.Names.{Holds, IsAt, body_at, body_of, cell, cell_at, change, is_block, links_at, links_of, pointers, same_ptr}
 use Rattle.lhm_ring.proofs.Names.{with_body, with_links, led_to, target, Link, Ends, Links, AllByRecursion, Ptr, block_ptr, null_ptr}
 use Rattle.lhm_ring.proofs.lists.{Apart.IsApart-added, Apart.IsApart-none, ForAll.AllByRecursion-map}
@@ -120,15 +120,6 @@ module _ {B : Type 0} (e : Ends) (cs : List (Cell Links B)) where
   content_at-in_nodes : (p : Ptr) → Apart p → content_at (ring_cells e cs) p ≡ content_at cs p
   content_at-in_nodes p h = ap (λ z. content_of p (links_of z) (body_of z)) (cell_at-apart p h)
 
-  pub AllByRecursion-apart : (ps : List Ptr) → AllByRecursion (HasContent (ring_cells e cs)) ps → AllByRecursion Apart ps
-  AllByRecursion-apart = AllByRecursion-map (HasContent (ring_cells e cs)) Apart (same_ptr-content e cs)
-
-  pub AllByRecursion-content_in_nodes : (ps : List Ptr)
-      → AllByRecursion (HasContent (ring_cells e cs)) ps → AllByRecursion (HasContent cs) ps
-  AllByRecursion-content_in_nodes =
-      AllByRecursion-map (HasContent (ring_cells e cs)) (HasContent cs)
-      (λ p h. (h.0, sym (content_at-in_nodes p (same_ptr-content e cs p h)) ∙ h.1))
-
   pub listed-in_nodes : (ps : List Ptr) → AllByRecursion Apart ps → listed (ring_cells e cs) ps ≡ listed cs ps
   unfolding listed
   listed-in_nodes [] h = refl
@@ -162,5 +153,9 @@ module _ {B : Type 0} (e : Ends) (cs : List (Cell Links B)) (spare : Link) (none
   IsRing-bare : IsRing (ring_cells {B = B} e []) [] (target spare) []
   IsRing-bare = grind (arith, next_at-null, led_to-none, prev_at-null, is_there-null, IsApart-added, IsApart-none)
 
-  pub IsOwned-bare : IsOwned (ring_cells e cs) spare 0 0
-  IsOwned-bare = grind (arith, IsRing-bare)
+  bare : IsOwned (ring_cells e cs) [] spare 0 0
+  bare = grind (arith, IsRing-bare)
+
+  pub IsOwned-bare : IsOwned (ring_cells e cs) (holders cs) spare 0 0
+  unfolding contents
+  IsOwned-bare = subst (λ qs. IsOwned (ring_cells e cs) qs spare 0 0) (sym (ap holders none)) bare

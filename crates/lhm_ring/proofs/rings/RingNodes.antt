@@ -1,8 +1,7 @@
 -- The nodes of a ring, what it lists, and where it is cut.
-pub use Rattle.lhm_ring.specs.Refill.{ring_list-listed}
 use Rattle.lhm_ring.proofs.Names.{List, Option, Some, [], ap, arith, length, refl, subst, suc, sym, ℕ, ◌++◌, ◌+◌, ◌^◌, ◌∙◌, ◌∷◌, ◌≡◌, ◌≤◌}
-use Rattle.lhm_ring.proofs.Names.{HasContent, IsOwned, IsRing, content_at, follow, listed, one_of, ring_list, Cell, AtHeld, Held, IsHeld}
-use Rattle.lhm_ring.proofs.Names.{State, state, Link, Links, AllByRecursion, Ptr}
+use Rattle.lhm_ring.proofs.Names.{HasContent, IsOwned, IsRing, content_at, listed, one_of, Cell, AtHeld, Held, IsHeld}
+use Rattle.lhm_ring.proofs.Names.{State, Link, Links, AllByRecursion, Ptr}
 use Rattle.lhm_ring.proofs.lists.{ForAll.AllByRecursion-right, Splits.SplitAround}
 use Rattle.lhm_ring.proofs.rings.Contents.{at-content}
 
@@ -63,12 +62,6 @@ module _ {B : Type 0} where
       (AllByRecursion-right (HasContent cs) c.before c.after (subst (AllByRecursion (HasContent cs)) c.is h)) c.is c.listed_before
       c.listed_after
 
--- what a ring lists
-module _ {B : Type 0} where
-  pub ring_list-none : (cs : List (Cell Links B)) (n : ℕ) → n ≡ 0 → ring_list cs n ≡ []
-  unfolding follow listed
-  ring_list-none cs n e = ap (ring_list cs) e
-
 -- the held nodes of a ring, split at p
 module _ {B : Type 0} where
   pub ring_split : {cs : List (Cell Links B)} {ps : List Ptr} {spare : Option Ptr} {ss : List Ptr} {p : Ptr} → IsRing cs ps spare ss
@@ -80,30 +73,28 @@ module _ {B : Type 0} where
   length-listed cs [] h = refl
   length-listed cs (p ∷ ps) h = ap (λ o. length (one_of o ++ listed cs ps)) h.0.1 ∙ ap (λ n. suc n) (length-listed cs ps h.1)
 
--- what a ring holds
-module _ {B : Type 0} {cs : List (Cell Links B)} {spare : Link} {n m : ℕ} (ok : IsOwned cs spare n m) where
-  pub ring_list-held : ring_list cs n ≡ listed cs ok.held_pointers
-  ring_list-held = ring_list-listed ok.ring ok.held_count
+-- what lies at ps is what callers see as v
+pub record Seen {B : Type 0} (cs : List (Cell Links B)) (ps : List Ptr) (m total : ℕ) (v : State B) : Type 0 where
+  pub list : listed cs ps ≡ v.held
+  pub held : AllByRecursion (HasContent cs) ps
+  pub spares : m ≡ v.spares
+  pub nodes : total ≡ v.nodes
 
-  pub Found-listed : (p : Ptr) → AtHeld (ring_list cs n) p (λ xs t ys. CutAt cs ok.held_pointers xs t ys p)
-  Found-listed p xs t ys e at = grind (arith, CutAt-listed, ring_list-held)
+-- what a ring holds, as callers see it
+module _ {B : Type 0} {cs : List (Cell Links B)} {ps : List Ptr} {spare : Link} {n m : ℕ} (ok : IsOwned cs ps spare n m)
+    {v : State B} {total : ℕ} (w : Seen cs ps m total v) where
+  pub Found-held : (p : Ptr) → AtHeld v.held p (λ xs t ys. CutAt cs ps xs t ys p)
+  Found-held p xs t ys h at =
+      subst (CutAt cs ps xs t ys) at (CutAt-listed cs ps w.held xs t ys (w.list ∙ h))
 
-  -- and callers see as v
-  module _ {v : State B} {total : ℕ} (w : state (ring_list cs n) m total ≡ v) where
-    pub listed-held : listed cs ok.held_pointers ≡ v.held
-    listed-held = sym ring_list-held ∙ ap (λ (z : State B). z.held) w
+  pub NodeAt-held : (p : Ptr) → IsHeld v.held p → SplitAround ps p
+  NodeAt-held p h = (Found-held p h.before h.node h.after h.is h.at_is).split
 
-    pub Found-held : (p : Ptr) → AtHeld v.held p (λ xs t ys. CutAt cs ok.held_pointers xs t ys p)
-    Found-held p xs t ys h = Found-listed p xs t ys (ap (λ (z : State B). z.held) w ∙ h)
+  pub length-held : n ≡ length v.held
+  length-held = sym ok.held_count ∙ sym (length-listed cs ps w.held) ∙ ap length w.list
 
-    pub NodeAt-held : (p : Ptr) → IsHeld v.held p → SplitAround ok.held_pointers p
-    NodeAt-held p h = (Found-held p h.before h.node h.after h.is h.at_is).split
+  pub length-bounded : length v.held + v.spares ≤ 2 ^ 59
+  length-bounded = let a = length-held in let b = w.spares in let c = ok.bounded in omega arith
 
-    pub length-held : n ≡ length v.held
-    length-held = sym ok.held_count ∙ sym (length-listed cs ok.held_pointers ok.ring.held) ∙ ap length listed-held
-
-    pub length-bounded : length v.held + v.spares ≤ 2 ^ 59
-    length-bounded = let a = length-held in let b = ap (λ (z : State B). z.spares) w in let c = ok.bounded in omega arith
-
-    pub length-within : length cs ≡ suc total → length v.held + v.spares ≤ v.nodes
-    length-within all = grind (arith, length-held)
+  pub length-within : length cs ≡ suc total → length v.held + v.spares ≤ v.nodes
+  length-within all = grind (arith, length-held)

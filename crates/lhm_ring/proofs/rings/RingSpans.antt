@@ -1,54 +1,44 @@
--- What a ring holds, as a row of its nodes.
-use Rattle.lhm_ring.proofs.Names.{List, ap, arith, refl, subst, suc, sym, zero, ℕ, ◌∙◌, ◌∷◌, ◌≡◌, IsOwned, IsSpan, follow, listed, next_at}
-use Rattle.lhm_ring.proofs.Names.{pointers_from, prev_at, ring_cells, ring_list, Cell, Link, Ends, Links, Ptr, null_ptr}
-use Rattle.lhm_ring.proofs.lists.{Apart.IsApart-left, Apart.IsApart-tail, LinkRows.RowCut-linked}
-use Rattle.lhm_ring.proofs.rings.RingCells.{AllByRecursion-apart, AllByRecursion-content_in_nodes, AreLinked-in_nodes, listed-in_nodes}
-use Rattle.lhm_ring.proofs.rings.RingCells.{next_at-null, prev_at-null}
-use Rattle.lhm_ring.proofs.rings.Spans.{AreLinked-tail, HasEnds-behind, last_pointer-last_from, pointers_from-span}
+-- What a ring holds is a span, from its front to its back.
+use Rattle.lhm_ring.proofs.Names.{List, [], ap, false, refl, subst, sym, ℕ, ◌++◌, ◌∙◌, ◌∷◌, ◌≡◌, AreLinked, HasEnds, IsOwned, IsSpan, contents, holders, last_of}
+use Rattle.lhm_ring.proofs.Names.{next_at, prev_at, ring_cells, Cell, same_ptr, Held, Link, Ends, Links, length, length-map, Ptr, null_ptr}
+use Rattle.lhm_ring.proofs.lists.{Apart.IsFresh, Apart.IsFresh-head, ForAll.AllByRecursion-left, Last.last_from, LinkRows.RowCut-linked}
+use Rattle.lhm_ring.proofs.rings.{HeldPointers.pointers_of, RingCells.AreLinked-in_nodes, RingCells.next_at-null, RingCells.prev_at-null, Spans.AreLinked-tail}
 
 module _ {B : Type 0} where
-  -- what a ring holds is in a row from its front to its back
-  pub IsSpan-whole : {cs : List (Cell Links B)} {spare : Link} {n m : ℕ} → IsOwned cs spare n m
-      → IsSpan cs (next_at cs null_ptr) (prev_at cs null_ptr) n
-  IsSpan-whole ok = grind (arith, RowCut-linked, HasEnds-behind, last_pointer-last_from, AreLinked-tail, IsApart-left, IsApart-tail)
+  last_from-last_of : (t : Held B) (hs : List (Held B)) → last_from t.at (pointers_of hs) ≡ last_of t hs
+  last_from-last_of t [] = refl
+  last_from-last_of t (u ∷ hs) = last_from-last_of u hs
 
-  follow-pointers_from : (cs : List (Cell Links B)) (n : ℕ) (p : Ptr) → follow cs n p ≡ pointers_from cs n (next_at cs p)
-  unfolding follow pointers_from
-  follow-pointers_from cs zero p = refl
-  follow-pointers_from cs (suc n) p = ap (λ qs. next_at cs p ∷ qs) (follow-pointers_from cs n (next_at cs p))
+  HasEnds-row : (cs : List (Cell Links B)) (p : Ptr) (hs : List (Held B)) {b : Ptr} → AreLinked cs (p ∷ pointers_of hs)
+      → last_from p (pointers_of hs) ≡ b → HasEnds hs (next_at cs p) b
+  HasEnds-row cs p [] k e = tt
+  HasEnds-row cs p (t ∷ ts) k e = (sym k.0.0, sym (last_from-last_of t ts) ∙ e)
 
-  pub listed-whole : (cs : List (Cell Links B)) (n : ℕ) → listed cs (pointers_from cs n (next_at cs null_ptr)) ≡ ring_list cs n
-  listed-whole cs n = ap (listed cs) (sym (follow-pointers_from cs n null_ptr))
+module _ {B : Type 0} (e : Ends) (nodes : List (Cell Links B)) {ps : List Ptr} {spare : Link} {n m : ℕ}
+    (o : IsOwned (ring_cells e nodes) ps spare n m) where
+  abbrev cs : List (Cell Links B)
+  cs = ring_cells e nodes
 
--- a row of what a ring holds is one of its nodes
-module _ {B : Type 0} (e : Ends) (cs : List (Cell Links B)) {f b : Ptr} {n : ℕ} (s : IsSpan (ring_cells e cs) f b n) where
-  pub IsSpan-in_nodes : IsSpan cs f b n
-  IsSpan-in_nodes = record {
-    pointers = s.pointers;
-    count = s.count;
-    linked = AreLinked-in_nodes e cs s.pointers (AllByRecursion-apart e cs s.pointers s.held) s.linked;
-    ends = s.ends;
-    held = AllByRecursion-content_in_nodes e cs s.pointers s.held;
-    apart = s.apart;
+  pub held_row : AreLinked cs (null_ptr ∷ ps) × (prev_at cs null_ptr ≡ last_from null_ptr ps)
+  held_row = let k = RowCut-linked cs null_ptr ps null_ptr [] o.ring.linked in (k.before, k.edge.1)
+
+  pub IsFresh-held : IsFresh null_ptr ps
+  IsFresh-held = AllByRecursion-left (λ q. same_ptr null_ptr q ≡ false) ps o.spare_pointers
+      (IsFresh-head null_ptr (ps ++ o.spare_pointers) o.ring.apart)
+
+  -- whatever nodes hold it now
+  pub IsSpan-row : {ds : List (Cell Links B)} → AreLinked ds ps → (hs : List (Held B)) → pointers_of hs ≡ ps → {f b : Ptr}
+      → f ≡ e.first.ptr → b ≡ e.last.ptr → IsSpan ds hs f b n
+  IsSpan-row linked hs order is too = record {
+    count = sym (length-map hs (λ (t : Held B). t.at)) ∙ ap length order ∙ o.held_count;
+    linked = subst (AreLinked _) (sym order) linked;
+    ends = subst (λ (z : Ptr × Ptr). HasEnds hs z.0 z.1) (λ i. ((next_at-null e nodes ∙ sym is) i, (prev_at-null e nodes ∙ sym too) i))
+        (HasEnds-row cs null_ptr hs (subst (λ qs. AreLinked cs (null_ptr ∷ qs)) (sym order) held_row.0)
+        (ap (last_from null_ptr) order ∙ sym held_row.1));
   }
 
-  pub listed-span : listed cs (pointers_from cs n f) ≡ listed (ring_cells e cs) (pointers_from (ring_cells e cs) n f)
-  unfolding IsSpan-in_nodes
-  listed-span = ap (listed cs) (pointers_from-span IsSpan-in_nodes)
-      ∙ sym (listed-in_nodes e cs s.pointers (AllByRecursion-apart e cs s.pointers s.held))
-      ∙ sym (ap (listed (ring_cells e cs)) (pointers_from-span s))
-
--- what a ring holds is in the row from one end to the other
-module _ {B : Type 0} (e : Ends) (cs : List (Cell Links B)) {spare : Link} {n m : ℕ}
-    (ok : IsOwned (ring_cells e cs) spare n m) {f : Ptr} (is : f ≡ e.first.ptr) where
-  abbrev row : IsSpan (ring_cells e cs) (next_at (ring_cells e cs) null_ptr) (prev_at (ring_cells e cs) null_ptr) n
-  row = IsSpan-whole ok
-
-  pub IsSpan-ring : {b : Ptr} → b ≡ e.last.ptr → IsSpan cs f b n
-  IsSpan-ring too = subst (λ (z : Ptr × Ptr). IsSpan cs z.0 z.1 n)
-      (λ i. ((next_at-null e cs ∙ sym is) i, (prev_at-null e cs ∙ sym too) i))
-      (IsSpan-in_nodes e cs row)
-
-  pub listed-ring : listed cs (pointers_from cs n f) ≡ ring_list (ring_cells e cs) n
-  listed-ring = ap (λ q. listed cs (pointers_from cs n q)) (is ∙ sym (next_at-null e cs))
-      ∙ listed-span e cs row ∙ listed-whole (ring_cells e cs) n
+pub IsSpan-ring : {B : Type 0} (e : Ends) (nodes : List (Cell Links B)) {spare : Link} {n m : ℕ}
+    → IsOwned (ring_cells e nodes) (holders nodes) spare n m → {f b : Ptr} → f ≡ e.first.ptr → b ≡ e.last.ptr
+    → IsSpan nodes (contents nodes) f b n
+IsSpan-ring e nodes o = IsSpan-row e nodes o (AreLinked-in_nodes e nodes (holders nodes) (IsFresh-held e nodes o)
+    (AreLinked-tail (ring_cells e nodes) null_ptr (holders nodes) (held_row e nodes o).0)) (contents nodes) refl

@@ -1,213 +1,211 @@
--- A row of nodes from one to another: its first and its last, and what is left without them.
-use Rattle.lhm_ring.proofs.Names.{List, None, Some, [], ap, arith, false, length, length-append, refl, subst, sym, ℕ, ◌++◌, ◌-◌, ◌∙◌, ◌∷◌}
-use Rattle.lhm_ring.proofs.Names.{◌≡◌, AreLinked, HasContent, HasEnds, IsSpan, last_pointer, link_of, listed, next_at, next_of}
-use Rattle.lhm_ring.proofs.Names.{pointers_from, prev_at, prev_of, span_triples, Cell, Holds, IsApart, IsAt, body_at, cell, cell_at}
-use Rattle.lhm_ring.proofs.Names.{links_at, same_ptr, with_body, Held, held, triples, Links, length-map, AllByRecursion, Ptr}
-use Rattle.lhm_ring.proofs.lists.Apart.{IsApart-left, IsApart-tail, IsFresh, IsFresh-head, IsFresh-middle}
-use Rattle.lhm_ring.proofs.lists.{ForAll.AllByRecursion-left, ForAll.AllByRecursion-right, Last.SplitLast-last_from, Last.last_from}
-use Rattle.lhm_ring.proofs.lists.LinkRows.{RowCut-linked, listed-append}
-use Rattle.lhm_ring.proofs.memory.OneNodeChanged.{AllByRecursion-content_other, links_at-with_body, listed-other}
-use Rattle.lhm_ring.proofs.rings.Contents.{Holds-content, IsAt-content}
-use Rattle.lhm_ring.proofs.rings.{RingNodes.length-listed, Writes.cell_at-change_other}
+-- A part of what nodes hold, each right after the one before: its first and its last, and what is left without them.
+use Rattle.lhm_ring.proofs.Names.{List, None, Some, [], ap, append-nil, append_assoc, arith, cond, length, length-append, map-append}
+use Rattle.lhm_ring.proofs.Names.{refl, subst, sym, take, ℕ, ◌++◌, ◌-◌, ◌∙◌, ◌∷◌, ◌≡◌, AreLinked, HasEnds, HasSpan, IsSpan, contents, content_at, content_of}
+use Rattle.lhm_ring.proofs.Names.{from_at, holders, last_of, link_of, listed, next_at, next_of, prev_at, prev_of, span, Cell, Holds, IsApart, IsAt, body_at}
+use Rattle.lhm_ring.proofs.Names.{cell, links_at, pointers, pointers-change, with_body, Held, held, triples, Links, Ptr}
+use Rattle.lhm_ring.proofs.lists.{Apart.IsApart-tail, Apart.IsFresh-head, Apart.IsFresh-middle, Apart.same_ptr-reflexive}
+use Rattle.lhm_ring.proofs.lists.{LinkRows.listed-append, Options.Some-injective}
+use Rattle.lhm_ring.proofs.memory.OneNodeChanged.{OnlyAt-with_body, links_at-with_body, listed-other}
+use Rattle.lhm_ring.proofs.rings.{Contents.Holds-content, Contents.IsAt-content, Ends.First, Ends.Last, Ends.Last-last_at}
+use Rattle.lhm_ring.proofs.rings.{HeldPointers.pointers_of, Lookup.Cut-held, Lookup.held_here, RingNodes.CutAt}
+use Rattle.lhm_ring.proofs.rings.Holders.{AllByRecursion-holders, IsApart-holders, contents-listed, holders-emptied}
+use Rattle.lhm_ring.proofs.rings.RingNodes.{CutAt-listed}
 use Rattle.lhm_ring.specs.SameNodes.{AreLinked-same}
+use Rattle.lhm_ring.proofs.lists.Cuts.{same_ptr-fresh}
 
 module _ {B : Type 0} (cs : List (Cell Links B)) where
-  pub listed-none : (f : Ptr) → listed cs (pointers_from cs 0 f) ≡ []
-  unfolding pointers_from listed
-  listed-none f = refl
+  pub AreLinked-tail : (x : Ptr) (xs : List Ptr) → AreLinked cs (x ∷ xs) → AreLinked cs xs
+  AreLinked-tail x xs k = grind arith
 
-  pub span_triples-none : (f : Ptr) → span_triples cs 0 f ≡ []
-  span_triples-none f = ap triples (listed-none f)
+  HasEnds-behind : (t : Held B) (hs : List (Held B)) (b : Ptr) → AreLinked cs (pointers_of (t ∷ hs)) → last_of t hs ≡ b
+      → HasEnds hs (next_at cs t.at) b
+  HasEnds-behind t hs b k e = grind arith
 
-  -- the pointers from f on are those that the row names
-  pub pointers_from-row : (f b : Ptr) (rs : List Ptr) → AreLinked cs rs → HasEnds rs f b → pointers_from cs (length rs) f ≡ rs
-  unfolding pointers_from
-  pointers_from-row f b [] k e = refl
-  pointers_from-row f b (r ∷ []) k e = ap (λ z. z ∷ []) (sym e.0)
-  pointers_from-row f b (r ∷ s ∷ rs) k e = grind (arith, pointers_from-row s b (s ∷ rs) k.1 (refl, e.1))
+  -- the first of a span, and the rest of it
+  pub first : (hs : List (Held B)) {f b : Ptr} {n : ℕ} → IsSpan cs hs f b n → (n ≡ 0 → ⊥)
+      → (t : First hs f) × IsSpan cs t.after (next_at cs f) b (n - 1)
+  first [] s some = absurd (some (sym s.count))
+  first (t ∷ ts) {f} {b} s some = (
+    record { node = t; after = ts; is = refl; at_is = s.ends.0 },
+    record {
+      count = let e = s.count in omega arith;
+      linked = AreLinked-tail t.at (pointers_of ts) s.linked;
+      ends = subst (λ p. HasEnds ts (next_at cs p) b) s.ends.0 (HasEnds-behind t ts b s.linked s.ends.1);
+    },
+  )
 
-module _ {B : Type 0} {cs : List (Cell Links B)} {f b : Ptr} {k : ℕ} (s : IsSpan cs f b k) where
-  pub pointers_from-span : pointers_from cs k f ≡ s.pointers
-  pointers_from-span = ap (λ z. pointers_from cs z f) (sym s.count) ∙ pointers_from-row cs f b s.pointers s.linked s.ends
+  ahead : (x : Held B) (xs : List (Held B)) (t : Held B) → AreLinked cs (pointers_of (x ∷ xs ++ t ∷ []))
+      → AreLinked cs (pointers_of (x ∷ xs)) × (last_of x xs ≡ prev_at cs t.at)
+  ahead x [] t k = (tt, sym k.0.1)
+  ahead x (y ∷ ys) t k = let r = ahead y ys t k.1 in ((k.0, r.0), r.1)
 
-  pub length-listed_span : k ≡ length (listed cs (pointers_from cs k f))
-  length-listed_span = sym (ap (λ ps. length (listed cs ps)) pointers_from-span ∙ length-listed cs s.pointers s.held ∙ s.count)
+  but_last : (hs : List (Held B)) (t : Held B) (f b : Ptr) → AreLinked cs (pointers_of (hs ++ t ∷ [])) → HasEnds (hs ++ t ∷ []) f b
+      → AreLinked cs (pointers_of hs) × HasEnds hs f (prev_at cs t.at)
+  but_last [] t f b k h = (tt, tt)
+  but_last (x ∷ xs) t f b k h = let r = ahead x xs t k in (r.0, (h.0, r.1))
 
-  pub length-span_triples : k ≡ length (span_triples cs k f)
-  length-span_triples = length-listed_span ∙ sym (length-map (listed cs (pointers_from cs k f)) (λ (t : Held B). (t.hash, t.pair)))
-
-pub last_pointer-last_from : (p : Ptr) (ps : List Ptr) → last_pointer p ps ≡ last_from p ps
-last_pointer-last_from p [] = refl
-last_pointer-last_from p (q ∷ qs) = last_pointer-last_from q qs
-
-module _ {B : Type 0} where
-  pub AreLinked-tail : (cs : List (Cell Links B)) (x : Ptr) (xs : List Ptr) → AreLinked cs (x ∷ xs) → AreLinked cs xs
-  AreLinked-tail cs x xs k = grind arith
-
--- the others of a row that ends somewhere
-split_first : (f b : Ptr) (rs : List Ptr) → (length rs ≡ 0 → ⊥) → HasEnds rs f b → (qs : List Ptr) × (rs ≡ f ∷ qs)
-split_first f b rs n h = grind arith
-
-split_last : (f b : Ptr) (rs : List Ptr) → (length rs ≡ 0 → ⊥) → HasEnds rs f b → (qs : List Ptr) × (rs ≡ qs ++ b ∷ [])
-split_last f b [] n h = absurd (n refl)
-split_last f b (x ∷ xs) n h =
-    let s = SplitLast-last_from x xs in
-    (s.before, s.is ∙ ap (λ q. s.before ++ q ∷ []) (s.at_is ∙ sym (last_pointer-last_from x xs) ∙ h.1))
-
-module _ {B : Type 0} (cs : List (Cell Links B)) where
-  pub HasEnds-behind : (x b : Ptr) (xs : List Ptr) → AreLinked cs (x ∷ xs) → last_pointer x xs ≡ b → HasEnds xs (next_at cs x) b
-  HasEnds-behind x b xs k e = grind arith
-
-  ahead : (f b : Ptr) (xs : List Ptr) → AreLinked cs (xs ++ b ∷ []) → HasEnds (xs ++ b ∷ []) f b
-      → AreLinked cs xs × HasEnds xs f (prev_at cs b)
-  ahead f b [] k h = (tt, tt)
-  ahead f b (x ∷ xs) k h = let c = RowCut-linked cs x xs b [] k in (c.before, (h.0, last_pointer-last_from x xs ∙ sym c.edge.1))
+  -- the last of it, and the rest
+  pub last : (hs : List (Held B)) {f b : Ptr} {n : ℕ} → IsSpan cs hs f b n → (n ≡ 0 → ⊥)
+      → (t : Last hs b) × IsSpan cs t.before f (prev_at cs b) (n - 1)
+  last [] s some = absurd (some (sym s.count))
+  last (t ∷ ts) {f} {b} {n} s some =
+      let l = Last-last_at (t ∷ ts) {o = Some (last_of t ts)} refl (ap (λ p. Some p) s.ends.1) in
+      let r = but_last l.before l.node f b (subst (λ hs. AreLinked cs (pointers_of hs)) l.is s.linked) (subst (λ hs. HasEnds hs f b) l.is s.ends) in
+      let e = ap length (sym l.is) ∙ s.count in (
+        l,
+        record {
+          count = omega (arith, length-append l.before (l.node ∷ []));
+          linked = r.0;
+          ends = subst (λ p. HasEnds l.before f (prev_at cs p)) l.at_is r.1;
+        },
+      )
 
 module _ {B : Type 0} where
-  triples-append : (xs ys : List (Held B)) → triples (xs ++ ys) ≡ triples xs ++ triples ys
-  triples-append [] ys = refl
-  triples-append (x ∷ xs) ys = ap (λ r. (x.hash, x.pair) ∷ r) (triples-append xs ys)
+  from_at-past : (us : List (Held B)) (t : Held B) (vs : List (Held B)) → IsApart (pointers_of (us ++ t ∷ vs))
+      → from_at t.at (us ++ t ∷ vs) ≡ t ∷ vs
+  unfolding from_at
+  from_at-past [] t vs d = ap (λ y. cond y (t ∷ vs) (from_at t.at vs)) (same_ptr-reflexive t.at)
+  from_at-past (u ∷ us) t vs d = let hs = us ++ t ∷ vs in
+      ap (λ y. cond y (u ∷ hs) (from_at t.at hs)) (same_ptr-fresh (λ t. t.at) u.at us t vs (IsFresh-head u.at (pointers_of hs) d))
+      ∙ from_at-past us t vs (IsApart-tail u.at (pointers_of hs) d)
 
-  pub listed-one : (cs : List (Cell Links B)) (p : Ptr) → HasContent cs p → (l : Links) → links_at cs p ≡ Some l → (x : B)
-      → body_at cs p ≡ Some x → listed cs (p ∷ []) ≡ held p l.hash (link_of (Some l)) x ∷ []
-  unfolding listed
-  listed-one cs p h l f x e = grind arith
+  take-append : (xs ys : List (Held B)) → take (length xs) (xs ++ ys) ≡ xs
+  take-append [] ys = refl
+  take-append (x ∷ xs) ys = ap (λ zs. x ∷ zs) (take-append xs ys)
 
--- what the node p holds is moved out of it, and a row without p stays
-module _ {B : Type 0} {cs : List (Cell Links B)} (p : Ptr) {la : Links}
-    (ea : links_at cs p ≡ Some la) {f b : Ptr} {k : ℕ} (s : IsSpan cs f b k)
-    (free : IsFresh p s.pointers) where
-  abbrev ds : List (Cell Links B)
-  ds = with_body p None cs
+-- what is held at one place among what nodes hold
+module _ {B : Type 0} (cs : List (Cell Links B)) (d : IsApart (pointers cs)) (us : List (Held B)) (t : Held B) (vs : List (Held B))
+    (e : contents cs ≡ us ++ t ∷ vs) {p : Ptr} (at : t.at ≡ p) where
+  cut : CutAt cs (holders cs) us t vs p
+  cut = subst (CutAt cs (holders cs) us t vs) at
+      (CutAt-listed cs (holders cs) (AllByRecursion-holders cs d) us t vs (sym (contents-listed cs d) ∙ e))
 
-  cell_at-other : (q : Ptr) → same_ptr p q ≡ false → cell_at ds q ≡ cell_at cs q
-  cell_at-other q n = cell_at-change_other p (λ c. cell c.at c.links None) (λ c. refl) q n cs
+  pub content_at-contents : content_at cs p ≡ Some t
+  content_at-contents = cut.here
 
-  abbrev IsSpan-stays : IsSpan ds f b k
-  IsSpan-stays =
-      let same = links_at-with_body p None cs la ea in
-      record {
-        pointers = s.pointers;
-        count = s.count;
-        linked = AreLinked-same cs ds (λ q. ap next_of (same q)) (λ q. ap prev_of (same q)) s.pointers s.linked;
-        ends = s.ends;
-        held = AllByRecursion-content_other cs ds p cell_at-other s.pointers free s.held;
-        apart = s.apart;
+  -- it is moved out
+  pub contents-emptied : contents (with_body p None cs) ≡ us ++ vs
+  contents-emptied =
+      let ds = with_body p None cs in let s = cut.split in let b = Holds-content cs p cut.here in let l = IsAt-content cs p cut.here in
+      let k = Cut-held cs p b.0 b.1 in let apart = subst IsApart s.is (IsApart-holders cs d) in
+      contents-listed ds (subst IsApart (sym (pointers-change p (λ c. cell c.at c.links None) (λ c. refl) cs)) d)
+      ∙ ap (listed ds) (holders-emptied k (held_here k b.1) s.before s.after s.is apart)
+      ∙ listed-other cs ds p (OnlyAt-with_body p None cs l.0 l.1).other (s.before ++ s.after) (IsFresh-middle s.before p s.after apart)
+      ∙ listed-append cs s.before s.after ∙ (λ i. cut.listed_before i ++ cut.listed_after i)
+
+-- what is read there
+held-content : {B : Type 0} (cs : List (Cell Links B)) (p : Ptr) {t : Held B} {l : Links} {x : B} → content_at cs p ≡ Some t
+    → links_at cs p ≡ Some l → body_at cs p ≡ Some x → t ≡ held p l.hash (link_of (Some l)) x
+held-content cs p {t} c e f = Some-injective t _ (sym c ∙ (λ i. content_of p (e i) (f i)))
+
+-- a part of what nodes hold
+module _ {B : Type 0} {cs : List (Cell Links B)} (d : IsApart (pointers cs)) where
+  take-span : (us hs vs : List (Held B)) → contents cs ≡ us ++ (hs ++ vs) → {f b : Ptr} {n : ℕ} → IsSpan cs hs f b n → span cs n f ≡ hs
+  take-span us [] vs is {f} s = ap (λ k. span cs k f) (sym s.count)
+  take-span us (t ∷ ts) vs is s =
+      (λ i. take (sym s.count i) (from_at (sym s.ends.0 i) (is i)))
+      ∙ ap (take (length (t ∷ ts))) (from_at-past us t (ts ++ vs) (subst (λ hs. IsApart (pointers_of hs)) is (IsApart-holders cs d)))
+      ∙ take-append (t ∷ ts) vs
+
+  module _ {f b : Ptr} {n : ℕ} (s : HasSpan cs f b n) where
+    pub span-part : span cs n f ≡ s.part
+    span-part = take-span s.before s.part s.after s.is s.span
+
+    pub length-span : n ≡ length (span cs n f)
+    length-span = sym s.span.count ∙ ap length (sym span-part)
+
+    module _ (some : n ≡ 0 → ⊥) where
+      content-first : content_at cs f ≡ Some (first cs s.part s.span some).0.node
+      content-first = let t = (first cs s.part s.span some).0 in
+          content_at-contents cs d s.before t.node (t.after ++ s.after) (s.is ∙ ap (λ hs. s.before ++ (hs ++ s.after)) t.is) t.at_is
+
+      pub IsAt-first : IsAt cs f
+      IsAt-first = IsAt-content cs f content-first
+
+      pub Holds-first : Holds cs f
+      Holds-first = Holds-content cs f content-first
+
+      pub HasSpan-behind_first : {l : Links} → links_at cs f ≡ Some l → {q : Ptr} → q ≡ l.next.ptr → HasSpan cs q b (n - 1)
+      HasSpan-behind_first e is = let r = first cs s.part s.span some in let t = r.0 in record {
+        before = s.before ++ t.node ∷ [];
+        part = t.after;
+        after = s.after;
+        is = s.is ∙ ap (λ hs. s.before ++ (hs ++ s.after)) t.is ∙ sym (append_assoc s.before (t.node ∷ []) (t.after ++ s.after));
+        span = subst (λ p. IsSpan cs t.after p b (n - 1)) (ap next_of e ∙ sym is) r.1;
       }
 
-  listed-stays : listed cs (pointers_from cs k f) ≡ listed ds (pointers_from ds k f)
-  listed-stays = ap (listed cs) (pointers_from-span s)
-      ∙ sym (listed-other cs ds p cell_at-other s.pointers free)
-      ∙ ap (listed ds) (sym (pointers_from-span IsSpan-stays))
+      at_last : contents cs ≡ s.before ++ ((last cs s.part s.span some).0.before ++ (last cs s.part s.span some).0.node ∷ s.after)
+      at_last = let t = (last cs s.part s.span some).0 in
+          s.is ∙ ap (λ hs. s.before ++ (hs ++ s.after)) t.is ∙ ap (λ hs. s.before ++ hs) (append_assoc t.before (t.node ∷ []) s.after)
 
--- the first of a row and the rest, and the last and the rest
-module _ {B : Type 0} {cs : List (Cell Links B)} {f b : Ptr} {k : ℕ} (s : IsSpan cs f b k) (some : k ≡ 0 → ⊥) where
-  first : (qs : List Ptr) × (s.pointers ≡ f ∷ qs)
-  first = split_first f b s.pointers (λ e. some (sym s.count ∙ e)) s.ends
+      content-last : content_at cs b ≡ Some (last cs s.part s.span some).0.node
+      content-last = let t = (last cs s.part s.span some).0 in
+          content_at-contents cs d (s.before ++ t.before) t.node s.after (at_last ∙ sym (append_assoc s.before t.before (t.node ∷ s.after))) t.at_is
 
-  AreLinked-first : AreLinked cs (f ∷ first.0)
-  AreLinked-first = subst (AreLinked cs) first.1 s.linked
+      pub IsAt-last : IsAt cs b
+      IsAt-last = IsAt-content cs b content-last
 
-  AllByRecursion-first : AllByRecursion (HasContent cs) (f ∷ first.0)
-  AllByRecursion-first = subst (AllByRecursion (HasContent cs)) first.1 s.held
+      pub Holds-last : Holds cs b
+      Holds-last = Holds-content cs b content-last
 
-  pub IsAt-first : IsAt cs f
-  IsAt-first = IsAt-content cs f AllByRecursion-first.0.1
+      pub HasSpan-ahead_of_last : {l : Links} → links_at cs b ≡ Some l → {q : Ptr} → q ≡ l.prev.ptr → HasSpan cs f q (n - 1)
+      HasSpan-ahead_of_last e is = let r = last cs s.part s.span some in let t = r.0 in record {
+        before = s.before;
+        part = t.before;
+        after = t.node ∷ s.after;
+        is = at_last;
+        span = subst (λ p. IsSpan cs t.before f p (n - 1)) (ap prev_of e ∙ sym is) r.1;
+      }
 
-  pub Holds-first : Holds cs f
-  Holds-first = Holds-content cs f AllByRecursion-first.0.1
+  module _ {f b : Ptr} {n : ℕ} (s : HasSpan cs f b n) (some : n ≡ 0 → ⊥) {l : Links} {q : Ptr} {x : B} where
+    pub span-first : links_at cs f ≡ Some l → q ≡ l.next.ptr → body_at cs f ≡ Some x
+        → span cs n f ≡ held f l.hash (link_of (Some l)) x ∷ span cs (n - 1) q
+    unfolding HasSpan-behind_first
+    span-first e is h = span-part s ∙ (first cs s.part s.span some).0.is
+        ∙ (λ i. held-content cs f (content-first s some) e h i ∷ sym (span-part (HasSpan-behind_first s some e is)) i)
 
-  IsApart-first : IsApart (f ∷ first.0)
-  IsApart-first = subst IsApart first.1 s.apart
+    pub span-last : links_at cs b ≡ Some l → q ≡ l.prev.ptr → body_at cs b ≡ Some x
+        → span cs n f ≡ span cs (n - 1) f ++ held b l.hash (link_of (Some l)) x ∷ []
+    unfolding HasSpan-ahead_of_last
+    span-last e is h = span-part s ∙ (last cs s.part s.span some).0.is
+        ∙ (λ i. sym (span-part (HasSpan-ahead_of_last s some e is)) i ++ held-content cs b (content-last s some) e h i ∷ [])
 
-  length-first : length first.0 ≡ k - 1
-  length-first = let e = ap length (sym first.1) ∙ s.count in omega arith
+-- all that nodes hold is such a part
+abbrev pub HasSpan-whole : {B : Type 0} {cs : List (Cell Links B)} {f b : Ptr} {n : ℕ} → IsSpan cs (contents cs) f b n → HasSpan cs f b n
+HasSpan-whole {cs = cs} s = record { before = []; part = contents cs; after = []; is = sym (append-nil (contents cs)); span = s }
 
-  module _ {la : Links} (ea : links_at cs f ≡ Some la) {q : Ptr} (is : q ≡ la.next.ptr) where
-    pub IsSpan-behind_first : IsSpan cs q b (k - 1)
-    IsSpan-behind_first = record {
-      pointers = first.0;
-      count = length-first;
-      linked = AreLinked-tail cs f first.0 AreLinked-first;
-      ends = subst (λ r. HasEnds first.0 r b) (ap next_of ea ∙ sym is)
-          (HasEnds-behind cs f b first.0 AreLinked-first
-          (subst (λ qs. HasEnds qs f b) first.1 s.ends).1);
-      held = AllByRecursion-first.1;
-      apart = IsApart-tail f first.0 IsApart-first;
-    }
+module _ {B : Type 0} {cs : List (Cell Links B)} (d : IsApart (pointers cs)) {f b : Ptr} {n : ℕ} (s : IsSpan cs (contents cs) f b n)
+    (some : n ≡ 0 → ⊥) where
+  stays : (p : Ptr) {k : Links} → links_at cs p ≡ Some k → {hs : List (Held B)} → contents (with_body p None cs) ≡ hs → {g c : Ptr}
+      → IsSpan cs hs g c (n - 1) → IsSpan (with_body p None cs) (contents (with_body p None cs)) g c (n - 1)
+  stays p e is {g} {c} r = let ds = with_body p None cs in let same = links_at-with_body p None cs _ e in
+      subst (λ hs. IsSpan ds hs g c (n - 1)) (sym is) (record {
+        count = r.count;
+        linked = AreLinked-same cs ds (λ q. ap next_of (same q)) (λ q. ap prev_of (same q)) _ r.linked;
+        ends = r.ends;
+      })
 
-    pub listed-first : {x : B} → body_at cs f ≡ Some x → listed cs (pointers_from cs k f)
-        ≡ held f la.hash (link_of (Some la)) x ∷ listed cs (pointers_from cs (k - 1) q)
-    unfolding IsSpan-behind_first
-    listed-first ex =
-        ap (listed cs) (pointers_from-span s ∙ first.1) ∙ listed-append cs (f ∷ []) first.0
-        ∙ (λ i. listed-one cs f AllByRecursion-first.0 la ea _ ex i ++ listed cs (sym (pointers_from-span IsSpan-behind_first) i))
+  rest_of_first : contents (with_body f None cs) ≡ (first cs (contents cs) s some).0.after
+  rest_of_first = let t = (first cs (contents cs) s some).0 in contents-emptied cs d [] t.node t.after t.is t.at_is
 
-    IsFresh-first : IsFresh f first.0
-    IsFresh-first = IsFresh-head f first.0 IsApart-first
+  pub IsSpan-rest_of_first : {l : Links} {q : Ptr} → links_at cs f ≡ Some l → q ≡ l.next.ptr → IsSpan (with_body f None cs) (contents (with_body f None cs)) q b (n - 1)
+  IsSpan-rest_of_first e is = let r = first cs (contents cs) s some in
+      stays f e rest_of_first (subst (λ p. IsSpan cs r.0.after p b (n - 1)) (ap next_of e ∙ sym is) r.1)
 
-    pub IsSpan-rest_of_first : IsSpan (with_body f None cs) q b (k - 1)
-    unfolding IsSpan-behind_first
-    IsSpan-rest_of_first = IsSpan-stays f ea IsSpan-behind_first IsFresh-first
+  pub triples-first_taken : {l : Links} {x : B} → links_at cs f ≡ Some l → body_at cs f ≡ Some x
+      → triples (contents cs) ≡ (l.hash, x) ∷ triples (contents (with_body f None cs))
+  triples-first_taken e h = let t = (first cs (contents cs) s some).0 in
+      ap triples (t.is ∙ (λ i. held-content cs f (content_at-contents cs d [] t.node t.after t.is t.at_is) e h i ∷ sym rest_of_first i))
 
-    pub span_triples-first : {x : B} → body_at cs f ≡ Some x → span_triples cs k f ≡ (la.hash, x) ∷
-        span_triples (with_body f None cs) (k - 1) q
-    unfolding IsSpan-behind_first
-    span_triples-first {x} ex = ap triples (listed-first ex) ∙ ap (λ ts. (la.hash, x) ∷ triples ts)
-        (listed-stays f ea IsSpan-behind_first IsFresh-first)
+  rest_of_last : contents (with_body b None cs) ≡ (last cs (contents cs) s some).0.before
+  rest_of_last = let t = (last cs (contents cs) s some).0 in contents-emptied cs d t.before t.node [] t.is t.at_is ∙ append-nil t.before
 
-  last : (qs : List Ptr) × (s.pointers ≡ qs ++ b ∷ [])
-  last = split_last f b s.pointers (λ e. some (sym s.count ∙ e)) s.ends
+  pub IsSpan-rest_of_last : {l : Links} {q : Ptr} → links_at cs b ≡ Some l → q ≡ l.prev.ptr → IsSpan (with_body b None cs) (contents (with_body b None cs)) f q (n - 1)
+  IsSpan-rest_of_last e is = let r = last cs (contents cs) s some in
+      stays b e rest_of_last (subst (λ p. IsSpan cs r.0.before f p (n - 1)) (ap prev_of e ∙ sym is) r.1)
 
-  ahead_of_last : AreLinked cs last.0 × HasEnds last.0 f (prev_at cs b)
-  ahead_of_last = ahead cs f b last.0 (subst (AreLinked cs) last.1 s.linked) (subst (λ qs. HasEnds qs f b) last.1 s.ends)
-
-  AllByRecursion-last : AllByRecursion (HasContent cs) (last.0 ++ b ∷ [])
-  AllByRecursion-last = subst (AllByRecursion (HasContent cs)) last.1 s.held
-
-  HasContent-last : HasContent cs b
-  HasContent-last = (AllByRecursion-right (HasContent cs) last.0 (b ∷ []) AllByRecursion-last).0
-
-  pub IsAt-last : IsAt cs b
-  IsAt-last = IsAt-content cs b HasContent-last.1
-
-  pub Holds-last : Holds cs b
-  Holds-last = Holds-content cs b HasContent-last.1
-
-  length-last : length last.0 ≡ k - 1
-  length-last = let e = ap length (sym last.1) ∙ s.count in omega (arith, length-append last.0 (b ∷ []))
-
-  IsApart-last : IsApart (last.0 ++ b ∷ [])
-  IsApart-last = subst IsApart last.1 s.apart
-
-  module _ {la : Links} (ea : links_at cs b ≡ Some la) {q : Ptr} (is : q ≡ la.prev.ptr) where
-    pub IsSpan-ahead_of_last : IsSpan cs f q (k - 1)
-    IsSpan-ahead_of_last = record {
-      pointers = last.0;
-      count = length-last;
-      linked = ahead_of_last.0;
-      ends = subst (λ r. HasEnds last.0 f r) (ap prev_of ea ∙ sym is) ahead_of_last.1;
-      held = AllByRecursion-left (HasContent cs) last.0 (b ∷ []) AllByRecursion-last;
-      apart = IsApart-left last.0 (b ∷ []) IsApart-last;
-    }
-
-    pub listed-last : {x : B} → body_at cs b ≡ Some x → listed cs (pointers_from cs k f) ≡ listed cs
-        (pointers_from cs (k - 1) f) ++ held b la.hash (link_of (Some la)) x ∷ []
-    unfolding IsSpan-ahead_of_last
-    listed-last ex =
-        ap (listed cs) (pointers_from-span s ∙ last.1) ∙ listed-append cs last.0 (b ∷ [])
-        ∙ (λ i. listed cs (sym (pointers_from-span IsSpan-ahead_of_last) i) ++ listed-one cs b HasContent-last la ea _ ex i)
-
-    IsFresh-last : IsFresh b last.0
-    IsFresh-last = AllByRecursion-left (λ q. same_ptr b q ≡ false) last.0 [] (IsFresh-middle last.0 b [] IsApart-last)
-
-    pub IsSpan-rest_of_last : IsSpan (with_body b None cs) f q (k - 1)
-    unfolding IsSpan-ahead_of_last
-    IsSpan-rest_of_last = IsSpan-stays b ea IsSpan-ahead_of_last IsFresh-last
-
-    pub span_triples-last : {x : B} → body_at cs b ≡ Some x → span_triples cs k f ≡ span_triples
-        (with_body b None cs) (k - 1) f ++ (la.hash, x) ∷ []
-    unfolding IsSpan-ahead_of_last
-    span_triples-last {x} ex =
-        ap triples (listed-last ex) ∙ triples-append (listed cs (pointers_from cs (k - 1) f)) (held b la.hash (link_of (Some la)) x ∷ [])
-        ∙ ap (λ ts. triples ts ++ (la.hash, x) ∷ []) (listed-stays b ea IsSpan-ahead_of_last IsFresh-last)
+  pub triples-last_taken : {l : Links} {x : B} → links_at cs b ≡ Some l → body_at cs b ≡ Some x
+      → triples (contents cs) ≡ triples (contents (with_body b None cs)) ++ (l.hash, x) ∷ []
+  triples-last_taken e h = let t = (last cs (contents cs) s some).0 in
+      ap triples (t.is ∙ (λ i. sym rest_of_last i ++ held-content cs b (content_at-contents cs d t.before t.node [] t.is t.at_is) e h i ∷ []))
+      ∙ map-append (λ (t : Held B). (t.hash, t.pair)) (contents (with_body b None cs)) (held b _ _ _ ∷ [])

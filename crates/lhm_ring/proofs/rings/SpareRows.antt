@@ -1,15 +1,15 @@
 -- Rows of nodes that become spare, and what a change of chain links alone keeps.
-use Rattle.lhm_ring.proofs.Names.{List, None, Option, Some, [], ap, arith, false, length, refl, subst, suc, sym, ℕ, ◌++◌, ◌+◌, ◌-◌, ◌<◌}
-use Rattle.lhm_ring.proofs.Names.{◌∙◌, ◌∷◌, ◌≡◌, HasRow, IsRow, SameButLinks, SparesRow, StartsAt, onto, triple_of, AreLinked, IsSpareList}
-use Rattle.lhm_ring.proofs.Names.{IsThere, chaining_to, content_of, has_links, link_at, next_at, next_of, one_of, prev_of}
-use Rattle.lhm_ring.proofs.Names.{ring_cells, Cell, IsApart, body_at, body_of, cell, cell_at, links_at, links_of, same_ptr, with_links}
-use Rattle.lhm_ring.proofs.Names.{target, Held, triples, Link, Ends, Links, AllByRecursion, Ptr}
+use Rattle.lhm_ring.proofs.Names.{List, Option, Some, [], ap, arith, false, length, refl, subst, suc, sym, ℕ, ◌++◌, ◌+◌, ◌-◌, ◌<◌}
+use Rattle.lhm_ring.proofs.Names.{◌∙◌, ◌∷◌, ◌≡◌, HasRow, IsRow, SameButLinks, SparesRow, StartsAt, onto, AreLinked, IsSpareList}
+use Rattle.lhm_ring.proofs.Names.{IsThere, chaining_to, contents, has_links, link_at, next_at, next_of, prev_of}
+use Rattle.lhm_ring.proofs.Names.{ring_cells, Cell, IsApart, cell, cell_at, links_at, links_of, same_ptr, with_links}
+use Rattle.lhm_ring.proofs.Names.{target, Link, Ends, Links, AllByRecursion, Ptr}
 use Rattle.lhm_ring.proofs.lists.Apart.{IsApart-inserted, IsApart-removed, IsApart-tail, IsFresh-head, IsFresh-middle, same_ptr-reflexive}
 use Rattle.lhm_ring.proofs.lists.ForAll.{AllByRecursion-map, AllByRecursion-right}
-use Rattle.lhm_ring.proofs.{lists.Options.none_some, memory.OneNodeChanged.IsSpareList-other}
-use Rattle.lhm_ring.proofs.rings.{Spans.AreLinked-tail, Writes.reader-with_links_same}
+use Rattle.lhm_ring.proofs.memory.OneNodeChanged.{IsSpareList-other}
+use Rattle.lhm_ring.proofs.rings.{Holders.holders-with_links, Holders.triples-chained, Spans.AreLinked-tail, Writes.reader-with_links_same}
 use Rattle.lhm_ring.specs.SameNodes.{AreLinked-same}
-use Rattle.lhm_ring.proofs.rings.Writes.{body_at-with_links, cell_at-change_other, length-change, links_at-with_links}
+use Rattle.lhm_ring.proofs.rings.Writes.{cell_at-change_other, length-change, links_at-with_links}
 
 -- the pointers of a row go onto others
 pub AllByRecursion-onto : (P : Ptr → Type 0) (ps ss : List Ptr) → AllByRecursion P ps → AllByRecursion P ss → AllByRecursion P (onto ps ss)
@@ -27,10 +27,6 @@ IsApart-onto g (p ∷ ps) ss d = IsApart-onto g ps (p ∷ ss)
     (IsApart-removed (g ∷ []) p (ps ++ ss) d))
 
 module _ {B : Type 0} where
-  triple_of-chaining_to : (q : Ptr) (o : Link) (l : Links) (b : Option B)
-      → triple_of (content_of q (Some (chaining_to o l)) b) ≡ triple_of (content_of q (Some l) b)
-  triple_of-chaining_to q o l b = grind arith
-
   -- what the write of a chain link keeps
   SameButLinks-chaining_to : (cs : List (Cell Links B)) (p : Ptr) (o : Link) (la : Links)
       → links_at cs p ≡ Some la → SameButLinks cs (with_links p (chaining_to o la) cs)
@@ -40,10 +36,9 @@ module _ {B : Type 0} where
         next = reader-with_links_same p l cs e next_of refl;
         prev = reader-with_links_same p l cs e prev_of refl;
         there = reader-with_links_same p l cs e has_links refl;
-        triple = λ q. ap (λ b. triple_of (content_of q (links_at (with_links p l cs) q) b)) (body_at-with_links p l cs e q)
-            ∙ reader-with_links_same p l cs e (λ z. triple_of (content_of q z (body_at cs q)))
-            (triple_of-chaining_to q o la (body_at cs q)) q;
         count = length-change p (λ c. cell c.at l c.body) cs;
+        order = holders-with_links p l cs;
+        held = triples-chained cs p o la e;
       }
 
   SameButLinks-both : (cs ds es : List (Cell Links B)) → SameButLinks cs ds → SameButLinks ds es → SameButLinks cs es
@@ -109,19 +104,6 @@ module _ {B : Type 0} where
   pub SparesRow-done : (cs : List (Cell Links B)) (f : Ptr) {n : ℕ} (spare : Option Ptr) → n ≡ 0 → SparesRow cs f n spare cs spare
   SparesRow-done cs f spare e h ss r = grind arith
 
-  pub some_still : (o : Option (Held B)) (t : Held B) → triple_of o ≡ Some (t.hash, t.pair) → (u : Held B) × (o ≡ Some u)
-  some_still None t e = absurd (none_some (t.hash, t.pair) e)
-  some_still (Some u) t e = (u, refl)
-
-  pub one_triple : Option (ℕ × B) → List (ℕ × B)
-  one_triple None = []
-  one_triple (Some x) = x ∷ []
-
-  pub triples-one_of : (o : Option (Held B)) (hs : List (Held B)) → triples (one_of o ++ hs) ≡ one_triple (triple_of o) ++ triples hs
-  unfolding one_triple
-  triples-one_of None hs = refl
-  triples-one_of (Some t) hs = refl
-
 -- the same nodes of a ring, except for their chain links
 module _ {B : Type 0} (e : Ends) (cs ds : List (Cell Links B)) (same : SameButLinks cs ds) where
   reader-ring_cells : {X : Type 0} (f : Option (Cell Links B) → X) (q : Ptr) → f (cell_at ds q) ≡ f (cell_at cs q)
@@ -130,10 +112,12 @@ module _ {B : Type 0} (e : Ends) (cs ds : List (Cell Links B)) (same : SameButLi
   reader-ring_cells f q h = grind arith
 
   pub SameButLinks-in_ring : SameButLinks (ring_cells e cs) (ring_cells e ds)
+  unfolding contents
   SameButLinks-in_ring = record {
     next = λ q. reader-ring_cells (λ z. next_of (links_of z)) q (same.next q);
     prev = λ q. reader-ring_cells (λ z. prev_of (links_of z)) q (same.prev q);
     there = λ q. reader-ring_cells (λ z. has_links (links_of z)) q (same.there q);
-    triple = λ q. reader-ring_cells (λ z. triple_of (content_of q (links_of z) (body_of z))) q (same.triple q);
     count = ap suc same.count;
+    order = same.order;
+    held = same.held;
   }

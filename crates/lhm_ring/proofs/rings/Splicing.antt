@@ -1,46 +1,35 @@
 -- All that a ring holds becomes spare.
-use Rattle.lhm_ring.proofs.Names.{List, [], ap, arith, false, refl, subst, sym, ℕ, ◌++◌, ◌+◌, ◌∙◌, ◌∷◌, ◌≡◌, HasRow, IsRow, SameButLinks}
-use Rattle.lhm_ring.proofs.Names.{SparesRow, StartsAt, onto, triple_of, AreLinked, HasContent, IsJoined, IsOwned, IsRing, IsSpan}
-use Rattle.lhm_ring.proofs.Names.{IsSpareList, IsThere, content_at, listed, next_at, prev_at, ring_cells, ring_list, span_triples, Cell}
-use Rattle.lhm_ring.proofs.Names.{same_ptr, target, triples, Link, Ends, Links, AllByRecursion, Ptr, null_ptr}
-use Rattle.lhm_ring.proofs.lists.Apart.{IsApart-left, IsApart-tail, IsFresh, IsFresh-head}
-use Rattle.lhm_ring.proofs.lists.ForAll.{AllByRecursion-left, AllByRecursion-map, AllByRecursion-right}
-use Rattle.lhm_ring.proofs.lists.{Last.last_from, LinkRows.RowCut-linked}
+use Rattle.lhm_ring.proofs.Names.{List, [], ap, arith, false, subst, sym, ℕ, ◌++◌, ◌+◌, ◌∙◌, ◌∷◌, ◌≡◌, HasRow, IsRow, Nodes, SameButLinks}
+use Rattle.lhm_ring.proofs.Names.{SparesRow, StartsAt, onto, AreLinked, IsJoined, IsOwned, IsRing, IsSpan, contents, holders, listed}
+use Rattle.lhm_ring.proofs.Names.{IsSpareList, IsThere, ring_cells, Cell, None, cleared, has_links, length, link_of, links_at, next_of, prev_of, suc}
+use Rattle.lhm_ring.proofs.Names.{same_ptr, target, Held, Link, Ends, Links, AllByRecursion, Ptr, null_ptr}
+use Rattle.lhm_ring.proofs.lists.Apart.{IsApart-tail, IsFresh, IsFresh-head}
+use Rattle.lhm_ring.proofs.lists.ForAll.{AllByRecursion-always, AllByRecursion-left, AllByRecursion-map, AllByRecursion-right}
 use Rattle.lhm_ring.proofs.rings.Joins.{AreLinked-unchanged, AreNeighbours-made, AvoidsSource-fresh, AvoidsTarget-fresh}
-use Rattle.lhm_ring.proofs.rings.{Joins.IsSpareList-unchanged, Joins.listed-unchanged, RingNodes.ring_list-listed}
+use Rattle.lhm_ring.proofs.rings.{HeldPointers.pointers_of, Holders.holders-joined, Joins.IsSpareList-unchanged, Joins.listed-unchanged}
+use Rattle.lhm_ring.proofs.rings.{Order.contents-now, Rebodied.length-rebodied, Rebodied.links_at-rebodied, Spans.AreLinked-tail}
 use Rattle.lhm_ring.proofs.rings.RingCells.{AllByRecursion-there_in_nodes, AreLinked-in_nodes, IsSpareList-in_nodes, IsSpareList-in_ring}
-use Rattle.lhm_ring.proofs.rings.{RingCells.is_there-null, RingCells.next_at-null, SpareRows.some_still, SpareRows.triples-one_of}
-use Rattle.lhm_ring.proofs.rings.Spans.{AreLinked-tail, HasEnds-behind, last_pointer-last_from, pointers_from-span}
-use Rattle.lhm_ring.proofs.rings.SpareRows.{AllByRecursion-onto, IsApart-onto, SameButLinks-in_ring, StartsAt-next, length-onto, one_triple}
-use Rattle.lhm_ring.proofs.Names.{None, cleared, has_links, length, link_of, links_at, next_of, prev_of, suc}
-use Rattle.lhm_ring.proofs.rings.Contents.{content_of-none}
-use Rattle.lhm_ring.proofs.lists.ForAll.{AllByRecursion-always}
+use Rattle.lhm_ring.proofs.rings.{RingCells.is_there-null, RingCells.next_at-null, RingSpans.IsFresh-held, RingSpans.IsSpan-row, RingSpans.held_row}
+use Rattle.lhm_ring.proofs.rings.SpareRows.{AllByRecursion-onto, IsApart-onto, SameButLinks-in_ring, StartsAt-next, length-onto}
 use Rattle.lhm_ring.specs.SameNodes.{AreLinked-same, IsSpareList-same, SameLink}
-use Rattle.lhm_ring.specs.Rebodied.{content_at-rebodied, length-rebodied, links_at-rebodied}
-
--- nodes with nothing in them hold nothing
-content_at-cleared : {B : Type 0} (cs : List (Cell Links B)) (q : Ptr) → content_at (cleared cs) q ≡ None
-content_at-cleared cs q = content_at-rebodied (λ _ _. None) cs q ∙ content_of-none q (links_at cs q)
 
 -- all that a ring holds becomes spare
-module _ {B : Type 0} (e : Ends) (nodes : List (Cell Links B)) {spare : Link} {n m : ℕ} (o : IsOwned (ring_cells e nodes) spare n m) where
+module _ {B : Type 0} (e : Ends) (nodes : List (Cell Links B)) {ps : List Ptr} {spare : Link} {n m : ℕ}
+    (o : IsOwned (ring_cells e nodes) ps spare n m) where
   abbrev cs : List (Cell Links B)
   cs = ring_cells e nodes
-
-  abbrev ps : List Ptr
-  ps = o.held_pointers
 
   abbrev ss : List Ptr
   ss = o.spare_pointers
 
-  cut : AreLinked cs (null_ptr ∷ ps) × (prev_at cs null_ptr ≡ last_from null_ptr ps)
-  cut = let k = RowCut-linked cs null_ptr ps null_ptr [] o.ring.linked in (k.before, k.edge.1)
+  linked : AreLinked cs ps
+  linked = AreLinked-tail cs null_ptr ps (held_row e nodes o).0
 
   IsFresh-all : IsFresh null_ptr (ps ++ ss)
   IsFresh-all = IsFresh-head null_ptr (ps ++ ss) o.ring.apart
 
-  IsFresh-row : IsFresh null_ptr ps
-  IsFresh-row = AllByRecursion-left (λ q. same_ptr null_ptr q ≡ false) ps ss IsFresh-all
+  abbrev IsFresh-row : IsFresh null_ptr ps
+  IsFresh-row = IsFresh-held e nodes o
 
   IsFresh-spares : IsFresh null_ptr ss
   IsFresh-spares = AllByRecursion-right (λ q. same_ptr null_ptr q ≡ false) ps ss IsFresh-all
@@ -48,8 +37,8 @@ module _ {B : Type 0} (e : Ends) (nodes : List (Cell Links B)) {spare : Link} {n
   IsRow-whole : {f : Ptr} → f ≡ e.first.ptr → IsRow nodes f n (target spare) ps ss
   IsRow-whole is = record {
     long = o.held_count;
-    linked = AreLinked-in_nodes e nodes ps IsFresh-row (AreLinked-tail cs null_ptr ps cut.0);
-    starts = subst (StartsAt ps) (next_at-null e nodes ∙ sym is) (StartsAt-next cs null_ptr ps cut.0);
+    linked = AreLinked-in_nodes e nodes ps IsFresh-row linked;
+    starts = subst (StartsAt ps) (next_at-null e nodes ∙ sym is) (StartsAt-next cs null_ptr ps (held_row e nodes o).0);
     there = AllByRecursion-there_in_nodes e nodes ps IsFresh-row (AllByRecursion-left (IsThere cs) ps ss o.ring.there.1);
     apart = IsApart-tail null_ptr (ps ++ ss) o.ring.apart;
     chained = IsSpareList-in_nodes e nodes (target spare) ss IsFresh-spares o.ring.chained;
@@ -63,14 +52,11 @@ module _ {B : Type 0} (e : Ends) (nodes : List (Cell Links B)) {spare : Link} {n
     abbrev ds : List (Cell Links B)
     ds = ring_cells e zs
 
-    spared : SameButLinks nodes zs × IsSpareList zs (target h) (onto ps ss)
+    pub spared : SameButLinks nodes zs × IsSpareList zs (target h) (onto ps ss)
     spared = s ps ss (IsRow-whole is)
 
     same : SameButLinks cs ds
     same = SameButLinks-in_ring e nodes zs spared.0
-
-    HasContent-still : (q : Ptr) → HasContent cs q → HasContent ds q
-    HasContent-still q k = some_still (content_at ds q) k.0 (same.triple q ∙ ap triple_of k.1)
 
     module _ {es : List (Cell Links B)} (j : IsJoined ds es null_ptr null_ptr) where
       AllByRecursion-there : AllByRecursion (IsThere es) (null_ptr ∷ onto ps ss)
@@ -96,7 +82,6 @@ module _ {B : Type 0} (e : Ends) (nodes : List (Cell Links B)) {spare : Link} {n
             (IsSpareList-unchanged j (target h) (onto ps ss) (IsSpareList-in_ring e zs (target h) (onto ps ss)
             (AllByRecursion-onto (λ q. same_ptr null_ptr q ≡ false) ps ss IsFresh-row
             IsFresh-spares) spared.1));
-        held = tt;
         there = AllByRecursion-map (IsThere es) (IsThere (cleared es)) (λ q k. ap has_links (links-cleared q) ∙ k)
             (null_ptr ∷ onto ps ss) AllByRecursion-there;
         apart = IsApart-onto null_ptr ps ss o.ring.apart;
@@ -104,37 +89,19 @@ module _ {B : Type 0} (e : Ends) (nodes : List (Cell Links B)) {spare : Link} {n
             let all : length (cleared es) ≡ suc (length ps + length ss) =
             length-rebodied (λ _ _. None) es ∙ j.count ∙ same.count ∙ o.ring.count in
             omega arith;
-        empty = AllByRecursion-always (λ q. content_at (cleared es) q ≡ None) (content_at-cleared es) (onto ps ss);
       }
 
-      pub IsOwned-spliced : IsOwned (cleared es) h 0 (m + n)
+      pub IsOwned-spliced : IsOwned (cleared es) [] h 0 (m + n)
       IsOwned-spliced = grind (arith, length-onto, IsRing-empty)
 
-      AreLinked-spliced : AreLinked es ps
-      AreLinked-spliced = AreLinked-unchanged j ps (AvoidsSource-fresh null_ptr ps IsFresh-row)
-          (AvoidsTarget-fresh null_ptr ps IsFresh-row) (AreLinked-same cs ds same.next same.prev ps
-          (AreLinked-tail cs null_ptr ps cut.0))
+    pub IsSpan-spliced : {d : Ends} (fs : List (Cell Links B)) → IsJoined ds (ring_cells d fs) null_ptr null_ptr → (hs : List (Held B))
+        → pointers_of hs ≡ ps → {b : Ptr} → b ≡ e.last.ptr → IsSpan fs hs f b n
+    IsSpan-spliced {d} fs j hs order = IsSpan-row e nodes o (AreLinked-in_nodes d fs ps IsFresh-row
+        (AreLinked-unchanged j ps (AvoidsSource-fresh null_ptr ps IsFresh-row) (AvoidsTarget-fresh null_ptr ps IsFresh-row)
+        (AreLinked-same cs ds same.next same.prev ps linked))) hs order is
 
-      pub IsSpan-spliced : IsSpan es (next_at cs null_ptr) (prev_at cs null_ptr) n
-      IsSpan-spliced = record {
-        pointers = ps;
-        count = o.held_count;
-        linked = AreLinked-spliced;
-        ends = HasEnds-behind cs null_ptr (prev_at cs null_ptr) ps cut.0 (last_pointer-last_from null_ptr ps ∙ sym cut.1);
-        held = AllByRecursion-map (HasContent cs) (HasContent es)
-            (λ q k. let d = HasContent-still q k in (d.0, j.content q ∙ d.1)) ps o.ring.held;
-        apart = IsApart-left ps ss (IsApart-tail null_ptr (ps ++ ss) o.ring.apart);
-      }
-
-      triples-same : (rs : List Ptr) → triples (listed ds rs) ≡ triples (listed cs rs)
-      unfolding listed
-      triples-same [] = refl
-      triples-same (r ∷ rs) = triples-one_of (content_at ds r) (listed ds rs)
-          ∙ (λ i. one_triple (same.triple r i) ++ triples-same rs i)
-          ∙ sym (triples-one_of (content_at cs r) (listed cs rs))
-
-      pub span_triples-spliced : span_triples es n (next_at cs null_ptr) ≡ triples (ring_list cs n)
-      unfolding IsSpan-spliced
-      span_triples-spliced =
-          ap (λ qs. triples (listed es qs)) (pointers_from-span IsSpan-spliced) ∙ ap triples (listed-unchanged j ps) ∙ triples-same ps
-          ∙ ap triples (sym (ring_list-listed o.ring o.held_count))
+-- what is held stays, if nodes are joined
+pub contents-joined : {K V : Type 0} (ns ds : Nodes Links K V) {e d : Ends} {a b : Ptr}
+    → IsJoined (ring_cells e ns.cells) (ring_cells d ds.cells) a b → contents ds.cells ≡ contents ns.cells
+contents-joined ns ds {e} {d} j = contents-now ds d ∙ ap (listed (ring_cells d ds.cells)) (holders-joined j)
+    ∙ listed-unchanged j (holders ns.cells) ∙ sym (contents-now ns e)

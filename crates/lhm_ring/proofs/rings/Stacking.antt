@@ -1,8 +1,8 @@
 -- Nodes are made on top of others.
 use Rattle.lhm_ring.proofs.Names.{List, None, Option, Some, ap, arith, length, refl, subst, suc, sym, zero, ℕ, ◌+◌, ◌^◌, ◌∙◌, ◌∷◌, ◌≡◌, ◌≤◌}
-use Rattle.lhm_ring.proofs.Names.{IsOwned, IsRing, IsStacked, listed, ring_cells, ring_list, AreBlocks, Cell, IsApart, cell, pointers}
+use Rattle.lhm_ring.proofs.Names.{IsOwned, IsRing, IsStacked, contents, listed, ring_cells, AreBlocks, Cell, IsApart, cell, pointers}
 use Rattle.lhm_ring.proofs.Names.{target, Link, Ends, Links, Ptr}
-use Rattle.lhm_ring.{proofs.lists.Apart.IsApart-tail, proofs.rings.RingNodes.ring_list-listed, proofs.memory.NodeAdded.IsRing-added}
+use Rattle.lhm_ring.{proofs.lists.Apart.IsApart-tail, proofs.memory.NodeAdded.IsRing-added}
 use Rattle.lhm_ring.{proofs.memory.NodeAdded.listed-added, specs.declared.pointer.NodePointer.NodePointer}
 
 module _ {B : Type 0} where
@@ -26,8 +26,8 @@ pub record RingStacked {B : Type 0} (e : Ends) (cs ds : List (Cell Links B)) (ps
   pub same_list : listed (ring_cells e ds) ps ≡ listed (ring_cells e cs) ps
 
 -- more of the spare nodes are counted
-pub IsOwned-raised : {B : Type 0} {cs : List (Cell Links B)} {spare : Link} {n m : ℕ} → IsOwned cs spare n m → (k : ℕ)
-    → suc (n + k) ≤ length cs → n + k ≤ 2 ^ 59 → IsOwned cs spare n k
+pub IsOwned-raised : {B : Type 0} {cs : List (Cell Links B)} {ps : List Ptr} {spare : Link} {n m : ℕ} → IsOwned cs ps spare n m → (k : ℕ)
+    → suc (n + k) ≤ length cs → n + k ≤ 2 ^ 59 → IsOwned cs ps spare n k
 IsOwned-raised ok k enough small = grind arith
 
 module _ {B : Type 0} (e : Ends) where
@@ -61,14 +61,18 @@ module _ {B : Type 0} (e : Ends) where
       }
 
   -- more nodes are stacked on the spare ones
-  module _ (cs ds : List (Cell Links B)) {spare : Link} (f : Link) {n m : ℕ} (k : ℕ)
-      (ok : IsOwned (ring_cells e cs) spare n m) (s : IsStacked cs spare k ds f)
+  module _ (cs ds : List (Cell Links B)) {ps : List Ptr} {spare : Link} (f : Link) {n m : ℕ} (k : ℕ)
+      (ok : IsOwned (ring_cells e cs) ps spare n m) (s : IsStacked cs spare k ds f)
       (d : IsApart (pointers ds)) (b : AreBlocks (pointers ds)) where
-    RingStacked-held : RingStacked e cs ds ok.held_pointers ok.spare_pointers (target f) k
+    RingStacked-held : RingStacked e cs ds ps ok.spare_pointers (target f) k
     RingStacked-held = RingStacked-ring k cs spare ds f s d b ok.ring
 
-    pub IsOwned-stacked : IsOwned (ring_cells e ds) f n m
+    pub IsOwned-stacked : IsOwned (ring_cells e ds) ps f n m
     IsOwned-stacked = grind (arith, RingStacked-held)
 
-    pub ring_list-stacked : ring_list (ring_cells e ds) n ≡ ring_list (ring_cells e cs) n
-    ring_list-stacked = grind (arith, RingStacked-held, ring_list-listed)
+-- they hold nothing
+pub contents-stacked : {B : Type 0} (n : ℕ) (cs : List (Cell Links B)) (s : Link) (ds : List (Cell Links B)) (f : Link)
+    → IsStacked cs s n ds f → contents ds ≡ contents cs
+unfolding IsStacked contents
+contents-stacked zero cs s ds f k = ap contents k.0
+contents-stacked (suc n) cs s ds f k = ap contents k.nodes_are ∙ contents-stacked n cs s k.below k.links.link k.stacked

@@ -4,6 +4,7 @@ use Rattle.lhm_ring.proofs.Names.{IsJoined, IsThere, LeadsBack, LeadsOn, content
 use Rattle.lhm_ring.proofs.Names.{leading_on, link_of, next_of, prev_of, Cell, IsAt, body_at, body_of, cell, cell_at, change, links_at}
 use Rattle.lhm_ring.proofs.Names.{links_of, same_ptr, with_links, Link, Links, Ptr}
 use Rattle.lhm_ring.proofs.lists.{Apart.same_ptr-equal, Options.Some-injective, Options.none_some}
+use Rattle.lhm_ring.proofs.{rings.Holders.holders-with_links}
 
 pub cond-ap : {X Y : Type 0} (f : X → Y) (y : Bool) (u v : X) → f (cond y u v) ≡ cond y (f u) (f v)
 cond-ap f y u v = grind arith
@@ -110,5 +111,6 @@ module _ {B : Type 0} where
         content = λ q. content_at-with_links b.ptr m fs ef (refl, refl) q ∙ content_at-with_links a.ptr l cs la.1 (refl, refl) q;
         there = λ q. reader-with_links_same b.ptr m fs ef has_links refl q ∙ reader-with_links_same a.ptr l cs la.1 has_links refl q;
         count = length-change b.ptr (λ c. cell c.at m c.body) fs ∙ length-change a.ptr (λ c. cell c.at l c.body) cs;
+        order = holders-with_links b.ptr m fs ∙ holders-with_links a.ptr l cs;
       } in
       subst (λ zs. IsJoined cs zs a.ptr b.ptr) (sym (e₂ ∙ ap (λ zs. with_links b.ptr m zs) e₁)) made

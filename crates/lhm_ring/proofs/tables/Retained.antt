@@ -5,8 +5,9 @@ use Rattle.lhm_ring.proofs.Names.{Held, IsHeld, State, change_at, first_at, reva
 use Rattle.lhm_ring.proofs.Names.{WritesOnly, table_of, CallableOnEachPair, SomeCallAtPair, Ptr}
 use Rattle.lhm_ring.proofs.{indexes.Entries.EntriesCut-split, rings.Ends.First, rings.Ends.First-first_at}
 use Rattle.lhm_ring.proofs.lists.Apart.{IsApart-tail, IsFresh-head, same_ptr-reflexive}
-use Rattle.lhm_ring.proofs.rings.HeldPointers.{IsApart-without_node, pointers_of, pointers_of-append, same_ptr-fresh}
+use Rattle.lhm_ring.proofs.rings.HeldPointers.{IsApart-without_node, pointers_of, pointers_of-append}
 use Rattle.lhm_ring.{proofs.tables.Positions.IsAt-split, proofs.tables.Positions.remove-append, specs.Positions.IsAt}
+use Rattle.lhm_ring.proofs.lists.Cuts.{same_ptr-fresh}
 
 -- how many are held from the one at a pointer on
 abbrev pub left_from : {B : Type 0} → Option Ptr → List (Held B) → ℕ
@@ -45,7 +46,7 @@ module _ {B : Type 0} where
   left_from-append [] (y ∷ ys) d = ap (λ b. cond b (length (y ∷ ys)) (left_from (Some y.at) ys)) (same_ptr-reflexive y.at)
   left_from-append (x ∷ xs) (y ∷ ys) d =
       ap (λ b. cond b (length (x ∷ (xs ++ y ∷ ys))) (left_from (Some y.at) (xs ++ y ∷ ys)))
-      (same_ptr-fresh x.at xs y ys (IsFresh-head x.at (pointers_of (xs ++ y ∷ ys)) d))
+      (same_ptr-fresh (λ t. t.at) x.at xs y ys (IsFresh-head x.at (pointers_of (xs ++ y ∷ ys)) d))
       ∙ left_from-append xs (y ∷ ys) (IsApart-tail x.at (pointers_of (xs ++ y ∷ ys)) d)
 
 -- a table that is seen as m: if the closure may be called at one of its pairs, it may at that of

@@ -7,7 +7,7 @@ use Rattle.linked_hash_map.proofs.Names.{lasts, framed, triple_of, Goes-spent_re
 use Rattle.linked_hash_map.proofs.Names.{layouts, a_type, named, no, tables, alloc_all, free_all, get, lands_as, look_at, pass_all, sets}
 use Rattle.linked_hash_map.proofs.Names.{through, !, await, by, frame, group, join, later, move, pick, qed, raw, rewrite, some, split, ◌⊑◌}
 use Rattle.linked_hash_map.proofs.Names.{suffices, use0, use1, use2, ◌$◌, ◌∵◌, ◌⊛◌, addr, and_then, enter, no_more, returns, stop, Stays}
-use Rattle.lhm_ring.{specs.TableAfterLoan.lends_values, proofs.iter.IterMut.TheLaws.the_row_laws as nodes_laws}
+use Rattle.lhm_ring.{specs.TableAfterLoan.lends_values, proofs.iter_mut.TriplesMut.TheLaws.the_row_laws as nodes_laws}
 use Rattle.lhm_ring.proofs.table.Table.iter_mut.{Met.met as iter_mut, Symbol.code as iter_mut-code}
 use contract.{Lifetimes.Lfts, Monad.fact_use, Running.Running}
 use denote.{Laws.Is, Laws.Typed, Laws.shows, Param.layout, Param.Laws.Laws, Param.Laws.param_laws}
@@ -19,7 +19,7 @@ use seplogic.Ra.Ura.{Ura}
 use types.{Logic.Logic, Logic.sem, Kit.drop}
 use mathlib.Core.Option as maybe
 use Rattle.lhm_ring.specs.Iter as table
-use Rattle.lhm_ring.specs.contracts.iter.IterMut as Nodes-type
+use Rattle.lhm_ring.specs.contracts.iter_mut.TriplesMut as Nodes-type
 use Rattle.lhm_ring.specs.contracts.table.Table as Table-type
 use Rattle.lhm_ring.specs.contracts.table.Table.iter_mut as g
 use Rattle.linked_hash_map.specs.contracts.iter.iter_mut.IterMut.of as h

@@ -44,13 +44,13 @@ impl<'a, K, V> IterMut<'a, K, V> {
         IterMut::of(table.iter_mut())
     }
 
-    fn of(lent: table::IterMut<'a, K, V>) -> IterMut<'a, K, V>
+    fn of(lent: table::TriplesMut<'a, K, V>) -> IterMut<'a, K, V>
         ensures rest { pairs_left result ≡ table.pairs_left lent.entry }
         ensures name { loan_name result ≡ table.loan_name lent.entry }
     {
         match lent {
-            table::IterMut::Empty(none) => IterMut::Empty(none),
-            table::IterMut::Lent(nodes) => IterMut::Lent(Lent { nodes }),
+            table::TriplesMut::Empty(none) => IterMut::Empty(none),
+            table::TriplesMut::Lent(nodes) => IterMut::Lent(Lent { nodes }),
         }
     }
 }

@@ -37,13 +37,13 @@ impl<'a, K, V> ValuesMut<'a, K, V> {
         ValuesMut::of(table.iter_mut())
     }
 
-    fn of(lent: table::IterMut<'a, K, V>) -> ValuesMut<'a, K, V>
+    fn of(lent: table::TriplesMut<'a, K, V>) -> ValuesMut<'a, K, V>
         ensures rest { values_left result ≡ values_of (table.pairs_left lent.entry) }
         ensures name { values_loan result ≡ table.loan_name lent.entry }
     {
         match lent {
-            table::IterMut::Empty(none) => ValuesMut::Empty(none),
-            table::IterMut::Lent(nodes) => ValuesMut::Lent(Lent { nodes }),
+            table::TriplesMut::Empty(none) => ValuesMut::Empty(none),
+            table::TriplesMut::Lent(nodes) => ValuesMut::Lent(Lent { nodes }),
         }
     }
 }

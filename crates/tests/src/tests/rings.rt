@@ -4,7 +4,7 @@ ghost use Rattle.lhm_ring.specs.Ring.{IsHeld, AtHeld, held, unvalued};
 ghost use Rattle.lhm_ring.specs.Pointer.{pointer_of};
 
 use super::support::checks::{check, check_eq, given};
-use lhm_ring::ring::{Drain, Iter, IterMut, Position, Ring};
+use lhm_ring::ring::{Drain, Iter, Position, Ring, TriplesMut};
 use std::alloc::{AllocError, Global};
 use std::iter::{DoubleEndedIterator, ExactSizeIterator, Iterator};
 use std::mem::forget;
@@ -99,16 +99,18 @@ fn show_from_both_ends(rt: &impl Abort, mut triples: Iter<'_, char, u64>) {
     check_eq!(rt; (triples.next(), triples.next_back()), (Some((2, &'b', &2)), None));
 }
 
-fn write_from_both_ends(rt: &impl Abort, mut triples: IterMut<'_, char, u64>) {
-    if let Some((hash, key, value)) = triples.next_back() {
-        check_eq!(rt; (hash, *key, *value), (3, 'c', 3));
-        *value = 30;
+fn write_from_both_ends(rt: &impl Abort, triples: TriplesMut<'_, char, u64>) {
+    if let TriplesMut::Lent(mut lent) = triples {
+        if let Some((hash, key, value)) = lent.step_back() {
+            check_eq!(rt; (hash, *key, *value), (3, 'c', 3));
+            *value = 30;
+        }
+        if let Some((hash, key, value)) = lent.step() {
+            check_eq!(rt; (hash, *key, *value), (1, 'a', 1));
+            *value = 10;
+        }
+        check_eq!(rt; lent.len(), 1);
     }
-    if let Some((hash, key, value)) = triples.next() {
-        check_eq!(rt; (hash, *key, *value), (1, 'a', 1));
-        *value = 10;
-    }
-    check_eq!(rt; triples.len(), 1);
 }
 
 fn drain_from_both_ends(rt: &impl Abort, mut rest: Drain<'_, char, u64>) {
@@ -116,6 +118,15 @@ fn drain_from_both_ends(rt: &impl Abort, mut rest: Drain<'_, char, u64>) {
     check_eq!(rt; rest.next(), Some((1, 'a', 10)));
     check_eq!(rt; rest.next_back(), Some((2, 'b', 2)));
     check_eq!(rt; rest.next_back(), None);
+}
+
+/// Writes the hash of each triple into its value.
+fn write_hashes(triples: TriplesMut<'_, char, u64>) {
+    if let TriplesMut::Lent(mut lent) = triples {
+        'each: while let Some((hash, _, value)) = lent.step() {
+            *value = hash;
+        }
+    }
 }
 
 /// Writes each value, and reads the hash at `at`, which is where it was: no value is known, and all
@@ -126,9 +137,7 @@ fn hash_after_writing(ring: &mut Ring<char, u64>, at: Position<char, u64>) -> u6
     ensures held { map unvalued ring.new.held ≡ map unvalued ring.old.held }
     ensures spares { ring.new.spares ≡ ring.old.spares }
 {
-    for (hash, _, value) in ring.iter_mut() {
-        *value = hash;
-    }
+    write_hashes(ring.iter_mut());
     ring.links(at).hash
 }
 

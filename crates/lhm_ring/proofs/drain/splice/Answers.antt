@@ -1,11 +1,10 @@
-use Rattle.lhm_ring.proofs.Names.{ap, subst, sym, ◌∙◌, IsSpan, span_triples, triples, Ptr}
-use Rattle.lhm_ring.proofs.rings.RingCells.{IsJoined-same, is_there-nowhere, led_to-none, next_at-null, prev_at-null}
-use Rattle.lhm_ring.proofs.rings.RingSpans.{IsSpan-in_nodes, listed-span}
-use Rattle.lhm_ring.proofs.rings.Splicing.{HasRow-ring, IsOwned-spliced, IsSpan-spliced, span_triples-spliced}
+use Rattle.lhm_ring.proofs.Names.{ap, ◌∙◌, contents, triples}
+use Rattle.lhm_ring.proofs.rings.{HeldPointers.pointers_of, RingCells.IsJoined-same, RingCells.is_there-nowhere, RingCells.led_to-none}
+use Rattle.lhm_ring.proofs.rings.Splicing.{HasRow-ring, IsOwned-spliced, IsSpan-spliced, contents-joined, spared}
 use Rattle.lhm_ring.proofs.drain.splice.Goals as goal
 
 pub spare_row-spare-requires : goal.spare_row-spare-requires
-spare_row-spare-requires g c = let a = c.args in HasRow-ring a.ends.now a.nodes.now.cells c.requires.1 c.address-first.ensures
+spare_row-spare-requires g c = let a = c.args in HasRow-ring a.ends.now a.nodes.now.cells c.requires.1.1 c.address-first.ensures
 
 pub join-requires : goal.join-requires
 join-requires g c =
@@ -15,25 +14,23 @@ join-requires g c =
     )
 
 pub returns-clause-spliced : goal.returns-clause-spliced
-returns-clause-spliced g c m ok =
+returns-clause-spliced g c ps m ok =
     let a = c.args in let j = IsJoined-same (led_to-none c.none.result.ptr c.none.ensures)
     (led_to-none c.none-2.result.ptr c.none-2.ensures) c.join.ensures.joined in
     IsOwned-spliced a.ends.now a.nodes.now.cells ok c.address-first.ensures
     c.spare_row-spare.new.nodes.cells c.spare_row-spare.result c.spare_row-spare.ensures.spared j
 
 pub returns-clause-row : goal.returns-clause-row
+unfolding contents
 returns-clause-row g c m ok =
-    let a = c.args in let e = a.ends.now in let cs = a.nodes.now.cells in let first = c.address-first in let last = c.address-last in
-    let j = IsJoined-same (led_to-none c.none.result.ptr c.none.ensures)
-    (led_to-none c.none-2.result.ptr c.none-2.ensures) c.join.ensures.joined in
-    let row = IsSpan-spliced e cs ok first.ensures c.spare_row-spare.new.nodes.cells
-    c.spare_row-spare.result c.spare_row-spare.ensures.spared j in
-    let now = span_triples-spliced e cs ok first.ensures c.spare_row-spare.new.nodes.cells
-    c.spare_row-spare.result c.spare_row-spare.ensures.spared j in
-    let ends = c.join.new.ends in let zs = c.join.new.nodes.cells in let f = next_at-null e cs
-    ∙ sym first.ensures in let b = prev_at-null e cs ∙ sym last.ensures in (
-      subst (λ (z : Ptr × Ptr). IsSpan zs z.0 z.1 a.count) (λ i. (f i, b i)) (IsSpan-in_nodes ends zs row),
-      ap (λ q. span_triples zs a.count q) (sym f) ∙ ap triples (listed-span ends zs row) ∙ now,
+    let e = c.args.ends.now in let cs = c.args.nodes.now.cells in let zs = c.spare_row-spare.new.nodes in let fs = c.join.new.nodes in
+    let s = c.spare_row-spare.ensures.spared in let h = c.spare_row-spare.result in
+    let j = IsJoined-same (led_to-none c.none.result.ptr c.none.ensures) (led_to-none c.none-2.result.ptr c.none-2.ensures)
+    c.join.ensures.joined in let all = contents-joined zs fs j in
+    let kept = (spared e cs ok c.address-first.ensures zs.cells h s).0 in (
+      IsSpan-spliced e cs ok c.address-first.ensures zs.cells h s fs.cells j (contents fs.cells) (ap pointers_of all ∙ kept.order)
+          c.address-last.ensures,
+      ap triples all ∙ kept.held,
     )
 
 pub returns-clause-land : goal.returns-clause-land

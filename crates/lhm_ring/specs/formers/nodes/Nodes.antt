@@ -6,11 +6,11 @@ use mathlib.Core.Path.{refl, sym, ap, subst, ◌∙◌}
 use mathlib.Core.Logic.{◌⊎◌, inl, inr}
 use mathlib.Core.HLevel.{×_prop}
 use mathlib.Core.Former.{Former, this, const, pair, or, list, via, such}
-use base.Stored.{Coded-set, coded_list}
+use Rattle.lhm_ring.specs.Rearranged.{IsRearranged, IsRearranged-prop}
 use base.Fraction.{full_share}
 use base.Fml.{fsep}
 use denote.RattleType.{RattleType}
-use denote.RawPtr.{Ptr, coded_ptr, lies_at, room_for}
+use denote.RawPtr.{Ptr, lies_at, room_for}
 use denote.Memory.{lone}
 use denote.Sharing.{beside}
 use denote.Struct.Field.{RawPtr-field}
@@ -58,11 +58,11 @@ Rest = (ℕ × (List Ptr × List Chunk)) × PhantomData (RawPtr-field).Value
 
 -- what is so of the pointers of the cells and of the rest
 abbrev AreLaid : List Ptr → Rest → Type 0
-AreLaid ps r = IsApart ps × (AreBlocks ps × (AreBlocks r.0.1.0 × (r.0.1.0 ++ ps ≡ places r.0.0 r.0.1.1)))
+AreLaid ps r = IsApart ps × (AreBlocks ps × (AreBlocks r.0.1.0 × IsRearranged (r.0.1.0 ++ ps) (places r.0.0 r.0.1.1)))
 
 pub AreLaid-prop : (ps : List Ptr) (r : Rest) → IsProp (AreLaid ps r)
 AreLaid-prop ps r = ×_prop (IsApart-prop ps)
-    (×_prop (AreBlocks-prop ps) (×_prop (AreBlocks-prop r.0.1.0) (Coded-set (coded_list coded_ptr) _ _)))
+    (×_prop (AreBlocks-prop ps) (×_prop (AreBlocks-prop r.0.1.0) (IsRearranged-prop (r.0.1.0 ++ ps) (places r.0.0 r.0.1.1))))
 
 module _ (g : Former {0}) (L K : Type 0) where
   abbrev shown : List (cell_former g L K).Shape → List Ptr

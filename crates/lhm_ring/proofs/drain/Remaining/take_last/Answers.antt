@@ -1,39 +1,37 @@
-use Rattle.lhm_ring.proofs.Names.{[], ap, subst, sym, ◌++◌, ◌-◌, ◌∙◌, ◌∷◌, with_bodies, IsSpan, span_triples}
-use Rattle.lhm_ring.proofs.memory.NodesWithBodies.{body_at-with_bodies, links_at-with_bodies, with_bodies-without_body}
-use Rattle.lhm_ring.proofs.rings.Spans.{Holds-last, IsAt-last, IsSpan-rest_of_last, span_triples-last, span_triples-none}
+use Rattle.lhm_ring.proofs.Names.{[], ap, nil_from_length, subst, sym, ◌++◌, ◌-◌, ◌∙◌, ◌∷◌, with_bodies, IsSpan, contents, triples}
+use Rattle.lhm_ring.proofs.memory.NodesWithBodies.{IsApart-with_bodies, body_at-with_bodies, links_at-with_bodies, with_bodies-without_body}
+use Rattle.lhm_ring.proofs.rings.Spans.{Holds-last, IsAt-last, HasSpan-whole, IsSpan-rest_of_last, triples-last_taken}
 use Rattle.lhm_ring.proofs.drain.Remaining.take_last.Goals as goal
 
 pub returns-then-self-eq0 : goal.returns-then-self-eq0
 returns-then-self-eq0 g c =
-    let i = c.self.inside in let ms = with_bodies i.nodes.now.cells i.contents.run in
-    let e = sym c.self.view_is ∙ ap (λ k. span_triples ms k i.first.ptr) c.if-self-eq0.true ∙ span_triples-none ms i.first.ptr in (e, e)
+    let e = sym c.self.view_is ∙ ap triples (nil_from_length _ (c.self.invariant.count ∙ c.if-self-eq0.true)) in (e, e)
 
 pub links-links-requires : goal.links-links-requires
 links-links-requires g c =
-    let i = c.self.inside in let h = IsAt-last c.self.invariant c.if-self-eq0.false in
-    (h.0, sym (links_at-with_bodies i.nodes.now.cells i.contents.run i.last.ptr) ∙ h.1)
+    let i = c.self.inside in let cs = i.nodes.now.cells in let run = i.contents.run in
+    let h = IsAt-last (IsApart-with_bodies cs run i.nodes.now.apart) (HasSpan-whole c.self.invariant) c.if-self-eq0.false in
+    (h.0, sym (links_at-with_bodies cs run i.last.ptr) ∙ h.1)
 
 pub take-key-requires : goal.take-key-requires
 take-key-requires g c =
-    let i = c.self.inside in let h = Holds-last c.self.invariant c.if-self-eq0.false in
-    (h.0, sym (body_at-with_bodies i.nodes.now.cells i.contents.run i.last.ptr _ c.links-links.ensures) ∙ h.1)
+    let i = c.self.inside in let cs = i.nodes.now.cells in let run = i.contents.run in
+    let h = Holds-last (IsApart-with_bodies cs run i.nodes.now.apart) (HasSpan-whole c.self.invariant) c.if-self-eq0.false in
+    (h.0, sym (body_at-with_bodies cs run i.last.ptr _ c.links-links.ensures) ∙ h.1)
 
 pub invariant_of-self : goal.invariant_of-self
 invariant_of-self g c =
-    let i = c.self.inside in let p = i.last.ptr in
-    let left = ap (with_bodies i.nodes.now.cells) c.take-key.ensures.run
-    ∙ with_bodies-without_body p i.contents.run i.nodes.now.cells i.nodes.now.apart in
-    let e = links_at-with_bodies i.nodes.now.cells i.contents.run p ∙ c.links-links.ensures in
-    subst (λ zs. IsSpan zs i.first.ptr c.address-self-inside.result.ptr (i.left - 1)) (sym left)
-    (IsSpan-rest_of_last c.self.invariant c.if-self-eq0.false e c.address-self-inside.ensures)
+    let i = c.self.inside in let cs = i.nodes.now.cells in let run = i.contents.run in
+    let left = ap (with_bodies cs) c.take-key.ensures.run ∙ with_bodies-without_body i.last.ptr run cs i.nodes.now.apart in
+    let e = links_at-with_bodies cs run i.last.ptr ∙ c.links-links.ensures in
+    subst (λ zs. IsSpan zs (contents zs) i.first.ptr c.address-self-inside.result.ptr (i.left - 1)) (sym left)
+    (IsSpan-rest_of_last (IsApart-with_bodies cs run i.nodes.now.apart) c.self.invariant c.if-self-eq0.false e c.address-self-inside.ensures)
 
 pub returns : goal.returns
 returns g c =
-    let i = c.self.inside in let p = i.last.ptr in
-    let left = ap (with_bodies i.nodes.now.cells) c.take-key.ensures.run
-    ∙ with_bodies-without_body p i.contents.run i.nodes.now.cells i.nodes.now.apart in
-    let e = links_at-with_bodies i.nodes.now.cells i.contents.run p ∙ c.links-links.ensures in
-    let b = body_at-with_bodies i.nodes.now.cells i.contents.run p _ c.links-links.ensures ∙ c.take-key.ensures.body in
-    sym c.self.view_is ∙ span_triples-last c.self.invariant c.if-self-eq0.false e
-    c.address-self-inside.ensures b ∙ ap (λ zs. span_triples zs (i.left - 1) i.first.ptr ++
-    (c.links-links.result.now.hash, c.take-key.result) ∷ []) (sym left)
+    let i = c.self.inside in let cs = i.nodes.now.cells in let run = i.contents.run in
+    let left = ap (with_bodies cs) c.take-key.ensures.run ∙ with_bodies-without_body i.last.ptr run cs i.nodes.now.apart in
+    let e = links_at-with_bodies cs run i.last.ptr ∙ c.links-links.ensures in
+    let b = body_at-with_bodies cs run i.last.ptr _ c.links-links.ensures ∙ c.take-key.ensures.body in
+    sym c.self.view_is ∙ triples-last_taken (IsApart-with_bodies cs run i.nodes.now.apart) c.self.invariant c.if-self-eq0.false e b
+    ∙ ap (λ zs. triples (contents zs) ++ (c.links-links.result.now.hash, c.take-key.result) ∷ []) (sym left)

@@ -1,27 +1,27 @@
-use Rattle.lhm_ring.proofs.Names.{ap, sym, ◌∙◌, listed, pointers_from}
+use Rattle.lhm_ring.proofs.Names.{ap, sym, ◌∙◌, span}
 use Rattle.lhm_ring.proofs.rings.IteratorSteps.{Some-both}
-use Rattle.lhm_ring.proofs.rings.Spans.{Holds-last, IsAt-last, IsSpan-ahead_of_last, listed-last, listed-none}
+use Rattle.lhm_ring.proofs.rings.Spans.{Holds-last, IsAt-last, HasSpan-ahead_of_last, span-last}
 use Rattle.lhm_ring.proofs.iter.Iter.step_back.Goals as goal
 
 pub returns-then-self-eq0 : goal.returns-then-self-eq0
 returns-then-self-eq0 g c =
-    let i = c.self.inside in let cs = i.nodes.now.cells in
-    let e = sym c.self.view_is ∙ ap (λ k. listed cs (pointers_from cs k i.first.ptr))
-    c.if-self-eq0.true ∙ listed-none cs i.first.ptr in (e, e)
+    let i = c.self.inside in
+    let e = sym c.self.view_is ∙ ap (λ k. span i.nodes.now.cells k i.first.ptr) c.if-self-eq0.true in (e, e)
 
 pub links-links-requires : goal.links-links-requires
-links-links-requires g c = IsAt-last c.self.invariant c.if-self-eq0.false
+links-links-requires g c = IsAt-last c.self.inside.nodes.now.apart c.self.invariant c.if-self-eq0.false
 
 pub key-requires : goal.key-requires
-key-requires g c = Holds-last c.self.invariant c.if-self-eq0.false
+key-requires g c = Holds-last c.self.inside.nodes.now.apart c.self.invariant c.if-self-eq0.false
 
 pub invariant_of-self : goal.invariant_of-self
-invariant_of-self g c = IsSpan-ahead_of_last c.self.invariant c.if-self-eq0.false c.links-links.ensures c.address-self-inside.ensures
+invariant_of-self g c = HasSpan-ahead_of_last c.self.inside.nodes.now.apart c.self.invariant c.if-self-eq0.false c.links-links.ensures
+    c.address-self-inside.ensures
 
 pub returns : goal.returns
 returns g c =
     let k = c.key.ensures in let v = c.value.ensures in (
       _,
-      sym c.self.view_is ∙ listed-last c.self.invariant c.if-self-eq0.false c.links-links.ensures
+      sym c.self.view_is ∙ span-last c.self.inside.nodes.now.apart c.self.invariant c.if-self-eq0.false c.links-links.ensures
           c.address-self-inside.ensures (Some-both _ c.key.result.now v.0 k.0 c.value.result.now k.1 v.1),
     )

@@ -1,14 +1,14 @@
 -- `add` writes the links into the last unused place, which lies apart from the nodes. Assumes
 -- `Logic`.
 use Rattle.lhm_ring.proofs.Names.{List, None, T, [], ap, arith, ltb→lt, refl, subst, sym, true, ℕ, ◌*◌, ◌++◌, ◌+◌, ◌<◌, ◌^◌, ◌∙◌, ◌∷◌, ◌≡◌}
-use Rattle.lhm_ring.proofs.Names.{cell, fields_own, is_block, links_address, node_bytes, places, pointers, row, as_written, word, word-Good}
+use Rattle.lhm_ring.proofs.Names.{cell, fields_own, is_block, links_address, node_bytes, pointers, row, as_written, word, word-Good}
 use Rattle.lhm_ring.proofs.Names.{after, leaves, proved_at, flft, ftrue, full_share, SProp, fact, tables, usize, no, yes, layout, owns, Ptr}
 use Rattle.lhm_ring.proofs.Names.{block_ptr, lies_at, ptr_val, room_for, ◌+ₚ◌, plain, types_at, closes, heard, opens, Goes-dropped}
 use Rattle.lhm_ring.proofs.Names.{Goes-ref, Stays, stay_dropped, stay_ref, walk_of, inst_fn, w64, Val, vint, vptr, size, size-raw}
 use Rattle.lhm_ring.proofs.Names.{alloc_all, env, free_all, get, get_in, is, look_at, pass_all, sets, sets_last, through, !, at_ret, by}
 use Rattle.lhm_ring.proofs.Names.{drop, feq_i, feq_l, fjoin, fsplit, fsplit3, join, keep, move, qed, raw, rewrite, split, use0, use1, use2}
 use Rattle.lhm_ring.proofs.Names.{‵, ◌$◌, ◌∵◌, ◌⊛◌, agg, sub, whole, addr, and_then, assigns_last, bin, blocks, exec, first, fld, init}
-use Rattle.lhm_ring.proofs.Names.{no_more, of_opd, returns, size_lit, stop}
+use Rattle.lhm_ring.proofs.Names.{no_more, of_opd, returns, size_lit, stop, count_by}
 use Rattle.lhm_ring.proofs.{lists.Apart.IsApart-added, lists.Apart.IsFresh, memory.Places.row-next, nodes.Nodes.add.Statement.statement}
 use Rattle.lhm_ring.proofs.memory.BlockValues.{fresh, pointer_made}
 use Rattle.lhm_ring.proofs.memory.ChunkPlaces.{Places, land_cut, land_glue, places_cut}
@@ -112,8 +112,8 @@ add_spec 𝓤 𝓛 𝓜 𝓡 wired L K V LL LK LV =
       unused = left;
       chunks = h.chunks;
       unused_blocks = AreBlocks-row_other p s n h.unused given h.unused_blocks;
-      laid = subst (λ (r : Ptr). left ++ r ∷ pointers h.cells ≡ places s h.chunks) here
-          (row-next p s n h.unused given (pointers h.cells) (places s h.chunks) h.laid);
+      laid = λ t. ap (λ (r : Ptr). count_by t (left ++ r ∷ pointers h.cells)) (sym here)
+          ∙ ap (count_by t) (row-next p s n h.unused given (pointers h.cells)) ∙ h.laid t;
     } in
     move ! (1 ∷ 2 ∷ []) $ fjoin ! $ feq_i ! ℕ s (node_bytes R S W) sized $ fjoin ! $ use2 𝓛
     (‵ (Cells E (Land E h') h'.cells)) (land_glue 𝓛 E (Land E h') h'.cells) $

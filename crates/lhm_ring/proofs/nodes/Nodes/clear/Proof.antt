@@ -1,12 +1,13 @@
 -- `clear` makes all nodes places: what they hold is forgotten. Assumes `Logic`.
-use Rattle.lhm_ring.proofs.Names.{List, [], append-nil, refl, subst, true, ℕ, ◌++◌, ◌∷◌, ◌≡◌, AreBlocks, is_block, node_bytes, places}
+use Rattle.lhm_ring.proofs.Names.{List, [], ap, append-nil, count_by, refl, true, ℕ, ◌++◌, ◌∷◌, ◌≡◌, is_block, node_bytes, places}
 use Rattle.lhm_ring.proofs.Names.{pointers, leaves, proved_at, flft, ftrue, SProp, emp, fact, tables, owns, Ptr, plain, types_at, closes}
 use Rattle.lhm_ring.proofs.Names.{opens, Goes-ref, Stays, stay_ref, walk_of, inst_fn, Val, vptr, vunit, alloc_all, free_all, look_at}
-use Rattle.lhm_ring.proofs.Names.{pass_all, sets, !, by, feq_i, feq_l, fjoin, fsplit, fsplit3, join, keep, move, qed, raw, rewrite, split}
+use Rattle.lhm_ring.proofs.Names.{pass_all, sets, !, by, feq_i, feq_l, fjoin, fsplit, fsplit3, join, keep, move, qed, raw, split}
 use Rattle.lhm_ring.proofs.Names.{use1, use2, ‵, ◌$◌, ◌∵◌, ◌⊛◌, of_opd, returns, unit_lit}
 use Rattle.lhm_ring.proofs.{lists.Apart.IsApart-none, lists.ForAll.AllByRecursion-append, nodes.Nodes.clear.Statement.statement}
 use Rattle.lhm_ring.proofs.memory.ChunkPlaces.{Places, cells_emptied, land_cut, places_glue}
 use Rattle.lhm_ring.proofs.memory.NodeFields.{Cells, Land, Nr, RK, RL, RV, Three, args, three_rows}
+use Rattle.lhm_ring.proofs.memory.PlacesRearranged.{AreBlocks-IsRearranged, places_rearranged}
 use Rattle.lhm_ring.proofs.memory.Steps.{runs_with, self_left, states, states_also, tokens}
 use Rattle.lhm_ring.specs.contracts.nodes.Nodes.clear.{clauses, ended, Key.name as #self}
 use Rattle.lhm_ring.proofs.nodes.Nodes.clear.Code as code
@@ -34,11 +35,10 @@ clear_spec 𝓤 𝓛 𝓜 𝓡 wired L K V LL LK LV =
     -- [the nodes; the unused places; the chunks; the marker; its cell; the open borrow, in three;
     -- the other tokens]
     use1 𝓛 (‵ (Places 𝓛 E (pointers h.cells))) (cells_emptied 𝓛 E h.cells) $ move ! (1 ∷ 0 ∷ []) $
-    use2 𝓛 (‵ (Places 𝓛 E (h.unused ++ pointers h.cells)))
-    (places_glue 𝓛 E h.unused (pointers h.cells)) $ rewrite ! 0
-    (λ (ps : List Ptr). ‵ (Places 𝓛 E ps)) h.laid refl $ fjoin ! $ feq_i ! ℕ s (node_bytes R S W)
-    sized $ fjoin ! $
+    use2 𝓛 (‵ (Places 𝓛 E (h.unused ++ pointers h.cells))) (places_glue 𝓛 E h.unused (pointers h.cells)) $
     let all : List Ptr = places s h.chunks in
+    use1 𝓛 (‵ (Places 𝓛 E all)) (places_rearranged 𝓛 E (h.unused ++ pointers h.cells) all h.laid) $
+    fjoin ! $ feq_i ! ℕ s (node_bytes R S W) sized $ fjoin ! $
     let h' : N.Denot = record {
       marker = h.marker;
       cells = [];
@@ -47,9 +47,9 @@ clear_spec 𝓤 𝓛 𝓜 𝓡 wired L K V LL LK LV =
       node_bytes = s;
       unused = all;
       chunks = h.chunks;
-      unused_blocks = subst AreBlocks h.laid (AllByRecursion-append (λ q. is_block q ≡ true)
-          h.unused (pointers h.cells) h.unused_blocks h.blocks);
-      laid = append-nil all;
+      unused_blocks = AreBlocks-IsRearranged (h.unused ++ pointers h.cells) all h.laid
+          (AllByRecursion-append (λ q. is_block q ≡ true) h.unused (pointers h.cells) h.unused_blocks h.blocks);
+      laid = λ t. ap (count_by t) (append-nil all);
     } in
     move ! (1 ∷ 0 ∷ []) $ fjoin ! $ move ! (1 ∷ 0 ∷ []) $ closes ! tt N h' vs rb ro $ sets ! (of_opd ! (unit_lit !)) refl (tt, tt) $
     self_left ! 0 are.0.0 $ move ! (1 ∷ 2 ∷ []) $ join ! $

@@ -1,5 +1,5 @@
 -- `pop_chunk` reads the head of a chunk, and makes head and places a block. Assumes `Logic`.
-use Rattle.lhm_ring.proofs.Names.{List, [], ap, append-nil, refl, subst, sym, true, ℕ, ◌*◌, ◌++◌, ◌+◌, ◌<◌, ◌^◌, ◌∙◌, ◌∷◌, ◌≡◌, AreBlocks}
+use Rattle.lhm_ring.proofs.Names.{List, [], ap, append-nil, refl, subst, sym, true, ℕ, ◌*◌, ◌++◌, ◌+◌, ◌<◌, ◌^◌, ◌∙◌, ◌∷◌, ◌≡◌, count_by}
 use Rattle.lhm_ring.proofs.Names.{Chunk, IsChunk, IsUnit, chunk, chunk_token, chunk_type, chunk_units, head_owns, head_type, head_val}
 use Rattle.lhm_ring.proofs.Names.{is_block, node_bytes, places, pointers, row, as_raw, word, word-Good, word_ty, after, leaves, proved_at}
 use Rattle.lhm_ring.proofs.Names.{type_size, flft, froom, fwand, SProp, apply∗, id⊢, fact, tables, usize, yes, layout, layouts, param}
@@ -9,12 +9,13 @@ use Rattle.lhm_ring.proofs.Names.{a_type, tcons, tnil, ty_array, ty_int, ty_ptr,
 use Rattle.lhm_ring.proofs.Names.{size, size-raw, alloc_all, env, free_all, get, get_in, !, is, look_at, pass_all, sets, sets_last, through}
 use Rattle.lhm_ring.proofs.Names.{at_ret, by, feq_i, feq_l, fjoin, fjoin3, flt_i, fpick, fsplit, fsplit3, join, keep, move, qed, raw}
 use Rattle.lhm_ring.proofs.Names.{rewrite, split, use0, use1, use2, ‵, ◌$◌, ◌∵◌, ◌⊛◌, sem, agg, look_in, sub, whole, and_then, blocks, exec}
-use Rattle.lhm_ring.proofs.Names.{first, fld, load, no_more, of_opd, returns, stop}
+use Rattle.lhm_ring.proofs.Names.{first, fld, load, no_more, of_opd, returns, stop, IsRearranged}
 use Rattle.lhm_ring.proofs.{lists.Apart.IsApart-none, lists.ForAll.AllByRecursion-right, nodes.Nodes.pop_chunk.Statement.statement}
 use Rattle.lhm_ring.proofs.memory.BlockValues.{BlockFields, BlockType, block_Good, block_made, block_val, pointer_made}
 use Rattle.lhm_ring.proofs.memory.ChunkPlaces.{Chunks, Places, array_glue, places_cut}
 use Rattle.lhm_ring.proofs.memory.{Lodging.three_made, PlaceCut.block, Places.places-head}
 use Rattle.lhm_ring.proofs.memory.NodeFields.{Cells, Land, Node, Nr, Pl, RK, RL, RV, Three, three_rows, word-pointer}
+use Rattle.lhm_ring.proofs.memory.PlacesRearranged.{AreBlocks-IsRearranged, places_rearranged}
 use Rattle.lhm_ring.proofs.memory.Steps.{runs_with, self_left, states, states_also, tokens}
 use Rattle.lhm_ring.specs.{Nodes.parts_own, contracts.nodes.ChunkUnit.the_row as unit}
 use Rattle.lhm_ring.specs.contracts.nodes.Nodes.pop_chunk.{clauses, ended, Key.name as #self}
@@ -48,15 +49,15 @@ pop_chunk_spec 𝓤 𝓛 𝓜 𝓡 wired L K V U LL LK LV LU =
     let q : Ptr = asked.1.0 in let n : ℕ = asked.1.1 in let cs : List Chunk = asked.1.2 in
     let last : h.chunks ≡ chunk p q n ∷ cs = asked.1.3 in let m : ℕ = chunk_units R S W n in
     let new : List Ptr = row (p +ₚ 16) s n in let rest : List Ptr = places s cs in
-    let cut : h.unused ≡ new ++ rest = sym (append-nil h.unused)
-    ∙ ap (λ (ds : List (Node E)). h.unused ++ pointers ds) (sym asked.0) ∙ h.laid
-    ∙ ap (places s) last ∙ places-head s (chunk p q n) cs in
+    let cut : IsRearranged h.unused (new ++ rest) = λ t. ap (count_by t) (sym (append-nil h.unused)
+    ∙ ap (λ (ds : List (Node E)). h.unused ++ pointers ds) (sym asked.0)) ∙ h.laid t
+    ∙ ap (count_by t) (ap (places s) last ∙ places-head s (chunk p q n) cs) in
     opens ! tt N {h = h} rb ro (λ vs. move ! (1 ∷ []) $ fsplit ! $ move ! (1 ∷ []) $ rewrite ! 0
     (λ (ds : List (Node E)). ‵ (Cells E (Land E h) ds)) asked.0 refl $ fsplit ! $ feq_l !
     (λ sized. fsplit ! $
     -- [the unused places; the chunks; the marker; its cell; the open borrow, in three; the other
     -- tokens]
-    rewrite ! 0 (λ (ps : List Ptr). ‵ (Places 𝓛 E ps)) cut refl $ use1 𝓛
+    use1 𝓛 (‵ (Places 𝓛 E (new ++ rest))) (places_rearranged 𝓛 E h.unused (new ++ rest) cut) $ use1 𝓛
     (‵ (Places 𝓛 E new) ⊛ ‵ (Places 𝓛 E rest)) (places_cut 𝓛 E new rest) $ split ! $ move !
     (2 ∷ []) $ rewrite ! 0 (λ (ds : List Chunk). ‵ (Chunks 𝓛 E ds)) last refl $ fsplit ! $ fpick ! (λ told. fsplit3 ! $
     in_a_block ! p (λ r. head_owns r q n) (id⊢ 𝓤 _) (λ b o e. let start : Ptr = block_ptr b o in
@@ -107,8 +108,9 @@ pop_chunk_spec 𝓤 𝓛 𝓜 𝓡 wired L K V U LL LK LV LU =
       node_bytes = s;
       unused = rest;
       chunks = cs;
-      unused_blocks = AllByRecursion-right (λ r. is_block r ≡ true) new rest (subst AreBlocks cut h.unused_blocks);
-      laid = append-nil rest;
+      unused_blocks = AllByRecursion-right (λ r. is_block r ≡ true) new rest
+          (AreBlocks-IsRearranged h.unused (new ++ rest) cut h.unused_blocks);
+      laid = λ t. ap (count_by t) (append-nil rest);
     } in
     move ! (2 ∷ 0 ∷ []) $ fjoin ! $ move ! (2 ∷ 0 ∷ 3 ∷ 4 ∷ 5 ∷ []) $ closes ! tt N h' vs rb ro $
     -- [self; its token; the block; the other tokens]

@@ -1,7 +1,8 @@
-use Rattle.lhm_ring.proofs.Names.{None, Some, ap, subst, ◌∙◌, links_at, with_body, pair, state, CalledAtPair}
+use Rattle.lhm_ring.proofs.Names.{None, Some, ap, refl, subst, ◌∙◌, links_at, with_body, pair, revalued, state, CalledAtPair}
 use Rattle.lhm_ring.proofs.memory.{OneNodeChanged.links_at-with_body, Places.IsLaid-same}
 use Rattle.lhm_ring.proofs.{rings.ContentChange.ChangesOnly-held, tables.Retained.with_body-twice}
-use Rattle.lhm_ring.proofs.rings.Insides.{Holds-inside, IsAt-inside, IsOwned-set_value, pair-inside, ring_list-set_value}
+use Rattle.lhm_ring.proofs.rings.Insides.{Holds-inside, IsAt-inside, IsOwned-written, contents-set, pair-inside, seen}
+use Rattle.lhm_ring.proofs.rings.Insides.{seen}
 use Rattle.lhm_ring.proofs.ring.Ring.call_at.Goals as goal
 
 pub take-key-requires : goal.take-key-requires
@@ -24,7 +25,8 @@ invariant_of-self g c =
     let p = c.args.at.pointer.ptr in let new = c.call-kept.new.value in let x = pair c.take-key.result.0 new in
     let z = c.fill.ensures.cells ∙ ap (with_body p (Some x)) c.take-key.ensures.cells ∙ with_body-twice p x c.self.inside.nodes.cells in
     record {
-      ring = IsOwned-set_value c.self.inside c.self.invariant c.self.view_is c.args.at.block c.requires.held c.take-key.ensures.body new z;
+      ring = IsOwned-written c.self.inside c.self.invariant c.self.view_is c.args.at.block c.requires.held c.take-key.ensures.body x
+          (revalued new) (λ _ _ _. refl) z;
       laid = IsLaid-same c.self.invariant.laid (c.fill.ensures.land.0 ∙ c.take-key.ensures.land.0)
           (c.fill.ensures.land.1 ∙ c.take-key.ensures.land.1);
     }
@@ -33,8 +35,8 @@ pub returns-clause-called : goal.returns-clause-called
 returns-clause-called g c =
     let p = c.args.at.pointer.ptr in let new = c.call-kept.new.value in let x = pair c.take-key.result.0 new in let v = c.self.view_is in
     let z = c.fill.ensures.cells ∙ ap (with_body p (Some x)) c.take-key.ensures.cells ∙ with_body-twice p x c.self.inside.nodes.cells in
-    let list = ring_list-set_value c.self.inside c.self.invariant c.self.view_is c.args.at.block
-    c.requires.held c.take-key.ensures.body new z in
+    let list = contents-set c.self.inside c.self.invariant c.self.view_is c.args.at.block
+    c.requires.held c.take-key.ensures.body x (revalued new) (λ _ _ _. refl) z in
     let own = pair-inside c.self.inside c.self.invariant v p c.args.at.block c.take-key.ensures.body in
     record {
       value = new;
@@ -45,4 +47,4 @@ returns-clause-called g c =
     }
 
 pub returns-clause-alone : goal.returns-clause-alone
-returns-clause-alone g c = ChangesOnly-held c.self.invariant.ring c.self.view_is c.args.at.pointer.ptr
+returns-clause-alone g c = ChangesOnly-held c.self.invariant.ring (seen c.self.inside c.self.invariant c.self.view_is) c.args.at.pointer.ptr

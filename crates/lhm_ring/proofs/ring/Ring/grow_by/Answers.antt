@@ -1,5 +1,5 @@
-use Rattle.lhm_ring.proofs.Names.{ap, arith, length, max, refl, subst, sym, ◌+◌, ◌<◌, ◌∙◌, ◌≡◌, IsOwned, ring_cells, ring_list, Chunk}
-use Rattle.lhm_ring.proofs.rings.Stacking.{IsOwned-raised, IsOwned-stacked, ring_list-stacked}
+use Rattle.lhm_ring.proofs.Names.{ap, arith, length, max, refl, subst, sym, ◌+◌, ◌<◌, ◌∙◌, ◌≡◌, IsOwned, contents, holders, ring_cells, Chunk}
+use Rattle.lhm_ring.proofs.rings.{HeldPointers.pointers_of, Stacking.IsOwned-raised, Stacking.IsOwned-stacked, Stacking.contents-stacked}
 use Rattle.lhm_ring.proofs.{Names.chunk, memory.Places.IsLaid-grown, memory.Places.length-made, rings.Insides.counts-seen}
 use Rattle.lhm_ring.proofs.{rings.NodesGrown.nodes_grown-fewer}
 use Rattle.lhm_ring.proofs.ring.Ring.grow_by.Goals as goal
@@ -24,10 +24,13 @@ pub invariant_of-self-2 : goal.invariant_of-self-2
 invariant_of-self-2 g c =
     let i = c.self.inside in let ds = c.make_spares-self-inside.new.nodes in let first = c.make_spares-self-inside.result in
     let one : Chunk = chunk c.in_ok-chunk.chunk.ptr i.chunks.ptr c.max-places.result in
-    let ok = subst (λ zs. IsOwned (ring_cells i.ends zs) i.spare i.len i.spares)
+    let ok = subst (λ zs. IsOwned (ring_cells i.ends zs) (holders i.nodes.cells) i.spare i.len i.spares)
     (sym c.new_chunk.ensures.cells) c.self.invariant.ring in
-    let ring = IsOwned-stacked i.ends c.new_chunk.new.nodes.cells ds.cells first _ ok
+    let stacked = IsOwned-stacked i.ends c.new_chunk.new.nodes.cells ds.cells first _ ok
     c.make_spares-self-inside.ensures.stacked ds.apart ds.blocks in
+    let same = contents-stacked _ c.new_chunk.new.nodes.cells i.spare c.make_spares-self-inside.new.nodes.cells _
+    c.make_spares-self-inside.ensures.stacked ∙ ap contents c.new_chunk.ensures.cells in
+    let ring = subst (λ qs. IsOwned (ring_cells i.ends ds.cells) qs first i.len i.spares) (sym (ap pointers_of same)) stacked in
     let more = c.make_spares-self-inside.ensures.chunks ∙ c.in_ok-chunk.ensures.chunks in
     let laid = IsLaid-grown one c.self.invariant.laid c.make_spares-self-inside.ensures.unused more refl c.in_ok-chunk.ensures.block in
     let made = length-made ds.cells ds.unused ds.node_bytes ds.chunks ds.laid laid.none_unused ∙ sym laid.all_made in
@@ -39,11 +42,9 @@ invariant_of-self-2 g c =
 
 pub returns-clause-held : goal.returns-clause-held
 returns-clause-held g c =
-    let i = c.self.inside in let cs = c.new_chunk.new.nodes.cells in let ds = c.make_spares-self-inside.new.nodes in
-    let ok = subst (λ zs. IsOwned (ring_cells i.ends zs) i.spare i.len i.spares)
-    (sym c.new_chunk.ensures.cells) c.self.invariant.ring in
-    ring_list-stacked i.ends cs ds.cells c.make_spares-self-inside.result _ ok c.make_spares-self-inside.ensures.stacked ds.apart ds.blocks
-    ∙ ap (λ zs. ring_list (ring_cells i.ends zs) i.len) c.new_chunk.ensures.cells ∙ ap (λ z. z.held) c.self.view_is
+    let i = c.self.inside in
+    contents-stacked _ c.new_chunk.new.nodes.cells i.spare c.make_spares-self-inside.new.nodes.cells _
+    c.make_spares-self-inside.ensures.stacked ∙ ap contents c.new_chunk.ensures.cells ∙ ap (λ z. z.held) c.self.view_is
 
 pub returns-clause-nodes : goal.returns-clause-nodes
 returns-clause-nodes g c =

@@ -1,5 +1,5 @@
-use Rattle.lhm_ring.proofs.{Names.refl, Names.◌∙◌, memory.Places.IsLaid-none, memory.Places.led_to-nowhere, rings.RingCells.IsOwned-bare}
-use Rattle.lhm_ring.proofs.{rings.RingNodes.ring_list-none}
+use Rattle.lhm_ring.proofs.{Names.ap, Names.contents, Names.◌∙◌, memory.Places.IsLaid-none, memory.Places.led_to-nowhere}
+use Rattle.lhm_ring.proofs.{rings.RingCells.IsOwned-bare}
 use Rattle.lhm_ring.proofs.ring.Ring.new.Goals as goal
 
 pub invariant_of-result : goal.invariant_of-result
@@ -9,4 +9,5 @@ invariant_of-result g c = record {
 }
 
 pub returns-clause-empty : goal.returns-clause-empty
-returns-clause-empty g c = ring_list-none _ 0 refl
+unfolding contents
+returns-clause-empty g c = ap contents c.new.ensures.cells

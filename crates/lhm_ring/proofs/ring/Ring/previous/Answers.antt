@@ -1,5 +1,6 @@
 use Rattle.lhm_ring.proofs.Names.{◌∙◌}
 use Rattle.lhm_ring.proofs.rings.{HeldPointers.IsApart-held, Insides.IsAt-inside, Neighbours.AtHeld-previous, RingCells.links_at-ring_cells}
+use Rattle.lhm_ring.proofs.rings.Insides.{seen}
 use Rattle.lhm_ring.proofs.ring.Ring.previous.Goals as goal
 
 pub links-requires : goal.links-requires
@@ -8,8 +9,8 @@ links-requires g c = IsAt-inside c.self.inside c.self.invariant c.self.view_is c
 pub returns-clause-previous : goal.returns-clause-previous
 returns-clause-previous g c xs t ys h at =
     let i = c.self.inside in let p = c.args.at.pointer.ptr in
-    c.get.ensures ∙ AtHeld-previous c.self.invariant.ring c.self.view_is p
+    c.get.ensures ∙ AtHeld-previous c.self.invariant.ring (seen c.self.inside c.self.invariant c.self.view_is) p
     (links_at-ring_cells i.ends i.nodes.cells p c.args.at.block ∙ c.links.ensures) xs t ys h at
 
 pub returns-clause-apart : goal.returns-clause-apart
-returns-clause-apart g c = let i = c.self.inside in IsApart-held c.self.invariant.ring c.self.view_is
+returns-clause-apart g c = let i = c.self.inside in IsApart-held c.self.invariant.ring (seen c.self.inside c.self.invariant c.self.view_is)

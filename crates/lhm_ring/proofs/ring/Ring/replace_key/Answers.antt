@@ -1,7 +1,8 @@
-use Rattle.lhm_ring.proofs.Names.{None, Some, ap, ◌∙◌, ◌≡◌, links_at, with_body, pair, rekeyed}
+use Rattle.lhm_ring.proofs.Names.{None, Some, ap, refl, ◌∙◌, ◌≡◌, links_at, with_body, pair, rekeyed}
 use Rattle.lhm_ring.proofs.memory.{OneNodeChanged.links_at-with_body, Places.IsLaid-same}
 use Rattle.lhm_ring.proofs.{rings.ContentChange.ChangesOnly-held, tables.Retained.with_body-twice}
-use Rattle.lhm_ring.proofs.rings.Insides.{Holds-inside, IsAt-inside, IsOwned-set_key, pair-inside, ring_list-set_key}
+use Rattle.lhm_ring.proofs.rings.Insides.{Holds-inside, IsAt-inside, IsOwned-written, contents-set, pair-inside, seen}
+use Rattle.lhm_ring.proofs.rings.Insides.{seen}
 use Rattle.lhm_ring.proofs.ring.Ring.replace_key.Goals as goal
 
 pub take-old-requires : goal.take-old-requires
@@ -21,17 +22,17 @@ written g c =
 
 pub invariant_of-self : goal.invariant_of-self
 invariant_of-self g c = record {
-  ring = IsOwned-set_key c.self.inside c.self.invariant c.self.view_is c.args.at.block c.requires
-      c.take-old.ensures.body c.args.key (written g c);
+  ring = IsOwned-written c.self.inside c.self.invariant c.self.view_is c.args.at.block c.requires
+      c.take-old.ensures.body _ (rekeyed c.args.key) (λ _ _ _. refl) (written g c);
   laid = IsLaid-same c.self.invariant.laid (c.fill.ensures.land.0 ∙ c.take-old.ensures.land.0)
       (c.fill.ensures.land.1 ∙ c.take-old.ensures.land.1);
 }
 
 pub returns-clause-held : goal.returns-clause-held
 returns-clause-held g c = λ xs t ys e at.
-    ring_list-set_key c.self.inside c.self.invariant c.self.view_is c.args.at.block c.requires
-    c.take-old.ensures.body c.args.key (written g c)
-    ∙ ChangesOnly-held c.self.invariant.ring c.self.view_is c.args.at.pointer.ptr xs t ys e at (rekeyed c.args.key)
+    contents-set c.self.inside c.self.invariant c.self.view_is c.args.at.block c.requires
+    c.take-old.ensures.body _ (rekeyed c.args.key) (λ _ _ _. refl) (written g c)
+    ∙ ChangesOnly-held c.self.invariant.ring (seen c.self.inside c.self.invariant c.self.view_is) c.args.at.pointer.ptr xs t ys e at (rekeyed c.args.key)
 
 pub returns-clause-old : goal.returns-clause-old
 returns-clause-old g c = λ xs t ys e at.

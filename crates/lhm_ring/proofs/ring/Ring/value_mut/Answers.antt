@@ -1,6 +1,6 @@
-use Rattle.lhm_ring.proofs.Names.{ap, refl, with_body, state, value_set}
+use Rattle.lhm_ring.proofs.Names.{ap, refl, with_body, revalued, state, value_set}
 use Rattle.lhm_ring.proofs.rings.ContentChange.{ChangesOnly-held}
-use Rattle.lhm_ring.proofs.rings.Insides.{Holds-inside, IsOwned-set_value, pair-inside, ring_list-set_value}
+use Rattle.lhm_ring.proofs.rings.Insides.{Holds-inside, IsOwned-written, contents-set, pair-inside, seen}
 use Rattle.lhm_ring.proofs.ring.Ring.value_mut.Goals as goal
 
 pub value_mut-requires : goal.value_mut-requires
@@ -10,7 +10,7 @@ pub invariant_of-self-lent : goal.invariant_of-self-lent
 invariant_of-self-lent g c w =
     let i = c.self.inside in let e = c.value_mut.ensures.value.1 in
     record {
-      ring = IsOwned-set_value i c.self.invariant c.self.view_is c.args.at.block c.requires e w
+      ring = IsOwned-written i c.self.invariant c.self.view_is c.args.at.block c.requires e _ (revalued w) (λ _ _ _. refl)
           (ap (λ o. with_body c.args.at.pointer.ptr (value_set w o) i.nodes.cells) e);
       laid = c.self.invariant.laid;
     }
@@ -22,13 +22,13 @@ returns g c =
       (
         refl,
         λ w.
-            let list = ring_list-set_value i c.self.invariant v c.args.at.block c.requires e w
+            let list = contents-set i c.self.invariant v c.args.at.block c.requires e _ (revalued w) (λ _ _ _. refl)
             (ap (λ o. with_body c.args.at.pointer.ptr (value_set w o) i.nodes.cells) e) in
             λ x. state (list x) (v x).spares (v x).nodes,
       ),
       record {
         writes_back = tt;
-        alone = ChangesOnly-held c.self.invariant.ring v c.args.at.pointer.ptr;
+        alone = ChangesOnly-held c.self.invariant.ring (seen i c.self.invariant v) c.args.at.pointer.ptr;
         value = λ xs t ys h at. ap (λ (z : g.row.K.Denot × g.row.V.Denot). z.1) (is xs t ys h at);
       },
     )

@@ -1,6 +1,6 @@
 use Rattle.lhm_ring.proofs.Names.{[], ap, subst, sym, ◌++◌, ◌∙◌, ◌∷◌, AreLent}
 use Rattle.lhm_ring.proofs.rings.IteratorSteps.{Some-unique, value_at-last_lent}
-use Rattle.lhm_ring.proofs.iter.Lent.step_back.Goals as goal
+use Rattle.lhm_ring.proofs.iter_mut.Lent.step_back.Goals as goal
 
 pub take-requires : goal.take-requires
 take-requires g c = let l = value_at-last_lent _ c.step_back.new.self c.in-Some.ensures.1 c.self.invariant in (_, l.0)
