@@ -16,7 +16,8 @@ pub use Rattle.lhm_ring.specs.Index.{ChangesLinks, HasChain, HasChains, HoldsOth
 pub use Rattle.lhm_ring.specs.Index.{IsOnChain, IsPutFirst, IsRearranged, OfNodeAt, PutsFirst, PutsIn, Spot, count_in_bucket}
 pub use Rattle.lhm_ring.specs.Index.{count_with_hash, entries, is_in, spot, spots}
 pub use Rattle.lhm_ring.specs.{Iter.held_left, Iter.loan_name, Ring.unvalued}
-pub use Rattle.lhm_ring.specs.Links.{AreLinked, AreNeighbours, ChainsTo, HasContent, HasEnds, IsJoined, IsLaid, IsOwned, HasSpan, IsRing, IsSpan}
+pub use Rattle.lhm_ring.specs.Links.{AreLinked, AreNeighbours, ChainsTo, HasContent, HasEnds, IsJoined, IsLaid, IsOwned, HasSpan, IsRing}
+pub use Rattle.lhm_ring.specs.Links.{IsSpan}
 pub use Rattle.lhm_ring.specs.Links.{IsSpareList, IsThere, LeadsBack, LeadsOn, chaining_to, content_at, content_of, ends_links, has_links}
 pub use Rattle.lhm_ring.specs.Links.{is_there, leading_back, leading_on, least_more, link_at, link_of, most_nodes, next_at}
 pub use Rattle.lhm_ring.specs.Links.{next_of, nodes_grown, one_of, prev_at, prev_of, ring_cells, span}
@@ -106,7 +107,8 @@ pub use types.Run.{of_opd, returns, size_lit, size_word, stop, store, switches_o
 unfoldable pub use Rattle.lhm_ring.specs.{Buckets.buckets, Sort.IsAscending, ValueLoan.value_at, ValueLoan.without_value}
 unfoldable pub use Rattle.lhm_ring.specs.Index.{CoversAll}
 unfoldable pub use Rattle.lhm_ring.specs.ContentLoan.{body_in, without_body}
-unfoldable pub use Rattle.lhm_ring.{proofs.rings.Listed.listed, specs.Links.IsStacked, specs.Links.contents, specs.Links.from_at, specs.Links.place_count}
+unfoldable pub use Rattle.lhm_ring.{proofs.rings.Listed.listed, specs.Links.IsStacked, specs.Links.contents, specs.Links.from_at}
+unfoldable pub use Rattle.lhm_ring.{specs.Links.place_count}
 unfoldable pub use Rattle.lhm_ring.specs.Nodes.{cell_at, change, places, row}
 unfoldable pub use Rattle.std.specs.List.{IsDistinct}
 unfoldable pub use base.Fml.{fseps}

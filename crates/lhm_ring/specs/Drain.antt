@@ -9,8 +9,7 @@ use Rattle.std.specs.Borrow.{GName}
 use Rattle.lhm_ring.specs.ContentLoan.{cleared}
 use Rattle.lhm_ring.specs.declared.drain.Drain.{Drain}
 use Rattle.lhm_ring.specs.Nodes.{Cell, IsApart}
-use Rattle.lhm_ring.specs.Links.{AreLinked, IsSpareList, next_at, prev_at, is_there, IsThere}
-use Rattle.lhm_ring.specs.Links.{contents, holders, IsOwned, IsSpan}
+use Rattle.lhm_ring.specs.Links.{AreLinked, IsSpareList, next_at, prev_at, is_there, IsThere, contents, holders, IsOwned, IsSpan}
 use Rattle.lhm_ring.specs.Ring.{triples}
 
 -- the pointers ps, the last first, and then ss

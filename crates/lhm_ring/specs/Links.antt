@@ -1,9 +1,8 @@
 -- A ring of nodes: how the links lead, and when the fields of a `Ring` are right. The nodes are a
 -- ring with one more at null, which holds nothing: the first node comes right after it, and it
 -- right after the last.
-use Rattle.std.specs.Prelude.{◌≡◌, ℕ, suc, zero, ◌+◌, ◌≤◌, ◌^◌, Bool, true, false, cond, List, []}
-use Rattle.std.specs.Prelude.{◌∷◌, ◌++◌, length, Option, Some, None, ◌-◌, ◌*◌, ◌/◌, min, max, nat_le, ◌==◌}
-use Rattle.std.specs.Prelude.{if◌then◌else◌, map, take}
+use Rattle.std.specs.Prelude.{◌≡◌, ℕ, suc, zero, ◌+◌, ◌≤◌, ◌^◌, Bool, true, false, cond, List, [], ◌∷◌, ◌++◌, length, Option, Some, None}
+use Rattle.std.specs.Prelude.{◌-◌, ◌*◌, ◌/◌, min, max, nat_le, ◌==◌, if◌then◌else◌, map, take}
 use Rattle.std.proofs.Common.{refl}
 use Rattle.std.specs.List.{AllByRecursion}
 use denote.RawPtr.{Ptr, null_ptr}

@@ -1,6 +1,6 @@
 -- The nodes that a ring owns, the chunks that they are cut from, and what is owned with them.
-use Rattle.std.specs.Prelude.{◌≡◌, Bool, true, false, ◌&&◌, ◌==◌, cond, nat_lt, ◌^◌, List, [], ◌∷◌}
-use Rattle.std.specs.Prelude.{map, Option, Some, None, ℕ, zero, suc, ◌*◌, ◌++◌, ◌+◌, ◌/◌, ◌<◌, ◌⊎◌}
+use Rattle.std.specs.Prelude.{◌≡◌, Bool, true, false, ◌&&◌, ◌==◌, cond, nat_lt, ◌^◌, List, [], ◌∷◌, map, Option, Some, None, ℕ, zero, suc}
+use Rattle.std.specs.Prelude.{◌*◌, ◌++◌, ◌+◌, ◌/◌, ◌<◌, ◌⊎◌}
 use Rattle.std.specs.List.{IsDistinct, IsDistinct-prop, AllByRecursion, AllByRecursion-prop}
 use mathlib.Core.Bool.{Bool-set}
 use denote.RawPtr.{Ptr, block_ptr, null_ptr, ptr_val, room_for, ◌+ₚ◌, lies_at}

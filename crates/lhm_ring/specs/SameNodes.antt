@@ -9,8 +9,8 @@ use Rattle.lhm_ring.specs.declared.pointer.Link.{Link}
 use Rattle.lhm_ring.specs.Lists.{AllByRecursion-always, AllByRecursion-map}
 use Rattle.lhm_ring.specs.Nodes.{Cell, links_at}
 use Rattle.lhm_ring.specs.Pointer.{target}
-use Rattle.lhm_ring.specs.Links.{AreLinked, IsOwned, IsSpareList, IsThere, has_links}
-use Rattle.lhm_ring.specs.Links.{is_there, link_at, link_of, next_at, next_of, prev_at, prev_of}
+use Rattle.lhm_ring.specs.Links.{AreLinked, IsOwned, IsSpareList, IsThere, has_links, is_there, link_at, link_of, next_at, next_of}
+use Rattle.lhm_ring.specs.Links.{prev_at, prev_of}
 
 module _ {B C : Type 0} (cs : List (Cell Links B)) (ds : List (Cell Links C)) where
   abbrev pub SameLink : Ptr → Type 0

@@ -1,12 +1,12 @@
 -- The spots of nodes, and the node of a spot.
-use Rattle.lhm_ring.proofs.Names.{Bool, List, None, Option, Some, ap, arith, eq-eqb, false, length, refl, subst, sym, true, ℕ}
-use Rattle.lhm_ring.proofs.Names.{◌%◌, ◌&&◌, ◌++◌, ◌==◌, ◌∙◌, ◌∷◌, ◌≡◌, ◌≤◌, count_by, eqb-true, filter, same_ptr, IsRearranged}
-use Rattle.lhm_ring.proofs.Names.{OfNodeAt, PutsIn, Spot, is_in, spot, spots, Held, IsHeld, SplitAt, count_by-le-length, length-filter}
-use Rattle.lhm_ring.proofs.Names.{length-map, map-append, Ptr}
-use Rattle.lhm_ring.proofs.lists.{Apart.same_ptr-equal, Apart.same_ptr-reflexive, Splits.SplitAround}
+use Rattle.lhm_ring.proofs.Names.{Bool, List, None, Option, Some, ap, arith, eq-eqb, false, length, refl, subst, sym, true, ℕ, ◌%◌, ◌&&◌}
+use Rattle.lhm_ring.proofs.Names.{◌++◌, ◌==◌, ◌∙◌, ◌∷◌, ◌≡◌, ◌≤◌, count_by, eqb-true, filter, same_ptr, IsRearranged, OfNodeAt, PutsIn}
+use Rattle.lhm_ring.proofs.Names.{Spot, is_in, spot, spots, Held, IsHeld, SplitAt, count_by-le-length, length-filter, length-map}
+use Rattle.lhm_ring.proofs.Names.{map-append, Ptr}
 use Rattle.lhm_ring.proofs.lists.Rearranged.{PutsIn-filter_in, PutsIn-middle, SplitAround-IsRearranged, SplitAt-counted, count_by-own}
 use Rattle.lhm_ring.proofs.lists.Rearranged.{length-IsRearranged}
-use Rattle.lhm_ring.proofs.lists.RearrangedCounts.{count_by-filter, count_by-map}
+use Rattle.lhm_ring.proofs.lists.{Apart.same_ptr-equal, Apart.same_ptr-reflexive, RearrangedCounts.count_by-filter}
+use Rattle.lhm_ring.proofs.lists.{RearrangedCounts.count_by-map, Splits.SplitAround}
 
 -- nodes that are known by an equation: their spots, of all of them and of those of a bucket
 module _ {K V : Type 0} {nodes : List (Held (K × V))} (before : List (Held (K × V))) (x : Held (K × V)) (after : List (Held (K × V)))

@@ -1,8 +1,8 @@
 -- Lists that are one another in another order.
 use Rattle.lhm_ring.proofs.Names.{Bool, List, [], ap, arith, cond, false, length, nil_from_length, refl, subst, sym, true, ℕ, ◌&&◌, ◌+◌}
 use Rattle.lhm_ring.proofs.Names.{◌++◌, ◌∙◌, ◌∷◌, ◌≡◌, count_by, filter, AllByRecursion, IsRearranged, PutsIn, SplitAt}
-use Rattle.lhm_ring.proofs.lists.{ForAll.AllByRecursion-removed, ForAll.AllByRecursion-right, Splits.SplitAround}
 use Rattle.lhm_ring.proofs.lists.RearrangedCounts.{count_by-all, count_by-append, count_by-cons, count_by-filter}
+use Rattle.lhm_ring.proofs.lists.{ForAll.AllByRecursion-removed, ForAll.AllByRecursion-right, Splits.SplitAround}
 
 module _ {X : Type 0} where
   pub length-IsRearranged : (xs ys : List X) → IsRearranged xs ys → length xs ≡ length ys

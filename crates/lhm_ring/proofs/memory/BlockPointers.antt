@@ -1,10 +1,9 @@
 -- The pointers of what a ring holds are the starts of blocks.
-use Rattle.lhm_ring.proofs.Names.{List, Some, [], ap, map, subst, sym, true, ℕ, ◌++◌, ◌∙◌, ◌∷◌, ◌≡◌, HasContent, IsOwned, has_links, listed}
-use Rattle.lhm_ring.proofs.Names.{one_of, ring_cells, AreBlocks, Cell, is_block, links_at, pointers, Held, State, Link}
-use Rattle.lhm_ring.proofs.Names.{Ends, Links, AllByRecursion, Ptr}
-use Rattle.lhm_ring.proofs.rings.{Contents.IsAt-content, Contents.at-content, Lookup.AllByRecursion-at}
-use Rattle.lhm_ring.proofs.rings.RingCells.{is_block-there, same_ptr-content}
-use Rattle.lhm_ring.proofs.rings.RingNodes.{Seen}
+use Rattle.lhm_ring.proofs.Names.{List, Some, [], ap, map, subst, sym, true, ℕ, ◌++◌, ◌∙◌, ◌∷◌, ◌≡◌, HasContent, IsOwned, has_links}
+use Rattle.lhm_ring.proofs.Names.{listed, one_of, ring_cells, AreBlocks, Cell, is_block, links_at, pointers, Held, State, Link, Ends}
+use Rattle.lhm_ring.proofs.Names.{Links, AllByRecursion, Ptr}
+use Rattle.lhm_ring.proofs.rings.{Contents.IsAt-content, Contents.at-content, Lookup.AllByRecursion-at, RingCells.is_block-there}
+use Rattle.lhm_ring.proofs.rings.{RingCells.same_ptr-content, RingNodes.Seen}
 
 module _ {B : Type 0} (e : Ends) (nodes : List (Cell Links B)) (all : AreBlocks (pointers nodes)) where
   abbrev cs : List (Cell Links B)

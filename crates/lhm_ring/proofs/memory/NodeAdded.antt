@@ -4,8 +4,8 @@ use Rattle.lhm_ring.proofs.Names.{IsRing, IsSpareList, IsThere, has_links, link_
 use Rattle.lhm_ring.proofs.Names.{cell_at, is_block, links_of, pointers, same_ptr, Ends, Links, Ptr, null_ptr}
 use Rattle.lhm_ring.proofs.lists.Apart.{IsApart-inserted, IsFresh, IsFresh-head, same_ptr-equal, same_ptr-reflexive, same_ptr-symmetric}
 use Rattle.lhm_ring.proofs.lists.ForAll.{AllByRecursion-append, AllByRecursion-left, AllByRecursion-map, AllByRecursion-right}
-use Rattle.lhm_ring.proofs.memory.OneNodeChanged.{AreLinked-other, IsSpareList-other, listed-other}
-use Rattle.lhm_ring.proofs.rings.RingCells.{cell_at-ring_cells, same_ptr-null}
+use Rattle.lhm_ring.proofs.memory.{OneNodeChanged.AreLinked-other, OneNodeChanged.IsSpareList-other, OneNodeChanged.listed-other}
+use Rattle.lhm_ring.proofs.rings.{RingCells.cell_at-ring_cells, RingCells.same_ptr-null}
 
 false_true : false ≡ true → ⊥
 false_true e = cc

@@ -1,14 +1,14 @@
 -- A node is listed before another. Assumes `Logic`.
-use Rattle.lhm_ring.proofs.Names.{List, Some, [], ap, append-nil, arith, cond, count_by, false, inl, inr, refl, subst, sym, ◌++◌, ◌+◌, ◌∙◌}
-use Rattle.lhm_ring.proofs.Names.{◌∷◌, ◌≡◌, AreBlocks, AtCell, BeforeCell, Cell, IsApart, IsPlaceFor, IsRearranged, cell_at, first_place, is_block}
-use Rattle.lhm_ring.proofs.Names.{links_of, map-append, pointers, same_ptr, true}
-use Rattle.lhm_ring.proofs.Names.{Nodes, places, Fml, ent, sep, via, Ptr, Ura, Logic, sem}
-use Rattle.lhm_ring.proofs.memory.{NodeFields.Cells, NodeFields.Node, NodeFields.One, NodeFields.Three, NodeTaken.cells_cut, NodeTaken.cells_glue}
+use Rattle.lhm_ring.proofs.Names.{List, Some, [], ap, append-nil, arith, cond, count_by, false, inl, inr, refl, subst, sym, ◌++◌, ◌+◌}
+use Rattle.lhm_ring.proofs.Names.{◌∙◌, ◌∷◌, ◌≡◌, AreBlocks, AtCell, BeforeCell, Cell, IsApart, IsPlaceFor, IsRearranged, cell_at}
+use Rattle.lhm_ring.proofs.Names.{first_place, is_block, links_of, map-append, pointers, same_ptr, true, Nodes, places, Fml, ent, sep}
+use Rattle.lhm_ring.proofs.Names.{via, Ptr, Ura, Logic, sem}
+use Rattle.lhm_ring.proofs.memory.NodeFields.{Cells, Node, One, Three}
+use Rattle.lhm_ring.proofs.memory.{NodeTaken.cells_cut, NodeTaken.cells_glue}
 use Rattle.lhm_ring.proofs.lists.Apart.{IsApart-inserted, IsApart-removed, IsApart-tail, IsFresh, IsFresh-middle}
-use Rattle.lhm_ring.proofs.lists.ForAll.{AllByRecursion-inserted, AllByRecursion-removed, AllByRecursion-right}
-use Rattle.lhm_ring.proofs.lists.Cuts.{cut_alone, not_again}
-use Rattle.lhm_ring.proofs.lists.RearrangedCounts.{count_by-append, count_by-cons}
-use Rattle.lhm_ring.proofs.rings.Lookup.{Cut, Cut-links_at}
+use Rattle.lhm_ring.proofs.lists.{Cuts.cut_alone, Cuts.not_again, ForAll.AllByRecursion-inserted, ForAll.AllByRecursion-removed}
+use Rattle.lhm_ring.proofs.lists.{ForAll.AllByRecursion-right, RearrangedCounts.count_by-append, RearrangedCounts.count_by-cons}
+use Rattle.lhm_ring.proofs.rings.{Lookup.Cut, Lookup.Cut-links_at}
 
 module _ {L B : Type 0} where
   abbrev lies : Cell L B → Ptr

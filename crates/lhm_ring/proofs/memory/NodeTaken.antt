@@ -1,9 +1,9 @@
 -- One node is taken out of the nodes, and put back, changed. Assumes `Logic`.
-use Rattle.lhm_ring.proofs.Names.{List, [], subst, sym, ◌++◌, ◌∷◌, ◌≡◌, AreBlocks, Cell, IsApart, cell_lent, cells_lent, change}
-use Rattle.lhm_ring.proofs.Names.{pointers, pointers-change, Nodes, Fml, Lft, ent, fst∗, id⊢, sep, snd∗, via, Ptr, Ura, !, done, fjoin}
-use Rattle.lhm_ring.proofs.Names.{fsplit, move, qed, split, use1, use2, ‵, ◌$◌, ◌∵◌, ◌⊛◌, Logic, sem, IsRearranged, places}
+use Rattle.lhm_ring.proofs.Names.{List, [], subst, sym, ◌++◌, ◌∷◌, ◌≡◌, AreBlocks, Cell, IsApart, cell_lent, cells_lent, change, pointers}
+use Rattle.lhm_ring.proofs.Names.{pointers-change, Nodes, Fml, Lft, ent, fst∗, id⊢, sep, snd∗, via, Ptr, Ura, !, done, fjoin, fsplit}
+use Rattle.lhm_ring.proofs.Names.{move, qed, split, use1, use2, ‵, ◌$◌, ◌∵◌, ◌⊛◌, Logic, sem, IsRearranged, places}
 use Rattle.lhm_ring.proofs.memory.NodeFields.{Cells, Node, One, RK, RL, RV, Three}
-use Rattle.lhm_ring.proofs.rings.Lookup.{Cut}
+use Rattle.lhm_ring.proofs.rings.{Lookup.Cut}
 
 module _ {L K V : Type 0} (n : Nodes L K V) where
   -- the same nodes, as cells at the same pointers

@@ -1,9 +1,9 @@
 -- Nodes with the bodies of a run in them.
-use Rattle.lhm_ring.proofs.Names.{List, None, Option, Some, [], arith, cond, false, refl, true, ◌∙◌, ◌∷◌, ◌≡◌, bodies_of}
-use Rattle.lhm_ring.proofs.Names.{body_in, with_bodies, without_body, Cell, IsApart, body_at, cell, change, subst, sym}
-use Rattle.lhm_ring.proofs.Names.{links_at, pointers, same_ptr, with_body, Ptr}
+use Rattle.lhm_ring.proofs.Names.{List, None, Option, Some, [], arith, cond, false, refl, true, ◌∙◌, ◌∷◌, ◌≡◌, bodies_of, body_in}
+use Rattle.lhm_ring.proofs.Names.{with_bodies, without_body, Cell, IsApart, body_at, cell, change, subst, sym, links_at, pointers}
+use Rattle.lhm_ring.proofs.Names.{same_ptr, with_body, Ptr}
 use Rattle.lhm_ring.proofs.lists.Apart.{IsApart-tail, IsFresh, IsFresh-head, same_ptr-equal, same_ptr-reflexive, same_ptr-symmetric}
-use Rattle.lhm_ring.proofs.rings.Rebodied.{body_at-rebodied, links_at-rebodied, pointers-rebodied}
+use Rattle.lhm_ring.proofs.rings.{Rebodied.body_at-rebodied, Rebodied.links_at-rebodied, Rebodied.pointers-rebodied}
 
 module _ {B : Type 0} where
   body_in-without_body : (p : Ptr) (run : List (Ptr × Option B)) → body_in (without_body p run) p ≡ None
@@ -18,7 +18,8 @@ module _ {B : Type 0} where
   body_in-without_body_other p q (c ∷ run) n = grind (arith, same_ptr-equal, body_in-without_body_other p q run n)
 
 module _ {L B : Type 0} where
-  pub IsApart-with_bodies : (cs : List (Cell L B)) (run : List (Ptr × Option B)) → IsApart (pointers cs) → IsApart (pointers (with_bodies cs run))
+  pub IsApart-with_bodies : (cs : List (Cell L B)) (run : List (Ptr × Option B)) → IsApart (pointers cs) → IsApart (pointers
+      (with_bodies cs run))
   IsApart-with_bodies cs run = subst IsApart (sym (pointers-rebodied (λ p _. body_in run p) cs))
 
   pub links_at-with_bodies : (cs : List (Cell L B)) (run : List (Ptr × Option B)) (q : Ptr)

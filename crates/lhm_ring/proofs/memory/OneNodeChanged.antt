@@ -1,10 +1,10 @@
 -- A change of one node alone: what is read of the others stays.
-use Rattle.lhm_ring.proofs.Names.{List, Option, Some, [], ap, arith, false, length, refl, subst, sym, true, ◌++◌, ◌∙◌, ◌∷◌, ◌≡◌, AreLinked}
-use Rattle.lhm_ring.proofs.Names.{HasContent, IsSpareList, IsThere, content_at, content_of, has_links, is_there, link_of, listed, one_of}
-use Rattle.lhm_ring.proofs.Names.{Cell, body_at, body_of, cell, cell_at, links_at, links_of, same_ptr, with_body, with_links, Links}
+use Rattle.lhm_ring.proofs.Names.{List, Option, Some, [], ap, arith, false, length, refl, subst, sym, true, ◌++◌, ◌∙◌, ◌∷◌, ◌≡◌}
+use Rattle.lhm_ring.proofs.Names.{AreLinked, HasContent, IsSpareList, IsThere, content_at, content_of, has_links, is_there, link_of}
+use Rattle.lhm_ring.proofs.Names.{listed, one_of, Cell, body_at, body_of, cell, cell_at, links_at, links_of, same_ptr, with_body}
+use Rattle.lhm_ring.proofs.Names.{with_links, Links, AllByRecursion, Ptr}
 use Rattle.lhm_ring.proofs.lists.{Apart.IsFresh, Apart.same_ptr-equal, ForAll.AllByRecursion-map}
 use Rattle.lhm_ring.proofs.rings.Writes.{cell_at-change, cell_at-change_other, length-change, links_of-seen, reader-with_links_same}
-use Rattle.lhm_ring.proofs.Names.{AllByRecursion, Ptr}
 use Rattle.lhm_ring.specs.SameNodes.{IsSpareList-same, SameLink}
 
 -- every node except the one at p is as it was

@@ -1,8 +1,8 @@
 -- Where the places of chunks lie.
 use Rattle.lhm_ring.proofs.Names.{List, None, [], ap, append_assoc, arith, false, length, length-append, lt→ltb, refl, subst, suc, sym}
-use Rattle.lhm_ring.proofs.Names.{true, zero, ℕ, ◌*◌, ◌++◌, ◌+◌, ◌-◌, ◌<◌, ◌^◌, ◌∙◌, ◌∷◌, ◌≡◌, nat_lt, IsLaid, place_count, AreBlocks, Cell}
-use Rattle.lhm_ring.proofs.Names.{Chunk, chunk, is_block, is_null, is_null_or_block, places, pointers, row, led_to, length-map, next}
-use Rattle.lhm_ring.proofs.Names.{one_more, InBlock, Ptr, block_ptr, null_ptr, ◌+ₚ◌, IsRearranged, count_by}
+use Rattle.lhm_ring.proofs.Names.{true, zero, ℕ, ◌*◌, ◌++◌, ◌+◌, ◌-◌, ◌<◌, ◌^◌, ◌∙◌, ◌∷◌, ◌≡◌, nat_lt, IsLaid, place_count, AreBlocks}
+use Rattle.lhm_ring.proofs.Names.{Cell, Chunk, chunk, is_block, is_null, is_null_or_block, places, pointers, row, led_to, length-map}
+use Rattle.lhm_ring.proofs.Names.{next, one_more, InBlock, Ptr, block_ptr, null_ptr, ◌+ₚ◌, IsRearranged, count_by}
 use Rattle.lhm_ring.proofs.lists.{Rearranged.length-IsRearranged, RearrangedCounts.count_by-append}
 use Rattle.lhm_ring.{proofs.lists.ForAll.AllByRecursion-left, proofs.lists.ForAll.AllByRecursion-right, specs.Links.IsChain}
 use Rattle.std.proofs.Flags.{T_true}

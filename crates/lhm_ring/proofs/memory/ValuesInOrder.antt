@@ -1,8 +1,8 @@
 -- The values that nodes hold, in the order in which the nodes are listed: they are lent, and others are written in their places.
-use Rattle.lhm_ring.proofs.Names.{List, None, Option, Some, [], ap, arith, cond, false, length, map, refl, subst, suc, sym, true, ℕ, ◌++◌, ◌∙◌}
-use Rattle.lhm_ring.proofs.Names.{◌∷◌, ◌≡◌, IsOwned, content_of, contents, ends_links, holders, one_of, ring_cells, Cell, IsApart, cell, cell_at}
-use Rattle.lhm_ring.proofs.Names.{links_at, links_of, pointers, same_ptr, AtHeld, Held, IsHeld, SplitAt, pair, set_held_values, unvalued}
-use Rattle.lhm_ring.proofs.Names.{AreLent, value_at, Link, Ends, Links, AllByRecursion, Ptr, null_ptr}
+use Rattle.lhm_ring.proofs.Names.{List, None, Option, Some, [], ap, arith, cond, false, length, map, refl, subst, suc, sym, true, ℕ, ◌++◌}
+use Rattle.lhm_ring.proofs.Names.{◌∙◌, ◌∷◌, ◌≡◌, IsOwned, content_of, contents, ends_links, holders, one_of, ring_cells, Cell, IsApart}
+use Rattle.lhm_ring.proofs.Names.{cell, cell_at, links_at, links_of, pointers, same_ptr, AtHeld, Held, IsHeld, SplitAt, pair}
+use Rattle.lhm_ring.proofs.Names.{set_held_values, unvalued, AreLent, value_at, Link, Ends, Links, AllByRecursion, Ptr, null_ptr}
 use Rattle.lhm_ring.proofs.lists.Apart.{IsApart-tail, IsFresh, IsFresh-head, same_ptr-reflexive}
 use Rattle.lhm_ring.{proofs.rings.HeldPointers.pointers_of, specs.SameNodes.IsOwned-alike}
 

@@ -13,12 +13,11 @@ use Rattle.lhm_ring.proofs.Names.{RattleType, Valss, Ptr, block_ptr, lies_at, nu
 use Rattle.lhm_ring.proofs.Names.{nothing as empty, Lends, Lends-both, Lends-first, Lends-lies, Lends-nothing, lending_shared, lent_at}
 use Rattle.lhm_ring.proofs.Names.{Shape, Struct, within, Val, vnil, vstruct, Ura, !, by, done, drop, fjoin, fjoin3, fpack, fpick, fsplit}
 use Rattle.lhm_ring.proofs.Names.{fsplit3, keep, move, qed, raw, split, use1, use2, ‵, ◌$◌, ◌∵◌, ◌⊛◌, Logic, sem, SemTy}
-use Rattle.lhm_ring.proofs.memory.{NodeFields.marker, NodeTaken.with_cells}
-use Rattle.lhm_ring.proofs.memory.PartsTaken.{Entails, parts_cut, ◌∗◌}
 use Rattle.lhm_ring.proofs.memory.Sharing.{Law-thin, Lends-less, Lends-parts, Thin, parts_own}
 use Rattle.lhm_ring.proofs.memory.ValuesInOrder.{AreLent-own, IsOwned-written, contents-written, left_over, new_body, pointers-written}
 use Rattle.lhm_ring.proofs.memory.ValuesInOrder.{run_of, written}
-use Rattle.lhm_ring.proofs.rings.HeldPointers.{IsApart-owned}
+use Rattle.lhm_ring.proofs.memory.{NodeFields.marker, NodeTaken.with_cells, PartsTaken.Entails, PartsTaken.parts_cut, PartsTaken.◌∗◌}
+use Rattle.lhm_ring.proofs.rings.{HeldPointers.IsApart-owned}
 use denote.{Param.Laws.Laws, Sharing.nothing, Struct.Field.Field, Struct.Field.rows, Struct.Values.intos}
 use denote.Struct.Declared as declared
 use denote.Struct.Owning as owning

@@ -1,15 +1,15 @@
 -- What is held at one pointer changes, and nothing else.
 use Rattle.lhm_ring.proofs.Names.{List, Option, [], ap, arith, cond, false, length, refl, subst, sym, ℕ, ◌++◌, ◌∙◌, ◌∷◌, ◌≡◌, IsOwned}
-use Rattle.lhm_ring.proofs.Names.{chaining_to, contents, has_links, holders, link_at, link_of, links_of, next_of, prev_of, Cell, IsApart, IsAt}
-use Rattle.lhm_ring.proofs.Names.{cell, change, is_there, links_at, next_at, prev_at, same_ptr, with_body, with_links, ChangesOnly, Held, State}
-use Rattle.lhm_ring.proofs.Names.{change_at, Link, Links, Ptr}
+use Rattle.lhm_ring.proofs.Names.{chaining_to, contents, has_links, holders, link_at, link_of, links_of, next_of, prev_of, Cell, IsApart}
+use Rattle.lhm_ring.proofs.Names.{IsAt, cell, change, is_there, links_at, next_at, prev_at, same_ptr, with_body, with_links, ChangesOnly}
+use Rattle.lhm_ring.proofs.Names.{Held, State, change_at, Link, Links, Ptr}
 use Rattle.lhm_ring.proofs.lists.Apart.{IsApart-tail, IsFresh, IsFresh-head, same_ptr-reflexive, same_ptr-symmetric}
-use Rattle.lhm_ring.proofs.{lists.ForAll.AllByRecursion-map, memory.OneNodeChanged.links_at-with_body}
-use Rattle.lhm_ring.proofs.rings.{HeldPointers.IsApart-listed, HeldPointers.pointers_of}
-use Rattle.lhm_ring.proofs.rings.{Holders.content, Holders.contents-append, Lookup.Cut, RingNodes.Seen}
-use Rattle.lhm_ring.proofs.rings.Writes.{cell_at-change_other, length-change, reader-with_links_same}
+use Rattle.lhm_ring.proofs.lists.{Cuts.same_ptr-fresh, ForAll.AllByRecursion-map}
+use Rattle.lhm_ring.proofs.memory.{OneNodeChanged.links_at-with_body}
+use Rattle.lhm_ring.proofs.rings.{HeldPointers.IsApart-listed, HeldPointers.pointers_of, Holders.content, Holders.contents-append}
+use Rattle.lhm_ring.proofs.rings.{Lookup.Cut, RingNodes.Seen, Writes.cell_at-change_other, Writes.length-change}
+use Rattle.lhm_ring.proofs.rings.{Writes.reader-with_links_same}
 use Rattle.lhm_ring.specs.SameNodes.{IsOwned-alike, IsOwned-same, SameLink}
-use Rattle.lhm_ring.proofs.lists.Cuts.{same_ptr-fresh}
 
 -- what is held lies at pointers that are apart, so that a change of one is a change of no other
 module _ {B : Type 0} where
@@ -25,7 +25,8 @@ module _ {B : Type 0} where
       λ i. cond ((ap (same_ptr x.at) (sym at) ∙ same_ptr-fresh (λ t. t.at) x.at xs t ys far) i)
       (f x) x ∷ change_at-split p f xs t ys at (IsApart-tail x.at (pointers_of (xs ++ t ∷ ys)) d) i
 
-  pub ChangesOnly-held : {cs : List (Cell Links B)} {ps : List Ptr} {spare : Link} {n m : ℕ} {v : State B} {total : ℕ} → IsOwned cs ps spare n m
+  pub ChangesOnly-held : {cs : List (Cell Links B)} {ps : List Ptr} {spare : Link} {n m : ℕ} {v : State B} {total : ℕ}
+      → IsOwned cs ps spare n m
       → Seen cs ps m total v → (p : Ptr) → ChangesOnly v.held p
   ChangesOnly-held ok w p xs t ys e at f =
       ap (change_at p f) e
@@ -45,7 +46,8 @@ module _ {B : Type 0} where
       ∙ change_at-split p g (contents xs) t (contents ys) at (subst (λ hs. IsApart (pointers_of hs)) old d))
 
   -- the body of a node is written, or its chain link
-  module _ {cs ds : List (Cell Links B)} {ps : List Ptr} {spare : Link} {n m : ℕ} (ok : IsOwned cs ps spare n m) (p : Ptr) (at : IsAt cs p) where
+  module _ {cs ds : List (Cell Links B)} {ps : List Ptr} {spare : Link} {n m : ℕ} (ok : IsOwned cs ps spare n m) (p : Ptr)
+      (at : IsAt cs p) where
     pub IsOwned-with_body : (b : Option B) → ds ≡ with_body p b cs → IsOwned ds ps spare n m
     IsOwned-with_body b is = IsOwned-alike cs ds (λ q. ap (λ zs. links_at zs q) is ∙ links_at-with_body p b cs at.0 at.1 q)
         (ap length is ∙ length-change p (λ c. cell c.at c.links b) cs) ok

@@ -1,7 +1,7 @@
 -- What a node holds, as its links and its body say.
 use Rattle.lhm_ring.proofs.Names.{List, None, Option, Some, ap, refl, sym, ◌∙◌, ◌≡◌, content_at, content_of, link_of, Cell, Holds, IsAt}
 use Rattle.lhm_ring.proofs.Names.{body_at, links_at, Held, held, Links, Ptr}
-use Rattle.lhm_ring.proofs.lists.Options.{Some-injective}
+use Rattle.lhm_ring.proofs.lists.{Options.Some-injective}
 
 -- what the links and the body at p say, if t is held there
 record Read {B : Type 0} (p : Ptr) (o : Option Links) (b : Option B) (t : Held B) : Type 0 where

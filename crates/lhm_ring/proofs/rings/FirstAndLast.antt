@@ -1,10 +1,10 @@
 -- The first and the last of a ring.
-use Rattle.lhm_ring.proofs.Names.{List, [], ap, arith, sym, ℕ, ◌++◌, ◌∙◌, ◌∷◌, ◌≡◌, AreLinked, HasContent, IsOwned, listed, next_at, one_of}
-use Rattle.lhm_ring.proofs.Names.{prev_at, Cell, led_to, State, first_at, last_at, last_of, Link, Links, AllByRecursion}
-use Rattle.lhm_ring.proofs.lists.{ForAll.AllByRecursion-left, LinkRows.RowCut-linked, Last.AllByRecursion-last, Last.last_from}
-use Rattle.lhm_ring.proofs.rings.{Contents.at-content, RingCells.led_to-apart}
-use Rattle.lhm_ring.proofs.{Names.Ptr, Names.null_ptr, lists.Apart.IsFresh, lists.Apart.IsFresh-head}
-use Rattle.lhm_ring.proofs.rings.RingNodes.{Seen}
+use Rattle.lhm_ring.proofs.Names.{List, [], ap, arith, sym, ℕ, ◌++◌, ◌∙◌, ◌∷◌, ◌≡◌, AreLinked, HasContent, IsOwned, listed, next_at}
+use Rattle.lhm_ring.proofs.Names.{one_of, prev_at, Cell, led_to, State, first_at, last_at, last_of, Link, Links, AllByRecursion, Ptr}
+use Rattle.lhm_ring.proofs.Names.{null_ptr}
+use Rattle.lhm_ring.proofs.lists.{Apart.IsFresh, Apart.IsFresh-head, ForAll.AllByRecursion-left, Last.AllByRecursion-last, Last.last_from}
+use Rattle.lhm_ring.proofs.lists.{LinkRows.RowCut-linked}
+use Rattle.lhm_ring.proofs.rings.{Contents.at-content, RingCells.led_to-apart, RingNodes.Seen}
 
 module _ {B : Type 0} (cs : List (Cell Links B)) where
   last_of-listed : (p : Ptr) (h : HasContent cs p) (ps : List Ptr)

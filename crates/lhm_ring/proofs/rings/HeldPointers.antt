@@ -1,9 +1,8 @@
 -- The pointers of what is held: they are apart, so that each is that of one triple.
 use Rattle.lhm_ring.proofs.Names.{List, [], ap, arith, map, refl, subst, sym, ℕ, ◌++◌, ◌∙◌, ◌∷◌, ◌≡◌, HasContent, IsOwned, listed, one_of}
 use Rattle.lhm_ring.proofs.Names.{Cell, IsApart, AtHeld, Held, IsHeld, State, Link, Links, map-append, AllByRecursion, Ptr, null_ptr}
-use Rattle.lhm_ring.proofs.lists.Apart.{IsApart-left, IsApart-removed, IsApart-tail}
-use Rattle.lhm_ring.proofs.{lists.Cuts.cut_alone, rings.Contents.at-content}
-use Rattle.lhm_ring.proofs.rings.RingNodes.{Seen}
+use Rattle.lhm_ring.proofs.lists.{Apart.IsApart-left, Apart.IsApart-removed, Apart.IsApart-tail, Cuts.cut_alone}
+use Rattle.lhm_ring.proofs.rings.{Contents.at-content, RingNodes.Seen}
 
 module _ {B : Type 0} where
   abbrev pub pointers_of : List (Held B) → List Ptr

@@ -1,8 +1,9 @@
 -- What nodes hold, in the order in which they are listed, and where it lies.
-use Rattle.lhm_ring.proofs.Names.{List, None, Option, Some, [], ap, append_assoc, cond, refl, subst, sym, false, true, ◌++◌, ◌∙◌, ◌∷◌, ◌≡◌}
-use Rattle.lhm_ring.proofs.Names.{ChainsTo, HasContent, IsJoined, cleared, chaining_to, content_of, contents, holders, link_of, listed, one_of, ring_cells, Cell, Ends, IsApart, IsAt, Link}
-use Rattle.lhm_ring.proofs.Names.{body_of, cell, cell_at, change, links_at, map, triples}
-use Rattle.lhm_ring.proofs.Names.{links_of, pointers, same_ptr, with_body, with_links, Held, held, Links, AllByRecursion, Ptr, map-append}
+use Rattle.lhm_ring.proofs.Names.{List, None, Option, Some, [], ap, append_assoc, cond, refl, subst, sym, false, true, ◌++◌, ◌∙◌, ◌∷◌}
+use Rattle.lhm_ring.proofs.Names.{◌≡◌, ChainsTo, HasContent, IsJoined, cleared, chaining_to, content_of, contents, holders, link_of}
+use Rattle.lhm_ring.proofs.Names.{listed, one_of, ring_cells, Cell, Ends, IsApart, IsAt, Link, body_of, cell, cell_at, change, links_at}
+use Rattle.lhm_ring.proofs.Names.{map, triples, links_of, pointers, same_ptr, with_body, with_links, Held, held, Links, AllByRecursion}
+use Rattle.lhm_ring.proofs.Names.{Ptr, map-append}
 use Rattle.lhm_ring.proofs.lists.Apart.{IsApart-added, IsApart-none, IsApart-tail, IsFresh, IsFresh-head, same_ptr-reflexive}
 use Rattle.lhm_ring.proofs.lists.{Cuts.pointers-alone, ForAll.AllByRecursion-map, Options.Some-injective}
 use Rattle.lhm_ring.proofs.rings.{Contents.IsAt-content, HeldPointers.pointers_of, Lookup.AllByRecursion-at, Lookup.Cut}

@@ -1,13 +1,13 @@
 -- What the fields of a ring say of its counts, and of what its nodes hold.
-use Rattle.lhm_ring.proofs.Names.{List, Option, Some, [], ap, arith, length, subst, sym, true, ℕ, ◌+◌, ◌^◌, ◌∙◌, ◌∷◌, ◌≡◌, ◌≤◌, min, IsLaid}
-use Rattle.lhm_ring.proofs.Names.{IsOwned, content_of, contents, holders, link_of, one_of, ring_cells, Cell, Holds, IsAt, body_at, cell, is_block}
-use Rattle.lhm_ring.proofs.Names.{with_body, AtHeld, Held, IsHeld, State, change_at, held, state, Links, Ptr}
-use Rattle.lhm_ring.proofs.{memory.Places.length-made, rings.RingNodes.length-held, rings.Stacking.IsOwned-raised}
+use Rattle.lhm_ring.proofs.Names.{List, Option, Some, [], ap, arith, length, subst, sym, true, ℕ, ◌+◌, ◌^◌, ◌∙◌, ◌∷◌, ◌≡◌, ◌≤◌, min}
+use Rattle.lhm_ring.proofs.Names.{IsLaid, IsOwned, content_of, contents, holders, link_of, one_of, ring_cells, Cell, Holds, IsAt, body_at}
+use Rattle.lhm_ring.proofs.Names.{cell, is_block, with_body, AtHeld, Held, IsHeld, State, change_at, held, state, Links, Ptr}
+use Rattle.lhm_ring.proofs.memory.{Places.length-made}
+use Rattle.lhm_ring.proofs.rings.RingCells.{Holds-in_nodes, IsAt-in_nodes, body_at-ring_cells, ring_cells-with_body}
 use Rattle.lhm_ring.proofs.rings.{ContentChange.IsOwned-with_body, ContentChange.contents-changed, HeldPointers.IsApart-owned}
 use Rattle.lhm_ring.proofs.rings.{Holders.holders-written, Lookup.Cut, Lookup.Cut-held, Lookup.held_here, Order.AllByRecursion-in_ring}
 use Rattle.lhm_ring.proofs.rings.{Order.contents-in_ring, ReadAtPosition.Holds-held, ReadAtPosition.IsAt-held, ReadAtPosition.pair-held}
-use Rattle.lhm_ring.proofs.rings.{RingCells.Holds-in_nodes, RingCells.IsAt-in_nodes, RingCells.body_at-ring_cells}
-use Rattle.lhm_ring.proofs.rings.{RingCells.ring_cells-with_body, RingNodes.Seen}
+use Rattle.lhm_ring.proofs.rings.{RingNodes.Seen, RingNodes.length-held, Stacking.IsOwned-raised}
 use Rattle.lhm_ring.specs.declared.ring.Ring.TheInside.{Inside}
 
 -- the invariant of a ring, and what callers see of it
@@ -71,7 +71,8 @@ module _ {K V : Type 0} (i : Inside K V) (ok : IsWhole i) where
 
         pub IsOwned-written : IsOwned (ring_cells i.ends ds) (holders ds) i.spare i.len i.spares
         IsOwned-written =
-            subst (λ qs. IsOwned (ring_cells i.ends ds) qs i.spare i.len i.spares) (sym (ap holders is ∙ holders-written k (held_here k e) y))
+            subst (λ qs. IsOwned (ring_cells i.ends ds) qs i.spare i.len i.spares) (sym (ap holders is ∙ holders-written k
+            (held_here k e) y))
             (IsOwned-with_body ok.ring p (IsAt-held ok.ring seen h) (Some y) (ring_cells-with_body i.ends i.nodes.cells p b (Some y) ds is))
 
         pub contents-set : contents ds ≡ change_at p g v.held

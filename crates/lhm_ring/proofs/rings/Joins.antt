@@ -1,12 +1,13 @@
 -- Two nodes are joined: what stays of a row, a chain and contents, and the rows that come of it.
 use Rattle.lhm_ring.proofs.Names.{List, Option, [], append-nil, append_assoc, arith, false, refl, subst, sym, ◌++◌, ◌∙◌, ◌∷◌, ◌≡◌}
-use Rattle.lhm_ring.proofs.Names.{AreLinked, AreNeighbours, IsJoined, IsSpareList, IsThere, listed, next_at, one_of, prev_at}
-use Rattle.lhm_ring.proofs.Names.{Cell, IsApart, same_ptr, Links, AllByRecursion, Ptr}
+use Rattle.lhm_ring.proofs.Names.{AreLinked, AreNeighbours, IsJoined, IsSpareList, IsThere, listed, next_at, one_of, prev_at, Cell}
+use Rattle.lhm_ring.proofs.Names.{IsApart, same_ptr, Links, AllByRecursion, Ptr}
 use Rattle.lhm_ring.proofs.lists.Apart.{AllByRecursion-fresh_across, IsApart-left, IsApart-removed, IsApart-tail, IsFresh, IsFresh-head}
 use Rattle.lhm_ring.proofs.lists.Apart.{IsFresh-middle, same_ptr-flip, same_ptr-reflexive}
 use Rattle.lhm_ring.proofs.lists.ForAll.{AllByRecursion-always, AllByRecursion-append, AllByRecursion-left, AllByRecursion-map}
-use Rattle.lhm_ring.proofs.lists.{ForAll.AllByRecursion-right, LinkRows.AreLinked-glued, LinkRows.RowCut-linked}
-use Rattle.lhm_ring.proofs.lists.Last.{AllByRecursion-last, first_from, last_from}
+use Rattle.lhm_ring.proofs.lists.ForAll.{AllByRecursion-right}
+use Rattle.lhm_ring.proofs.lists.{Last.AllByRecursion-last, Last.first_from, Last.last_from, LinkRows.AreLinked-glued}
+use Rattle.lhm_ring.proofs.lists.{LinkRows.RowCut-linked}
 use Rattle.lhm_ring.specs.SameNodes.{IsSpareList-same, SameLink}
 
 -- a is none of those that lead on, and b none of those that are led to

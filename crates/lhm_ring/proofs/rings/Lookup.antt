@@ -1,6 +1,7 @@
 -- A node that is found at a pointer cuts the list in two there.
-use Rattle.lhm_ring.proofs.Names.{List, None, Option, Some, [], ap, cond, false, refl, subst, sym, true, ◌++◌, ◌∙◌, ◌∷◌, ◌≡◌, Cell, Holds, IsAt, body_at}
-use Rattle.lhm_ring.proofs.Names.{body_of, cell_at, change, links_at, links_of, pointers, same_ptr, SplitAt, AllByRecursion, Ptr}
+use Rattle.lhm_ring.proofs.Names.{List, None, Option, Some, [], ap, cond, false, refl, subst, sym, true, ◌++◌, ◌∙◌, ◌∷◌, ◌≡◌, Cell, Holds}
+use Rattle.lhm_ring.proofs.Names.{IsAt, body_at, body_of, cell_at, change, links_at, links_of, pointers, same_ptr, SplitAt}
+use Rattle.lhm_ring.proofs.Names.{AllByRecursion, Ptr}
 use Rattle.lhm_ring.proofs.lists.{Apart.same_ptr-equal, Options.none_some}
 
 module _ {L B : Type 0} where

@@ -1,22 +1,23 @@
 -- A node of a ring moves: before another one, or to the back.
-use Rattle.lhm_ring.proofs.Names.{append-nil, append_assoc, length-append, suc, AreNeighbours, IsSpareList, pointer_of_some, AllByRecursion}
-use Rattle.lhm_ring.proofs.Names.{sym, true≢false, AreLinked, HasContent, IsJoined, content_at, links_at, pointer_of, BeforeHeld}
-use Rattle.lhm_ring.proofs.Names.{[], IsOwned, IsThere, next_at, next_of, prev_at, prev_of, IsApart, same_ptr, first_at, Position, null_ptr}
-use Rattle.lhm_ring.proofs.Names.{Option, arith, false, length, subst, IfSome, IsRing, listed, one_of, led_to, AtHeld, IsHeld, State}
-use Rattle.lhm_ring.proofs.Names.{Bool, List, None, Some, ap, cond, refl, true, ℕ, ◌++◌, ◌+◌, ◌∙◌, ◌∷◌, ◌≡◌, Cell, Held, Link, Links, Ptr}
+use Rattle.lhm_ring.proofs.Names.{append-nil, append_assoc, length-append, suc, AreNeighbours, IsSpareList, pointer_of_some}
+use Rattle.lhm_ring.proofs.Names.{AllByRecursion, sym, true≢false, AreLinked, HasContent, IsJoined, content_at, links_at, pointer_of}
+use Rattle.lhm_ring.proofs.Names.{BeforeHeld, [], IsOwned, IsThere, next_at, next_of, prev_at, prev_of, IsApart, same_ptr, first_at}
+use Rattle.lhm_ring.proofs.Names.{Position, null_ptr, Option, arith, false, length, subst, IfSome, IsRing, listed, one_of, led_to, AtHeld}
+use Rattle.lhm_ring.proofs.Names.{IsHeld, State, Bool, List, None, Some, ap, cond, refl, true, ℕ, ◌++◌, ◌+◌, ◌∙◌, ◌∷◌, ◌≡◌, Cell, Held}
+use Rattle.lhm_ring.proofs.Names.{Link, Links, Ptr, AtCell, BeforeCell, Ends, Holds, IsAt, IsPlaceFor, Nodes, contents, holders, inl, inr}
+use Rattle.lhm_ring.proofs.Names.{ring_cells}
 use Rattle.lhm_ring.proofs.lists.Apart.{IsApart-inserted, IsApart-left, IsApart-removed, IsFresh, IsFresh-middle, same_ptr-equal}
-use Rattle.lhm_ring.proofs.lists.{Apart.same_ptr-flip, Apart.same_ptr-reflexive, ForAll.AllByRecursion-right, Splits.SplitAround}
+use Rattle.lhm_ring.proofs.lists.Apart.{same_ptr-flip, same_ptr-reflexive}
 use Rattle.lhm_ring.proofs.lists.ForAll.{AllByRecursion-append, AllByRecursion-inserted, AllByRecursion-left, AllByRecursion-removed}
+use Rattle.lhm_ring.proofs.lists.ForAll.{AllByRecursion-right}
 use Rattle.lhm_ring.proofs.lists.Last.{AllByRecursion-first, AllByRecursion-last, first_from, last_from}
-use Rattle.lhm_ring.proofs.lists.LinkRows.{AreNeighbours-cut, RowCut-linked, listed-append}
-use Rattle.lhm_ring.proofs.rings.{Contents.at-content, Joins.AreLinked-removed, Joins.IsSpareList-unchanged, Joins.listed-unchanged}
-use Rattle.lhm_ring.proofs.rings.Joins.{AllByRecursion-there_unchanged, AreLinked-inserted}
-use Rattle.lhm_ring.proofs.rings.RingCells.{IsJoined-same, led_to-none, led_to-some}
-use Rattle.lhm_ring.proofs.rings.RingNodes.{Found-held, ListCut-listed, NodeAt-held, ring_split}
-use Rattle.lhm_ring.proofs.Names.{AtCell, BeforeCell, Ends, Holds, IsAt, IsPlaceFor, None, Nodes, contents, holders, inl, inr, ring_cells}
-use Rattle.lhm_ring.proofs.rings.{Contents.Holds-content, Contents.IsAt-content, HeldPointers.IsApart-owned, Lookup.Cut, Lookup.Cut-held}
-use Rattle.lhm_ring.proofs.rings.{Lookup.held_here, Order.holders-moved, Holders.AllByRecursion-holders}
-use Rattle.lhm_ring.proofs.rings.RingNodes.{Seen}
+use Rattle.lhm_ring.proofs.lists.{LinkRows.AreNeighbours-cut, LinkRows.RowCut-linked, LinkRows.listed-append, Splits.SplitAround}
+use Rattle.lhm_ring.proofs.rings.Joins.{AllByRecursion-there_unchanged, AreLinked-inserted, AreLinked-removed, IsSpareList-unchanged}
+use Rattle.lhm_ring.proofs.rings.Joins.{listed-unchanged}
+use Rattle.lhm_ring.proofs.rings.RingNodes.{Found-held, ListCut-listed, NodeAt-held, Seen, ring_split}
+use Rattle.lhm_ring.proofs.rings.{Contents.Holds-content, Contents.IsAt-content, Contents.at-content, HeldPointers.IsApart-owned}
+use Rattle.lhm_ring.proofs.rings.{Holders.AllByRecursion-holders, Lookup.Cut, Lookup.Cut-held, Lookup.held_here, Order.holders-moved}
+use Rattle.lhm_ring.proofs.rings.{RingCells.IsJoined-same, RingCells.led_to-none, RingCells.led_to-some}
 
 -- one of some pointers, among the others than another one
 split_others : (xs : List Ptr) (p : Ptr) (ys us : List Ptr) (q : Ptr) (vs : List Ptr) → xs ++ p ∷ ys ≡ us ++ q ∷ vs

@@ -1,12 +1,11 @@
 -- What comes right behind a held node, and right before it.
-use Rattle.lhm_ring.proofs.Names.{AllByRecursion, List, Option, Some, [], ap, arith, false, subst, sym, ℕ, ◌++◌, ◌∙◌, ◌∷◌, ◌≡◌, HasContent, IsOwned, IsRing}
-use Rattle.lhm_ring.proofs.Names.{listed, next_at, next_of, prev_at, prev_of, Cell, links_at, same_ptr, led_to, AtHeld, State}
-use Rattle.lhm_ring.proofs.Names.{first_at, last_at, Link, Links, Ptr, null_ptr}
-use Rattle.lhm_ring.proofs.{lists.Apart.IsFresh, lists.Apart.IsFresh-head, lists.Splits.SplitAround, lists.ForAll.AllByRecursion-left}
-use Rattle.lhm_ring.proofs.{lists.ForAll.AllByRecursion-right, lists.LinkRows.AreLinked-glued, lists.LinkRows.RowCut}
-use Rattle.lhm_ring.proofs.{lists.LinkRows.RowCut-linked, rings.FirstAndLast.first_at-led_to, rings.FirstAndLast.last_at-led_to}
-use Rattle.lhm_ring.proofs.{rings.Moves.AreLinked-row, rings.RingNodes.Found-held}
-use Rattle.lhm_ring.proofs.rings.RingNodes.{Seen}
+use Rattle.lhm_ring.proofs.Names.{AllByRecursion, List, Option, Some, [], ap, arith, false, subst, sym, ℕ, ◌++◌, ◌∙◌, ◌∷◌, ◌≡◌}
+use Rattle.lhm_ring.proofs.Names.{HasContent, IsOwned, IsRing, listed, next_at, next_of, prev_at, prev_of, Cell, links_at, same_ptr}
+use Rattle.lhm_ring.proofs.Names.{led_to, AtHeld, State, first_at, last_at, Link, Links, Ptr, null_ptr}
+use Rattle.lhm_ring.proofs.lists.{Apart.IsFresh, Apart.IsFresh-head, ForAll.AllByRecursion-left, ForAll.AllByRecursion-right}
+use Rattle.lhm_ring.proofs.lists.{LinkRows.AreLinked-glued, LinkRows.RowCut, LinkRows.RowCut-linked, Splits.SplitAround}
+use Rattle.lhm_ring.proofs.rings.{FirstAndLast.first_at-led_to, FirstAndLast.last_at-led_to, Moves.AreLinked-row, RingNodes.Found-held}
+use Rattle.lhm_ring.proofs.rings.{RingNodes.Seen}
 
 module _ {B : Type 0} {cs : List (Cell Links B)} {ps : List Ptr} {spare : Option Ptr}
     {ss : List Ptr} {p : Ptr} (ring : IsRing cs ps spare ss) (held : AllByRecursion (HasContent cs) ps) (s : SplitAround ps p) where

@@ -1,16 +1,15 @@
 -- The nodes are listed in the order of what the ring holds: what it takes to keep them so.
-use Rattle.lhm_ring.proofs.Names.{List, Some, [], ap, append-nil, arith, cond, false, length, length-append, refl, subst, suc, sym, true, ℕ, ◌++◌}
-use Rattle.lhm_ring.proofs.Names.{◌∙◌, ◌∷◌, ◌≡◌, HasContent, IsOwned, content_of, contents, holders, listed, one_of}
-use Rattle.lhm_ring.proofs.Names.{ring_cells, AreBlocks, AtCell, BeforeCell, Cell, IsApart, IsPlaceFor, Nodes, body_at, body_of, cell_at}
-use Rattle.lhm_ring.proofs.Names.{links_of, pointers, same_ptr, Link, Ends, Links, AllByRecursion, Ptr, null_ptr}
+use Rattle.lhm_ring.proofs.Names.{List, Some, [], ap, append-nil, arith, cond, false, length, length-append, refl, subst, suc, sym, true}
+use Rattle.lhm_ring.proofs.Names.{ℕ, ◌++◌, ◌∙◌, ◌∷◌, ◌≡◌, HasContent, IsOwned, content_of, contents, holders, listed, one_of, ring_cells}
+use Rattle.lhm_ring.proofs.Names.{AreBlocks, AtCell, BeforeCell, Cell, IsApart, IsPlaceFor, Nodes, body_at, body_of, cell_at, links_of}
+use Rattle.lhm_ring.proofs.Names.{pointers, same_ptr, Link, Ends, Links, AllByRecursion, Ptr, null_ptr}
 use Rattle.lhm_ring.proofs.lists.Apart.{IsApart-added, IsApart-removed, IsApart-tail, IsFresh, IsFresh-head, IsFresh-middle, IsFresh-null}
 use Rattle.lhm_ring.proofs.lists.Apart.{same_ptr-equal, same_ptr-flip}
-use Rattle.lhm_ring.proofs.lists.{ForAll.AllByRecursion-right, Last.first_from}
+use Rattle.lhm_ring.proofs.lists.{Cuts.pointers-alone, Cuts.same_ptr-fresh, ForAll.AllByRecursion-right, Last.first_from}
 use Rattle.lhm_ring.proofs.memory.NodeMoved.{Place, Place-for, cell_at-removed, rest}
-use Rattle.lhm_ring.proofs.rings.{Contents.Holds-content, Holders.AllByRecursion-holders, Holders.contents-listed, Holders.holders-middle, Holders.holders-rest}
-use Rattle.lhm_ring.proofs.rings.Lookup.{Cut, Cut-held, held_here}
+use Rattle.lhm_ring.proofs.rings.Holders.{AllByRecursion-holders, contents-listed, holders-middle, holders-rest}
+use Rattle.lhm_ring.proofs.rings.{Contents.Holds-content, Lookup.Cut, Lookup.Cut-held, Lookup.held_here}
 use Rattle.lhm_ring.specs.SameNodes.{IsOwned-alike}
-use Rattle.lhm_ring.proofs.lists.Cuts.{pointers-alone, same_ptr-fresh}
 
 module _ {L B : Type 0} where
   -- one of them may stand anywhere
@@ -50,7 +49,8 @@ module _ {B : Type 0} {cs : List (Cell Links B)} {p : Ptr} (k : Cut cs p) {b : B
       let j = Cut-held (rest k) q x body in
       let u = holders-middle j.split.before j.split.node j.split.after (held_here j body)
       ∙ ap (λ r. holders j.split.before ++ r ∷ holders j.split.after) j.split.at_is in
-      let i = pointers-alone (us ++ q ∷ vs) (holders j.split.before) (holders j.split.after) us vs q d (sym others ∙ ap holders j.split.is ∙ u) refl in
+      let i = pointers-alone (us ++ q ∷ vs) (holders j.split.before) (holders j.split.after) us vs q d (sym others
+      ∙ ap holders j.split.is ∙ u) refl in
       let at = holders-at (record {
         before = j.split.before;
         after = j.split.node ∷ j.split.after;
@@ -67,7 +67,8 @@ module _ {B : Type 0} {cs : List (Cell Links B)} {p : Ptr} (k : Cut cs p) {b : B
       → holders ds ≡ ahead ++ p ∷ behind
   holders-moved us vs ahead [] held d has cut is = holders-last is ahead (holders-rest k e us vs held d ∙ cut ∙ append-nil ahead)
   holders-moved us vs ahead (r ∷ rs) held d has cut is =
-      let here : HasContent cs r = (AllByRecursion-right (HasContent cs) ahead (r ∷ rs) (subst (AllByRecursion (HasContent cs)) cut has)).0 in
+      let here : HasContent cs r = (AllByRecursion-right (HasContent cs) ahead (r ∷ rs) (subst (AllByRecursion
+      (HasContent cs)) cut has)).0 in
       let body = Holds-content cs r here.1 in
       let other : same_ptr p r ≡ false =
       (AllByRecursion-right (λ x. same_ptr p x ≡ false) ahead (r ∷ rs) (subst (IsFresh p) cut (IsFresh-middle us p vs d))).0 in

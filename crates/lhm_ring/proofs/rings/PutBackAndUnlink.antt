@@ -1,34 +1,29 @@
 -- `put_back` and `unlink`: the ring after them, and from what their steps ensure.
 use Rattle.lhm_ring.proofs.Names.{List, None, Option, Some, [], ap, append_assoc, arith, false, length, length-append, refl, subst, suc}
-use Rattle.lhm_ring.proofs.Names.{sym, true, ℕ, ◌++◌, ◌+◌, ◌-◌, ◌<◌, ◌^◌, ◌∙◌, ◌∷◌, ◌≡◌, ◌≤◌, AreLinked, ChainsTo, IsJoined}
-use Rattle.lhm_ring.proofs.Names.{IsOwned, IsRing, IsSpareList, IsThere, chaining_to, content_at, content_of, link_at, link_of, listed}
-use Rattle.lhm_ring.proofs.Names.{next_at, prev_at, prev_of, ring_cells, Cell, Holds, IsApart, IsAt, body_at, is_block, links_at}
-use Rattle.lhm_ring.proofs.Names.{links_of, same_ptr, with_body, with_links, target, Held, IsHeld, State, held, Link, Ends, Links}
-use Rattle.lhm_ring.proofs.Names.{AllByRecursion, IsSome, Ptr, null_ptr}
-use Rattle.lhm_ring.proofs.lists.Apart.{IsApart-left, IsFresh, IsFresh-middle, same_ptr-reflexive}
-use Rattle.lhm_ring.proofs.lists.ForAll.{AllByRecursion-append, AllByRecursion-left, AllByRecursion-right}
-use Rattle.lhm_ring.proofs.lists.{Last.AllByRecursion-last, Options.Some-injective, Splits.SplitAround}
-use Rattle.lhm_ring.proofs.lists.LinkRows.{RowCut-linked, listed-append}
-use Rattle.lhm_ring.proofs.memory.OneNodeChanged.{AllByRecursion-there_other, AreLinked-other}
-use Rattle.lhm_ring.proofs.memory.OneNodeChanged.{IsSpareList-other, OnlyAt, OnlyAt-both, OnlyAt-with_body, OnlyAt-with_links}
-use Rattle.lhm_ring.proofs.memory.OneNodeChanged.{body_at-with_body, links_at-with_body, listed-other}
-use Rattle.lhm_ring.proofs.rings.{Joins.IsSpareList-unchanged, Joins.listed-unchanged, ReadAtPosition.content_at-held}
-use Rattle.lhm_ring.proofs.rings.Moves.{AllByRecursion-shifted, AreLinked-joined, IsApart-shifted, IsFresh-others, IsFresh-rest}
-use Rattle.lhm_ring.proofs.rings.{Contents.Holds-content, Contents.IsAt-content, Contents.pair-content}
-use Rattle.lhm_ring.proofs.rings.{Joins.AllByRecursion-there_unchanged, Joins.AreLinked-pushed}
-use Rattle.lhm_ring.proofs.rings.{Moves.IsFresh-spares, Moves.IsJoined-past, Moves.listed-one, RingCells.links_at-ring_cells}
-use Rattle.lhm_ring.proofs.rings.{RingCells.ring_cells-with_body, RingCells.ring_cells-with_links, RingNodes.CutAt, RingNodes.Found-held}
-use Rattle.lhm_ring.proofs.rings.{Writes.IsAt-there, Writes.links_at-with_links}
-use Rattle.lhm_ring.proofs.rings.Holders.{holders-cut, holders-empty, holders-filled, holders-with_links}
-use Rattle.lhm_ring.proofs.Names.{AtCell, BeforeCell, Nodes, append-nil, body_of, contents, holders, inl}
-use Rattle.lhm_ring.proofs.{lists.Apart.IsApart-inserted, lists.Apart.IsApart-removed, rings.HeldPointers.IsApart-owned}
-use Rattle.lhm_ring.proofs.rings.{Holders.holders-rest, Lookup.Cut, Lookup.Cut-held, Lookup.Cut-links_at, Lookup.held_here}
-use Rattle.lhm_ring.proofs.rings.{Order.IsOwned-moved, Order.contents-moved, Order.holders-last, RingCells.Holds-in_nodes}
+use Rattle.lhm_ring.proofs.Names.{sym, true, ℕ, ◌++◌, ◌+◌, ◌-◌, ◌<◌, ◌^◌, ◌∙◌, ◌∷◌, ◌≡◌, ◌≤◌, AreLinked, ChainsTo, IsJoined, IsOwned}
+use Rattle.lhm_ring.proofs.Names.{IsRing, IsSpareList, IsThere, chaining_to, content_at, content_of, link_at, link_of, listed, next_at}
+use Rattle.lhm_ring.proofs.Names.{prev_at, prev_of, ring_cells, Cell, Holds, IsApart, IsAt, body_at, is_block, links_at, links_of}
+use Rattle.lhm_ring.proofs.Names.{same_ptr, with_body, with_links, target, Held, IsHeld, State, held, Link, Ends, Links, AllByRecursion}
+use Rattle.lhm_ring.proofs.Names.{IsSome, Ptr, null_ptr, AtCell, BeforeCell, Nodes, append-nil, body_of, contents, holders, inl}
 use Rattle.lhm_ring.proofs.Names.{true≢false}
-use Rattle.lhm_ring.proofs.lists.Cuts.{same_ptr-fresh}
+use Rattle.lhm_ring.proofs.lists.Apart.{IsApart-inserted, IsApart-left, IsApart-removed, IsFresh, IsFresh-middle, same_ptr-reflexive}
+use Rattle.lhm_ring.proofs.lists.{Cuts.same_ptr-fresh, ForAll.AllByRecursion-append, ForAll.AllByRecursion-left}
+use Rattle.lhm_ring.proofs.lists.{ForAll.AllByRecursion-right, Last.AllByRecursion-last, LinkRows.RowCut-linked, LinkRows.listed-append}
+use Rattle.lhm_ring.proofs.lists.{Options.Some-injective, Splits.SplitAround}
+use Rattle.lhm_ring.proofs.memory.OneNodeChanged.{AllByRecursion-there_other, AreLinked-other, IsSpareList-other, OnlyAt, OnlyAt-both}
+use Rattle.lhm_ring.proofs.memory.OneNodeChanged.{OnlyAt-with_body, OnlyAt-with_links, body_at-with_body, links_at-with_body}
+use Rattle.lhm_ring.proofs.memory.OneNodeChanged.{listed-other}
+use Rattle.lhm_ring.proofs.rings.Holders.{holders-cut, holders-empty, holders-filled, holders-rest, holders-with_links}
+use Rattle.lhm_ring.proofs.rings.Joins.{AllByRecursion-there_unchanged, AreLinked-pushed, IsSpareList-unchanged, listed-unchanged}
+use Rattle.lhm_ring.proofs.rings.Lookup.{Cut, Cut-held, Cut-links_at, held_here}
+use Rattle.lhm_ring.proofs.rings.Moves.{AllByRecursion-shifted, AreLinked-joined, IsApart-shifted, IsFresh-others, IsFresh-rest}
+use Rattle.lhm_ring.proofs.rings.Moves.{IsFresh-spares, IsJoined-past, listed-one}
+use Rattle.lhm_ring.proofs.rings.RingCells.{Holds-in_nodes, links_at-ring_cells, ring_cells-with_body, ring_cells-with_links}
+use Rattle.lhm_ring.proofs.rings.{Contents.Holds-content, Contents.IsAt-content, Contents.pair-content, HeldPointers.IsApart-owned}
+use Rattle.lhm_ring.proofs.rings.{Order.IsOwned-moved, Order.contents-moved, Order.holders-last, ReadAtPosition.content_at-held}
+use Rattle.lhm_ring.proofs.rings.{RingNodes.CutAt, RingNodes.Found-held, RingNodes.Seen, Writes.IsAt-there, Writes.body_at-with_links}
+use Rattle.lhm_ring.proofs.rings.{Writes.links_at-with_links}
 use Rattle.std.proofs.lemmas.List.{map-id}
-use Rattle.lhm_ring.proofs.rings.Writes.{body_at-with_links}
-use Rattle.lhm_ring.proofs.rings.RingNodes.{Seen}
 
 -- the first spare node p is given links, a hash and a body, and comes last
 module _ {B : Type 0} {cs ds es fs : List (Cell Links B)} {ps : List Ptr} {spare : Option Ptr} {p : Ptr} {ss : List Ptr}
@@ -132,7 +127,8 @@ pub record Ready {B : Type 0} (cs : List (Cell Links B)) (ps : List Ptr) (p : Pt
   pub some : 0 < m
   pub seen : Seen cs ps m total v
 
-module _ {B : Type 0} {cs : List (Cell Links B)} {ps : List Ptr} {spare : Link} {n m : ℕ} {v : State B} {total : ℕ} (ok : IsOwned cs ps spare n m)
+module _ {B : Type 0} {cs : List (Cell Links B)} {ps : List Ptr} {spare : Link} {n m : ℕ} {v : State B} {total : ℕ}
+    (ok : IsOwned cs ps spare n m)
     (w : Seen cs ps m total v) (some : 0 < v.spares) where
   positive : 0 < m
   positive = subst (λ k. 0 < k) (sym w.spares) some
@@ -178,7 +174,8 @@ Filled-node e {nodes} t none b {l} el free nowhere {c₁} {c₂} is₁ is₂ =
       links = ea;
     }
 
-module _ {B : Type 0} {cs : List (Cell Links B)} {ps : List Ptr} {p : Ptr} {v : State B} {n m total : ℕ} (r : Ready cs ps p v n m total) where
+module _ {B : Type 0} {cs : List (Cell Links B)} {ps : List Ptr} {p : Ptr} {v : State B} {n m total : ℕ}
+    (r : Ready cs ps p v n m total) where
   pub IsAt-spare : IsAt cs p
   IsAt-spare = IsAt-there cs p (AllByRecursion-right (IsThere cs) ps (p ∷ r.others) r.ring.there.1).0
 
@@ -229,7 +226,8 @@ module _ {B : Type 0} {e : Ends} {nodes : List (Cell Links B)} {p : Ptr} {v : St
       let k = Cut-held nodes p x held in
       let free = (IsFresh-middle (null_ptr ∷ holders nodes) p r.others r.ring.apart).1 in
       let row = AllByRecursion-left (λ q. same_ptr p q ≡ false) (holders nodes) r.others free in
-      let at = same_ptr-fresh (λ (q : Ptr). q) p (holders k.split.before) p (holders k.split.after) (subst (IsFresh p) (sym (map-id _)) (subst (IsFresh p) (holders-cut k (held_here k held)) row)) in
+      let at = same_ptr-fresh (λ (q : Ptr). q) p (holders k.split.before) p (holders k.split.after) (subst (IsFresh p) (sym
+      (map-id _)) (subst (IsFresh p) (holders-cut k (held_here k held)) row)) in
       true≢false (sym (same_ptr-reflexive p) ∙ at)
 
   none_held : (o : Option B) → body_at nodes p ≡ o → o ≡ None
@@ -288,7 +286,8 @@ module _ {K V : Type 0} {e f : Ends} {nodes cs : List (Cell Links (K × V))} {p 
     IsApart-holders = subst IsApart (sym order) IsApart-last
 
 -- the node at p is joined past, gives its body up, and is the first spare one
-module _ {B : Type 0} {cs : List (Cell Links B)} {ps : List Ptr} {spare : Link} {n m : ℕ} {v : State B} {total : ℕ} (ok : IsOwned cs ps spare n m)
+module _ {B : Type 0} {cs : List (Cell Links B)} {ps : List Ptr} {spare : Link} {n m : ℕ} {v : State B} {total : ℕ}
+    (ok : IsOwned cs ps spare n m)
     (w : Seen cs ps m total v) {p : Ptr} (h : IsHeld v.held p) where
   abbrev pub found : CutAt cs ps h.before h.node h.after p
   found = Found-held ok w p h.before h.node h.after h.is h.at_is

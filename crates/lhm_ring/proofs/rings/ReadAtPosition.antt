@@ -1,9 +1,8 @@
 -- What is read at a held pointer.
-use Rattle.lhm_ring.proofs.Names.{List, Some, sym, ℕ, ◌≡◌, IsOwned, content_at, link_of, Cell, Holds, IsAt, body_at, links_at}
-use Rattle.lhm_ring.proofs.Names.{AtHeld, Held, IsHeld, State, Link, Links, Ptr}
+use Rattle.lhm_ring.proofs.Names.{List, Some, sym, ℕ, ◌≡◌, IsOwned, content_at, link_of, Cell, Holds, IsAt, body_at, links_at, AtHeld}
+use Rattle.lhm_ring.proofs.Names.{Held, IsHeld, State, Link, Links, Ptr}
 use Rattle.lhm_ring.proofs.rings.Contents.{Holds-content, IsAt-content, hash-content, link-content, pair-content}
-use Rattle.lhm_ring.proofs.rings.RingNodes.{Found-held}
-use Rattle.lhm_ring.proofs.rings.RingNodes.{Seen}
+use Rattle.lhm_ring.proofs.rings.{RingNodes.Found-held, RingNodes.Seen}
 
 module _ {B : Type 0} {cs : List (Cell Links B)} {ps : List Ptr} {spare : Link} {n m : ℕ} {v : State B} {total : ℕ}
     (ok : IsOwned cs ps spare n m) (w : Seen cs ps m total v) where

@@ -1,7 +1,7 @@
 -- Nodes with other bodies, of another type perhaps: their links stay, and each body is what `f`
 -- makes of the one before.
-use Rattle.lhm_ring.proofs.Names.{List, Option, Some, [], ap, cond, false, length, map, refl, suc, true, ◌∷◌, ◌≡◌}
-use Rattle.lhm_ring.proofs.Names.{Cell, body_at, body_of, cell, cell_at, links_at, links_of, pointers, same_ptr, Ptr}
+use Rattle.lhm_ring.proofs.Names.{List, Option, Some, [], ap, cond, false, length, map, refl, suc, true, ◌∷◌, ◌≡◌, Cell, body_at, body_of}
+use Rattle.lhm_ring.proofs.Names.{cell, cell_at, links_at, links_of, pointers, same_ptr, Ptr}
 use Rattle.lhm_ring.proofs.lists.{Apart.same_ptr-equal}
 
 module _ {B C : Type 0} (f : Ptr → Option B → Option C) where

@@ -1,11 +1,12 @@
 -- The nodes of a ring, and the one at null that stands for its ends.
 use Rattle.lhm_ring.proofs.Names.{List, None, Option, Some, [], ap, arith, cond, false, refl, subst, sym, true, ◌++◌, ◌∙◌, ◌∷◌, ◌≡◌}
-use Rattle.lhm_ring.proofs.Names.{AreLinked, ChainsTo, HasContent, IsJoined, IsOwned, IsRing, IsSpareList, IsThere, chaining_to, content_at}
-use Rattle.lhm_ring.proofs.Names.{content_of, contents, ends_links, has_links, holders, link_of, listed, next_at, one_of, prev_at, ring_cells, AreBlocks, Cell}
-use Rattle.lhm_ring.proofs.Names.{Holds, IsAt, body_at, body_of, cell, cell_at, change, is_block, links_at, links_of, pointers, same_ptr}
-use Rattle.lhm_ring.proofs.Names.{with_body, with_links, led_to, target, Link, Ends, Links, AllByRecursion, Ptr, block_ptr, null_ptr}
-use Rattle.lhm_ring.proofs.lists.{Apart.IsApart-added, Apart.IsApart-none, ForAll.AllByRecursion-map}
-use Rattle.lhm_ring.proofs.lists.Options.{Some-injective, none_some}
+use Rattle.lhm_ring.proofs.Names.{AreLinked, ChainsTo, HasContent, IsJoined, IsOwned, IsRing, IsSpareList, IsThere, chaining_to}
+use Rattle.lhm_ring.proofs.Names.{content_at, content_of, contents, ends_links, has_links, holders, link_of, listed, next_at, one_of}
+use Rattle.lhm_ring.proofs.Names.{prev_at, ring_cells, AreBlocks, Cell, Holds, IsAt, body_at, body_of, cell, cell_at, change, is_block}
+use Rattle.lhm_ring.proofs.Names.{links_at, links_of, pointers, same_ptr, with_body, with_links, led_to, target, Link, Ends, Links}
+use Rattle.lhm_ring.proofs.Names.{AllByRecursion, Ptr, block_ptr, null_ptr}
+use Rattle.lhm_ring.proofs.lists.{Apart.IsApart-added, Apart.IsApart-none, ForAll.AllByRecursion-map, Options.Some-injective}
+use Rattle.lhm_ring.proofs.lists.{Options.none_some}
 use Rattle.lhm_ring.proofs.rings.{Lookup.AllByRecursion-at, Writes.IsAt-there}
 use Rattle.lhm_ring.specs.SameNodes.{IsSpareList-same, SameLink}
 

@@ -1,9 +1,9 @@
 -- The nodes of a ring, what it lists, and where it is cut.
 use Rattle.lhm_ring.proofs.Names.{List, Option, Some, [], ap, arith, length, refl, subst, suc, sym, ℕ, ◌++◌, ◌+◌, ◌^◌, ◌∙◌, ◌∷◌, ◌≡◌, ◌≤◌}
-use Rattle.lhm_ring.proofs.Names.{HasContent, IsOwned, IsRing, content_at, listed, one_of, Cell, AtHeld, Held, IsHeld}
-use Rattle.lhm_ring.proofs.Names.{State, Link, Links, AllByRecursion, Ptr}
+use Rattle.lhm_ring.proofs.Names.{HasContent, IsOwned, IsRing, content_at, listed, one_of, Cell, AtHeld, Held, IsHeld, State, Link, Links}
+use Rattle.lhm_ring.proofs.Names.{AllByRecursion, Ptr}
 use Rattle.lhm_ring.proofs.lists.{ForAll.AllByRecursion-right, Splits.SplitAround}
-use Rattle.lhm_ring.proofs.rings.Contents.{at-content}
+use Rattle.lhm_ring.proofs.rings.{Contents.at-content}
 
 module _ {B : Type 0} where
   -- pointers, where what they hold is cut

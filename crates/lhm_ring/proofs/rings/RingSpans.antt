@@ -1,8 +1,10 @@
 -- What a ring holds is a span, from its front to its back.
-use Rattle.lhm_ring.proofs.Names.{List, [], ap, false, refl, subst, sym, ℕ, ◌++◌, ◌∙◌, ◌∷◌, ◌≡◌, AreLinked, HasEnds, IsOwned, IsSpan, contents, holders, last_of}
-use Rattle.lhm_ring.proofs.Names.{next_at, prev_at, ring_cells, Cell, same_ptr, Held, Link, Ends, Links, length, length-map, Ptr, null_ptr}
+use Rattle.lhm_ring.proofs.Names.{List, [], ap, false, refl, subst, sym, ℕ, ◌++◌, ◌∙◌, ◌∷◌, ◌≡◌, AreLinked, HasEnds, IsOwned, IsSpan}
+use Rattle.lhm_ring.proofs.Names.{contents, holders, last_of, next_at, prev_at, ring_cells, Cell, same_ptr, Held, Link, Ends, Links}
+use Rattle.lhm_ring.proofs.Names.{length, length-map, Ptr, null_ptr}
 use Rattle.lhm_ring.proofs.lists.{Apart.IsFresh, Apart.IsFresh-head, ForAll.AllByRecursion-left, Last.last_from, LinkRows.RowCut-linked}
-use Rattle.lhm_ring.proofs.rings.{HeldPointers.pointers_of, RingCells.AreLinked-in_nodes, RingCells.next_at-null, RingCells.prev_at-null, Spans.AreLinked-tail}
+use Rattle.lhm_ring.proofs.rings.{HeldPointers.pointers_of, RingCells.AreLinked-in_nodes, RingCells.next_at-null, RingCells.prev_at-null}
+use Rattle.lhm_ring.proofs.rings.{Spans.AreLinked-tail}
 
 module _ {B : Type 0} where
   last_from-last_of : (t : Held B) (hs : List (Held B)) → last_from t.at (pointers_of hs) ≡ last_of t hs

@@ -1,17 +1,16 @@
 -- A part of what nodes hold, each right after the one before: its first and its last, and what is left without them.
 use Rattle.lhm_ring.proofs.Names.{List, None, Some, [], ap, append-nil, append_assoc, arith, cond, length, length-append, map-append}
-use Rattle.lhm_ring.proofs.Names.{refl, subst, sym, take, ℕ, ◌++◌, ◌-◌, ◌∙◌, ◌∷◌, ◌≡◌, AreLinked, HasEnds, HasSpan, IsSpan, contents, content_at, content_of}
-use Rattle.lhm_ring.proofs.Names.{from_at, holders, last_of, link_of, listed, next_at, next_of, prev_at, prev_of, span, Cell, Holds, IsApart, IsAt, body_at}
-use Rattle.lhm_ring.proofs.Names.{cell, links_at, pointers, pointers-change, with_body, Held, held, triples, Links, Ptr}
-use Rattle.lhm_ring.proofs.lists.{Apart.IsApart-tail, Apart.IsFresh-head, Apart.IsFresh-middle, Apart.same_ptr-reflexive}
-use Rattle.lhm_ring.proofs.lists.{LinkRows.listed-append, Options.Some-injective}
-use Rattle.lhm_ring.proofs.memory.OneNodeChanged.{OnlyAt-with_body, links_at-with_body, listed-other}
-use Rattle.lhm_ring.proofs.rings.{Contents.Holds-content, Contents.IsAt-content, Ends.First, Ends.Last, Ends.Last-last_at}
-use Rattle.lhm_ring.proofs.rings.{HeldPointers.pointers_of, Lookup.Cut-held, Lookup.held_here, RingNodes.CutAt}
+use Rattle.lhm_ring.proofs.Names.{refl, subst, sym, take, ℕ, ◌++◌, ◌-◌, ◌∙◌, ◌∷◌, ◌≡◌, AreLinked, HasEnds, HasSpan, IsSpan, contents}
+use Rattle.lhm_ring.proofs.Names.{content_at, content_of, from_at, holders, last_of, link_of, listed, next_at, next_of, prev_at, prev_of}
+use Rattle.lhm_ring.proofs.Names.{span, Cell, Holds, IsApart, IsAt, body_at, cell, links_at, pointers, pointers-change, with_body, Held}
+use Rattle.lhm_ring.proofs.Names.{held, triples, Links, Ptr}
+use Rattle.lhm_ring.proofs.lists.Apart.{IsApart-tail, IsFresh-head, IsFresh-middle, same_ptr-reflexive}
+use Rattle.lhm_ring.proofs.lists.{Cuts.same_ptr-fresh, LinkRows.listed-append, Options.Some-injective}
+use Rattle.lhm_ring.proofs.memory.{OneNodeChanged.OnlyAt-with_body, OneNodeChanged.links_at-with_body, OneNodeChanged.listed-other}
 use Rattle.lhm_ring.proofs.rings.Holders.{AllByRecursion-holders, IsApart-holders, contents-listed, holders-emptied}
-use Rattle.lhm_ring.proofs.rings.RingNodes.{CutAt-listed}
+use Rattle.lhm_ring.proofs.rings.{Contents.Holds-content, Contents.IsAt-content, Ends.First, Ends.Last, Ends.Last-last_at}
+use Rattle.lhm_ring.proofs.rings.{HeldPointers.pointers_of, Lookup.Cut-held, Lookup.held_here, RingNodes.CutAt, RingNodes.CutAt-listed}
 use Rattle.lhm_ring.specs.SameNodes.{AreLinked-same}
-use Rattle.lhm_ring.proofs.lists.Cuts.{same_ptr-fresh}
 
 module _ {B : Type 0} (cs : List (Cell Links B)) where
   pub AreLinked-tail : (x : Ptr) (xs : List Ptr) → AreLinked cs (x ∷ xs) → AreLinked cs xs
@@ -50,7 +49,8 @@ module _ {B : Type 0} (cs : List (Cell Links B)) where
   last [] s some = absurd (some (sym s.count))
   last (t ∷ ts) {f} {b} {n} s some =
       let l = Last-last_at (t ∷ ts) {o = Some (last_of t ts)} refl (ap (λ p. Some p) s.ends.1) in
-      let r = but_last l.before l.node f b (subst (λ hs. AreLinked cs (pointers_of hs)) l.is s.linked) (subst (λ hs. HasEnds hs f b) l.is s.ends) in
+      let r = but_last l.before l.node f b (subst (λ hs. AreLinked cs (pointers_of hs)) l.is s.linked) (subst
+      (λ hs. HasEnds hs f b) l.is s.ends) in
       let e = ap length (sym l.is) ∙ s.count in (
         l,
         record {
@@ -140,7 +140,8 @@ module _ {B : Type 0} {cs : List (Cell Links B)} (d : IsApart (pointers cs)) whe
 
       content-last : content_at cs b ≡ Some (last cs s.part s.span some).0.node
       content-last = let t = (last cs s.part s.span some).0 in
-          content_at-contents cs d (s.before ++ t.before) t.node s.after (at_last ∙ sym (append_assoc s.before t.before (t.node ∷ s.after))) t.at_is
+          content_at-contents cs d (s.before ++ t.before) t.node s.after (at_last ∙ sym (append_assoc s.before t.before
+          (t.node ∷ s.after))) t.at_is
 
       pub IsAt-last : IsAt cs b
       IsAt-last = IsAt-content cs b content-last
@@ -188,7 +189,8 @@ module _ {B : Type 0} {cs : List (Cell Links B)} (d : IsApart (pointers cs)) {f 
   rest_of_first : contents (with_body f None cs) ≡ (first cs (contents cs) s some).0.after
   rest_of_first = let t = (first cs (contents cs) s some).0 in contents-emptied cs d [] t.node t.after t.is t.at_is
 
-  pub IsSpan-rest_of_first : {l : Links} {q : Ptr} → links_at cs f ≡ Some l → q ≡ l.next.ptr → IsSpan (with_body f None cs) (contents (with_body f None cs)) q b (n - 1)
+  pub IsSpan-rest_of_first : {l : Links} {q : Ptr} → links_at cs f ≡ Some l → q ≡ l.next.ptr → IsSpan (with_body f None cs) (contents
+      (with_body f None cs)) q b (n - 1)
   IsSpan-rest_of_first e is = let r = first cs (contents cs) s some in
       stays f e rest_of_first (subst (λ p. IsSpan cs r.0.after p b (n - 1)) (ap next_of e ∙ sym is) r.1)
 
@@ -200,12 +202,14 @@ module _ {B : Type 0} {cs : List (Cell Links B)} (d : IsApart (pointers cs)) {f 
   rest_of_last : contents (with_body b None cs) ≡ (last cs (contents cs) s some).0.before
   rest_of_last = let t = (last cs (contents cs) s some).0 in contents-emptied cs d t.before t.node [] t.is t.at_is ∙ append-nil t.before
 
-  pub IsSpan-rest_of_last : {l : Links} {q : Ptr} → links_at cs b ≡ Some l → q ≡ l.prev.ptr → IsSpan (with_body b None cs) (contents (with_body b None cs)) f q (n - 1)
+  pub IsSpan-rest_of_last : {l : Links} {q : Ptr} → links_at cs b ≡ Some l → q ≡ l.prev.ptr → IsSpan (with_body b None cs) (contents
+      (with_body b None cs)) f q (n - 1)
   IsSpan-rest_of_last e is = let r = last cs (contents cs) s some in
       stays b e rest_of_last (subst (λ p. IsSpan cs r.0.before f p (n - 1)) (ap prev_of e ∙ sym is) r.1)
 
   pub triples-last_taken : {l : Links} {x : B} → links_at cs b ≡ Some l → body_at cs b ≡ Some x
       → triples (contents cs) ≡ triples (contents (with_body b None cs)) ++ (l.hash, x) ∷ []
   triples-last_taken e h = let t = (last cs (contents cs) s some).0 in
-      ap triples (t.is ∙ (λ i. sym rest_of_last i ++ held-content cs b (content_at-contents cs d t.before t.node [] t.is t.at_is) e h i ∷ []))
+      ap triples (t.is ∙ (λ i. sym rest_of_last i ++ held-content cs b (content_at-contents cs d t.before t.node [] t.is t.at_is) e h i ∷
+      []))
       ∙ map-append (λ (t : Held B). (t.hash, t.pair)) (contents (with_body b None cs)) (held b _ _ _ ∷ [])

@@ -1,16 +1,18 @@
 -- All that a ring holds becomes spare.
 use Rattle.lhm_ring.proofs.Names.{List, [], ap, arith, false, subst, sym, ℕ, ◌++◌, ◌+◌, ◌∙◌, ◌∷◌, ◌≡◌, HasRow, IsRow, Nodes, SameButLinks}
 use Rattle.lhm_ring.proofs.Names.{SparesRow, StartsAt, onto, AreLinked, IsJoined, IsOwned, IsRing, IsSpan, contents, holders, listed}
-use Rattle.lhm_ring.proofs.Names.{IsSpareList, IsThere, ring_cells, Cell, None, cleared, has_links, length, link_of, links_at, next_of, prev_of, suc}
-use Rattle.lhm_ring.proofs.Names.{same_ptr, target, Held, Link, Ends, Links, AllByRecursion, Ptr, null_ptr}
-use Rattle.lhm_ring.proofs.lists.Apart.{IsApart-tail, IsFresh, IsFresh-head}
+use Rattle.lhm_ring.proofs.Names.{IsSpareList, IsThere, ring_cells, Cell, None, cleared, has_links, length, link_of, links_at, next_of}
+use Rattle.lhm_ring.proofs.Names.{prev_of, suc, same_ptr, target, Held, Link, Ends, Links, AllByRecursion, Ptr, null_ptr}
 use Rattle.lhm_ring.proofs.lists.ForAll.{AllByRecursion-always, AllByRecursion-left, AllByRecursion-map, AllByRecursion-right}
+use Rattle.lhm_ring.proofs.lists.{Apart.IsApart-tail, Apart.IsFresh, Apart.IsFresh-head}
 use Rattle.lhm_ring.proofs.rings.Joins.{AreLinked-unchanged, AreNeighbours-made, AvoidsSource-fresh, AvoidsTarget-fresh}
-use Rattle.lhm_ring.proofs.rings.{HeldPointers.pointers_of, Holders.holders-joined, Joins.IsSpareList-unchanged, Joins.listed-unchanged}
-use Rattle.lhm_ring.proofs.rings.{Order.contents-now, Rebodied.length-rebodied, Rebodied.links_at-rebodied, Spans.AreLinked-tail}
+use Rattle.lhm_ring.proofs.rings.Joins.{IsSpareList-unchanged, listed-unchanged}
 use Rattle.lhm_ring.proofs.rings.RingCells.{AllByRecursion-there_in_nodes, AreLinked-in_nodes, IsSpareList-in_nodes, IsSpareList-in_ring}
-use Rattle.lhm_ring.proofs.rings.{RingCells.is_there-null, RingCells.next_at-null, RingSpans.IsFresh-held, RingSpans.IsSpan-row, RingSpans.held_row}
+use Rattle.lhm_ring.proofs.rings.RingCells.{is_there-null, next_at-null}
 use Rattle.lhm_ring.proofs.rings.SpareRows.{AllByRecursion-onto, IsApart-onto, SameButLinks-in_ring, StartsAt-next, length-onto}
+use Rattle.lhm_ring.proofs.rings.{HeldPointers.pointers_of, Holders.holders-joined, Order.contents-now, Rebodied.length-rebodied}
+use Rattle.lhm_ring.proofs.rings.{Rebodied.links_at-rebodied, RingSpans.IsFresh-held, RingSpans.IsSpan-row, RingSpans.held_row}
+use Rattle.lhm_ring.proofs.rings.{Spans.AreLinked-tail}
 use Rattle.lhm_ring.specs.SameNodes.{AreLinked-same, IsSpareList-same, SameLink}
 
 -- all that a ring holds becomes spare

@@ -1,6 +1,6 @@
 -- Nodes are made on top of others.
-use Rattle.lhm_ring.proofs.Names.{List, None, Option, Some, ap, arith, length, refl, subst, suc, sym, zero, ℕ, ◌+◌, ◌^◌, ◌∙◌, ◌∷◌, ◌≡◌, ◌≤◌}
-use Rattle.lhm_ring.proofs.Names.{IsOwned, IsRing, IsStacked, contents, listed, ring_cells, AreBlocks, Cell, IsApart, cell, pointers}
+use Rattle.lhm_ring.proofs.Names.{List, None, Option, Some, ap, arith, length, refl, subst, suc, sym, zero, ℕ, ◌+◌, ◌^◌, ◌∙◌, ◌∷◌, ◌≡◌}
+use Rattle.lhm_ring.proofs.Names.{◌≤◌, IsOwned, IsRing, IsStacked, contents, listed, ring_cells, AreBlocks, Cell, IsApart, cell, pointers}
 use Rattle.lhm_ring.proofs.Names.{target, Link, Ends, Links, Ptr}
 use Rattle.lhm_ring.{proofs.lists.Apart.IsApart-tail, proofs.memory.NodeAdded.IsRing-added}
 use Rattle.lhm_ring.{proofs.memory.NodeAdded.listed-added, specs.declared.pointer.NodePointer.NodePointer}

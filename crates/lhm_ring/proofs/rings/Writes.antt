@@ -1,10 +1,10 @@
 -- What a write of links changes, and what it leaves.
-use Rattle.lhm_ring.proofs.Names.{Bool, List, None, Option, Some, [], ap, arith, cond, false, length, refl, subst, sym, true, ◌∙◌, ◌∷◌, ◌≡◌}
-use Rattle.lhm_ring.proofs.Names.{IsJoined, IsThere, LeadsBack, LeadsOn, content_at, content_of, has_links, is_there, leading_back}
+use Rattle.lhm_ring.proofs.Names.{Bool, List, None, Option, Some, [], ap, arith, cond, false, length, refl, subst, sym, true, ◌∙◌, ◌∷◌}
+use Rattle.lhm_ring.proofs.Names.{◌≡◌, IsJoined, IsThere, LeadsBack, LeadsOn, content_at, content_of, has_links, is_there, leading_back}
 use Rattle.lhm_ring.proofs.Names.{leading_on, link_of, next_of, prev_of, Cell, IsAt, body_at, body_of, cell, cell_at, change, links_at}
 use Rattle.lhm_ring.proofs.Names.{links_of, same_ptr, with_links, Link, Links, Ptr}
 use Rattle.lhm_ring.proofs.lists.{Apart.same_ptr-equal, Options.Some-injective, Options.none_some}
-use Rattle.lhm_ring.proofs.{rings.Holders.holders-with_links}
+use Rattle.lhm_ring.proofs.rings.{Holders.holders-with_links}
 
 pub cond-ap : {X Y : Type 0} (f : X → Y) (y : Bool) (u v : X) → f (cond y u v) ≡ cond y (f u) (f v)
 cond-ap f y u v = grind arith

@@ -1,13 +1,13 @@
 -- A table as a closure goes over its pairs and keeps some.
 use Rattle.lhm_ring.proofs.Names.{Bool, List, None, Option, Some, [], ap, append_assoc, arith, cond, false, length, map, refl, remove}
 use Rattle.lhm_ring.proofs.Names.{subst, sym, true, ℕ, ◌++◌, ◌<◌, ◌∙◌, ◌∷◌, ◌≡◌, Cell, IsApart, cell, change, same_ptr, with_body, AtHeld}
-use Rattle.lhm_ring.proofs.Names.{Held, IsHeld, State, change_at, first_at, revalued, CallsAt, RetainsAt, RetainsHeld, TableState, TakesAt}
-use Rattle.lhm_ring.proofs.Names.{WritesOnly, table_of, CallableOnEachPair, SomeCallAtPair, Ptr}
-use Rattle.lhm_ring.proofs.{indexes.Entries.EntriesCut-split, rings.Ends.First, rings.Ends.First-first_at}
-use Rattle.lhm_ring.proofs.lists.Apart.{IsApart-tail, IsFresh-head, same_ptr-reflexive}
-use Rattle.lhm_ring.proofs.rings.HeldPointers.{IsApart-without_node, pointers_of, pointers_of-append}
+use Rattle.lhm_ring.proofs.Names.{Held, IsHeld, State, change_at, first_at, revalued, CallsAt, RetainsAt, RetainsHeld, TableState}
+use Rattle.lhm_ring.proofs.Names.{TakesAt, WritesOnly, table_of, CallableOnEachPair, SomeCallAtPair, Ptr}
+use Rattle.lhm_ring.proofs.rings.{Ends.First, Ends.First-first_at, HeldPointers.IsApart-without_node, HeldPointers.pointers_of}
+use Rattle.lhm_ring.proofs.rings.{HeldPointers.pointers_of-append}
+use Rattle.lhm_ring.proofs.{indexes.Entries.EntriesCut-split}
+use Rattle.lhm_ring.proofs.lists.{Apart.IsApart-tail, Apart.IsFresh-head, Apart.same_ptr-reflexive, Cuts.same_ptr-fresh}
 use Rattle.lhm_ring.{proofs.tables.Positions.IsAt-split, proofs.tables.Positions.remove-append, specs.Positions.IsAt}
-use Rattle.lhm_ring.proofs.lists.Cuts.{same_ptr-fresh}
 
 -- how many are held from the one at a pointer on
 abbrev pub left_from : {B : Type 0} → Option Ptr → List (Held B) → ℕ

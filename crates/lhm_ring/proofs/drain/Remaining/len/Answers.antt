@@ -1,4 +1,4 @@
-use Rattle.lhm_ring.proofs.{Names.ap, Names.length, Names.length-map, Names.sym, Names.◌∙◌}
+use Rattle.lhm_ring.proofs.Names.{ap, length, length-map, sym, ◌∙◌}
 use Rattle.lhm_ring.proofs.drain.Remaining.len.Goals as goal
 
 pub returns : goal.returns

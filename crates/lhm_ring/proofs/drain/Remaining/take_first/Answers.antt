@@ -1,6 +1,7 @@
 use Rattle.lhm_ring.proofs.Names.{ap, nil_from_length, subst, sym, ◌-◌, ◌∙◌, ◌∷◌, with_bodies, IsSpan, contents, triples}
-use Rattle.lhm_ring.proofs.memory.NodesWithBodies.{IsApart-with_bodies, body_at-with_bodies, links_at-with_bodies, with_bodies-without_body}
-use Rattle.lhm_ring.proofs.rings.Spans.{Holds-first, IsAt-first, HasSpan-whole, IsSpan-rest_of_first, triples-first_taken}
+use Rattle.lhm_ring.proofs.memory.NodesWithBodies.{IsApart-with_bodies, body_at-with_bodies, links_at-with_bodies}
+use Rattle.lhm_ring.proofs.memory.NodesWithBodies.{with_bodies-without_body}
+use Rattle.lhm_ring.proofs.rings.Spans.{HasSpan-whole, Holds-first, IsAt-first, IsSpan-rest_of_first, triples-first_taken}
 use Rattle.lhm_ring.proofs.drain.Remaining.take_first.Goals as goal
 
 pub returns-then-self-eq0 : goal.returns-then-self-eq0
@@ -25,7 +26,8 @@ invariant_of-self g c =
     let left = ap (with_bodies cs) c.take-key.ensures.run ∙ with_bodies-without_body i.first.ptr run cs i.nodes.now.apart in
     let e = links_at-with_bodies cs run i.first.ptr ∙ c.links-links.ensures in
     subst (λ zs. IsSpan zs (contents zs) c.address-self-inside.result.ptr i.last.ptr (i.left - 1)) (sym left)
-    (IsSpan-rest_of_first (IsApart-with_bodies cs run i.nodes.now.apart) c.self.invariant c.if-self-eq0.false e c.address-self-inside.ensures)
+    (IsSpan-rest_of_first (IsApart-with_bodies cs run i.nodes.now.apart) c.self.invariant c.if-self-eq0.false e
+    c.address-self-inside.ensures)
 
 pub returns : goal.returns
 returns g c =

@@ -1,6 +1,6 @@
 use Rattle.lhm_ring.proofs.Names.{ap, sym, ◌∙◌, span}
-use Rattle.lhm_ring.proofs.rings.IteratorSteps.{Some-both}
-use Rattle.lhm_ring.proofs.rings.Spans.{Holds-last, IsAt-last, HasSpan-ahead_of_last, span-last}
+use Rattle.lhm_ring.proofs.rings.Spans.{HasSpan-ahead_of_last, Holds-last, IsAt-last, span-last}
+use Rattle.lhm_ring.proofs.rings.{IteratorSteps.Some-both}
 use Rattle.lhm_ring.proofs.iter.Iter.step_back.Goals as goal
 
 pub returns-then-self-eq0 : goal.returns-then-self-eq0

@@ -1,21 +1,23 @@
 -- `add` writes the links into the last unused place, which lies apart from the nodes. Assumes
 -- `Logic`.
-use Rattle.lhm_ring.proofs.Names.{List, None, T, [], ap, arith, ltb→lt, refl, subst, sym, true, ℕ, ◌*◌, ◌++◌, ◌+◌, ◌<◌, ◌^◌, ◌∙◌, ◌∷◌, ◌≡◌}
-use Rattle.lhm_ring.proofs.Names.{cell, fields_own, is_block, links_address, node_bytes, pointers, row, as_written, word, word-Good}
-use Rattle.lhm_ring.proofs.Names.{after, leaves, proved_at, flft, ftrue, full_share, SProp, fact, tables, usize, no, yes, layout, owns, Ptr}
-use Rattle.lhm_ring.proofs.Names.{block_ptr, lies_at, ptr_val, room_for, ◌+ₚ◌, plain, types_at, closes, heard, opens, Goes-dropped}
+use Rattle.lhm_ring.proofs.Names.{List, None, T, [], ap, arith, ltb→lt, refl, subst, sym, true, ℕ, ◌*◌, ◌++◌, ◌+◌, ◌<◌, ◌^◌, ◌∙◌, ◌∷◌}
+use Rattle.lhm_ring.proofs.Names.{◌≡◌, cell, fields_own, is_block, links_address, node_bytes, pointers, row, as_written, word, word-Good}
+use Rattle.lhm_ring.proofs.Names.{after, leaves, proved_at, flft, ftrue, full_share, SProp, fact, tables, usize, no, yes, layout, owns}
+use Rattle.lhm_ring.proofs.Names.{Ptr, block_ptr, lies_at, ptr_val, room_for, ◌+ₚ◌, plain, types_at, closes, heard, opens, Goes-dropped}
 use Rattle.lhm_ring.proofs.Names.{Goes-ref, Stays, stay_dropped, stay_ref, walk_of, inst_fn, w64, Val, vint, vptr, size, size-raw}
 use Rattle.lhm_ring.proofs.Names.{alloc_all, env, free_all, get, get_in, is, look_at, pass_all, sets, sets_last, through, !, at_ret, by}
-use Rattle.lhm_ring.proofs.Names.{drop, feq_i, feq_l, fjoin, fsplit, fsplit3, join, keep, move, qed, raw, rewrite, split, use0, use1, use2}
-use Rattle.lhm_ring.proofs.Names.{‵, ◌$◌, ◌∵◌, ◌⊛◌, agg, sub, whole, addr, and_then, assigns_last, bin, blocks, exec, first, fld, init}
-use Rattle.lhm_ring.proofs.Names.{no_more, of_opd, returns, size_lit, stop, count_by}
-use Rattle.lhm_ring.proofs.{lists.Apart.IsApart-added, lists.Apart.IsFresh, memory.Places.row-next, nodes.Nodes.add.Statement.statement}
-use Rattle.lhm_ring.proofs.memory.BlockValues.{fresh, pointer_made}
+use Rattle.lhm_ring.proofs.Names.{drop, feq_i, feq_l, fjoin, fsplit, fsplit3, join, keep, move, qed, raw, rewrite, split, use0, use1}
+use Rattle.lhm_ring.proofs.Names.{use2, ‵, ◌$◌, ◌∵◌, ◌⊛◌, agg, sub, whole, addr, and_then, assigns_last, bin, blocks, exec, first, fld}
+use Rattle.lhm_ring.proofs.Names.{init, no_more, of_opd, returns, size_lit, stop, count_by}
+use Rattle.lhm_ring.proofs.lists.{Apart.IsApart-added, Apart.IsFresh}
 use Rattle.lhm_ring.proofs.memory.ChunkPlaces.{Places, land_cut, land_glue, places_cut}
 use Rattle.lhm_ring.proofs.memory.NodeFields.{Cells, Land, Nr, Pl, RK, RL, RV, Three, alone, args, lo, three_rows, value_in, word-pointer}
 use Rattle.lhm_ring.proofs.memory.PlaceCut.{Rejoins, block, block_cut, written}
 use Rattle.lhm_ring.proofs.memory.Places.{AreBlocks-row_other, block_ptr-in_block, is_block-row_first, is_block-row_last, row-last}
+use Rattle.lhm_ring.proofs.memory.Places.{row-next}
 use Rattle.lhm_ring.proofs.memory.Steps.{knows, runs_with, self_left, states, states_also, tokens}
+use Rattle.lhm_ring.proofs.memory.{BlockValues.fresh, BlockValues.pointer_made}
+use Rattle.lhm_ring.proofs.{nodes.Nodes.add.Statement.statement}
 use Rattle.lhm_ring.specs.contracts.nodes.Nodes.add.{clauses, ended, Key.name as #self}
 use denote.Param.Laws.{param_laws}
 use Rattle.lhm_ring.proofs.nodes.Nodes.add.Code as code

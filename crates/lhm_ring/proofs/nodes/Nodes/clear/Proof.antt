@@ -2,13 +2,14 @@
 use Rattle.lhm_ring.proofs.Names.{List, [], ap, append-nil, count_by, refl, true, ℕ, ◌++◌, ◌∷◌, ◌≡◌, is_block, node_bytes, places}
 use Rattle.lhm_ring.proofs.Names.{pointers, leaves, proved_at, flft, ftrue, SProp, emp, fact, tables, owns, Ptr, plain, types_at, closes}
 use Rattle.lhm_ring.proofs.Names.{opens, Goes-ref, Stays, stay_ref, walk_of, inst_fn, Val, vptr, vunit, alloc_all, free_all, look_at}
-use Rattle.lhm_ring.proofs.Names.{pass_all, sets, !, by, feq_i, feq_l, fjoin, fsplit, fsplit3, join, keep, move, qed, raw, split}
-use Rattle.lhm_ring.proofs.Names.{use1, use2, ‵, ◌$◌, ◌∵◌, ◌⊛◌, of_opd, returns, unit_lit}
-use Rattle.lhm_ring.proofs.{lists.Apart.IsApart-none, lists.ForAll.AllByRecursion-append, nodes.Nodes.clear.Statement.statement}
+use Rattle.lhm_ring.proofs.Names.{pass_all, sets, !, by, feq_i, feq_l, fjoin, fsplit, fsplit3, join, keep, move, qed, raw, split, use1}
+use Rattle.lhm_ring.proofs.Names.{use2, ‵, ◌$◌, ◌∵◌, ◌⊛◌, of_opd, returns, unit_lit}
+use Rattle.lhm_ring.proofs.lists.{Apart.IsApart-none, ForAll.AllByRecursion-append}
+use Rattle.lhm_ring.proofs.{nodes.Nodes.clear.Statement.statement}
 use Rattle.lhm_ring.proofs.memory.ChunkPlaces.{Places, cells_emptied, land_cut, places_glue}
 use Rattle.lhm_ring.proofs.memory.NodeFields.{Cells, Land, Nr, RK, RL, RV, Three, args, three_rows}
-use Rattle.lhm_ring.proofs.memory.PlacesRearranged.{AreBlocks-IsRearranged, places_rearranged}
 use Rattle.lhm_ring.proofs.memory.Steps.{runs_with, self_left, states, states_also, tokens}
+use Rattle.lhm_ring.proofs.memory.{PlacesRearranged.AreBlocks-IsRearranged, PlacesRearranged.places_rearranged}
 use Rattle.lhm_ring.specs.contracts.nodes.Nodes.clear.{clauses, ended, Key.name as #self}
 use Rattle.lhm_ring.proofs.nodes.Nodes.clear.Code as code
 

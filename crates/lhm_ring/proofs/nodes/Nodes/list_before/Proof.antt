@@ -1,13 +1,14 @@
 -- `list_before` lists a node at another place: what is owned is the same. Assumes `Logic`.
-use Rattle.lhm_ring.proofs.Names.{List, [], refl, ℕ, ◌++◌, ◌∷◌, ◌≡◌, AtCell, BeforeCell, IsAt, IsPlaceFor, word, word-Good}
-use Rattle.lhm_ring.proofs.Names.{leaves, proved_at, flft, SProp, fact, tables, yes, owns, Ptr, plain, types_at, closes, heard, opens}
+use Rattle.lhm_ring.proofs.Names.{List, [], refl, ℕ, ◌++◌, ◌∷◌, ◌≡◌, AtCell, BeforeCell, IsAt, IsPlaceFor, word, word-Good, leaves}
+use Rattle.lhm_ring.proofs.Names.{proved_at, flft, SProp, fact, tables, yes, owns, Ptr, plain, types_at, closes, heard, opens}
 use Rattle.lhm_ring.proofs.Names.{Goes-dropped, Goes-ref, Stays, stay_dropped, stay_ref, walk_of, inst_fn, Val, vptr, vunit, alloc_all}
 use Rattle.lhm_ring.proofs.Names.{free_all, look_at, pass_all, sets, !, by, feq_i, fjoin, fsplit, fsplit3, join, keep, move, qed, raw}
 use Rattle.lhm_ring.proofs.Names.{split, use1, ‵, ◌$◌, ◌∵◌, ◌⊛◌, of_opd, returns, unit_lit}
 use Rattle.lhm_ring.proofs.memory.NodeFields.{Cells, Land, Nr, Pl, RK, RL, RV, Three, args, three_rows, word-pointer}
 use Rattle.lhm_ring.proofs.memory.NodeMoved.{AtCell-moved, Place, Place-for, listed_before, moved, nodes_elsewhere, rest}
 use Rattle.lhm_ring.proofs.memory.Steps.{runs_with, self_left, states, states_also, tokens}
-use Rattle.lhm_ring.proofs.{nodes.Nodes.list_before.Statement.statement, rings.Lookup.Cut, rings.Lookup.Cut-links_at}
+use Rattle.lhm_ring.proofs.rings.{Lookup.Cut, Lookup.Cut-links_at}
+use Rattle.lhm_ring.proofs.{nodes.Nodes.list_before.Statement.statement}
 use Rattle.lhm_ring.specs.contracts.nodes.Nodes.list_before.{clauses, ended, Key.name as #self}
 use Rattle.lhm_ring.proofs.nodes.Nodes.list_before.Code as code
 
@@ -51,7 +52,8 @@ list_before_spec 𝓤 𝓛 𝓜 𝓡 wired L K V LL LK LV =
     sets ! (of_opd ! (unit_lit !)) refl (tt, tt) $
     self_left ! 2 are.0.0 $ move ! (1 ∷ 2 ∷ []) $ join ! $
     states ! ((h.unused ≡ h.unused) × (h.chunks ≡ h.chunks)) (refl, refl) $
-    states_also ! (AtCell h.cells p (λ xs c ys. BeforeCell (xs ++ ys) q (λ us vs. moved h k j ≡ us ++ c ∷ vs))) (AtCell-moved k j h.apart h.blocks) $
+    states_also ! (AtCell h.cells p (λ xs c ys. BeforeCell (xs ++ ys) q (λ us vs. moved h k j ≡ us ++ c ∷ vs)))
+    (AtCell-moved k j h.apart h.blocks) $
     feq_i ! (List Val) (vunit ∷ []) (vunit ∷ []) refl $
     returns ! (look_at ! 0 refl) $ free_all ! refl $ keep ! (2 ∷ 3 ∷ 0 ∷ 1 ∷ []) $ by !
     (leaves 𝓛 En hs c y vunit tt (h', (tt, (tt, tt))) (tt, (tt, (tt, tt)))))))))

@@ -6,17 +6,18 @@ use Rattle.lhm_ring.proofs.Names.{type_size, flft, froom, fwand, SProp, apply∗
 use Rattle.lhm_ring.proofs.Names.{RattleType, owns, Ptr, block_ptr, in_a_block, ptr_val, room_for, ◌+ₚ◌, plain, types_at, closes, heard}
 use Rattle.lhm_ring.proofs.Names.{opens, as_fields, Goes-dropped, Goes-ref, Stays, stay_dropped, stay_ref, walk_of, inst_fn, Args, Ty}
 use Rattle.lhm_ring.proofs.Names.{a_type, tcons, tnil, ty_array, ty_int, ty_ptr, ty_struct, w64, Val, vcons, vint, vnil, vptr, vstruct}
-use Rattle.lhm_ring.proofs.Names.{size, size-raw, alloc_all, env, free_all, get, get_in, !, is, look_at, pass_all, sets, sets_last, through}
-use Rattle.lhm_ring.proofs.Names.{at_ret, by, feq_i, feq_l, fjoin, fjoin3, flt_i, fpick, fsplit, fsplit3, join, keep, move, qed, raw}
-use Rattle.lhm_ring.proofs.Names.{rewrite, split, use0, use1, use2, ‵, ◌$◌, ◌∵◌, ◌⊛◌, sem, agg, look_in, sub, whole, and_then, blocks, exec}
-use Rattle.lhm_ring.proofs.Names.{first, fld, load, no_more, of_opd, returns, stop, IsRearranged}
-use Rattle.lhm_ring.proofs.{lists.Apart.IsApart-none, lists.ForAll.AllByRecursion-right, nodes.Nodes.pop_chunk.Statement.statement}
+use Rattle.lhm_ring.proofs.Names.{size, size-raw, alloc_all, env, free_all, get, get_in, !, is, look_at, pass_all, sets, sets_last}
+use Rattle.lhm_ring.proofs.Names.{through, at_ret, by, feq_i, feq_l, fjoin, fjoin3, flt_i, fpick, fsplit, fsplit3, join, keep, move, qed}
+use Rattle.lhm_ring.proofs.Names.{raw, rewrite, split, use0, use1, use2, ‵, ◌$◌, ◌∵◌, ◌⊛◌, sem, agg, look_in, sub, whole, and_then}
+use Rattle.lhm_ring.proofs.Names.{blocks, exec, first, fld, load, no_more, of_opd, returns, stop, IsRearranged}
+use Rattle.lhm_ring.proofs.lists.{Apart.IsApart-none, ForAll.AllByRecursion-right}
+use Rattle.lhm_ring.proofs.{nodes.Nodes.pop_chunk.Statement.statement}
 use Rattle.lhm_ring.proofs.memory.BlockValues.{BlockFields, BlockType, block_Good, block_made, block_val, pointer_made}
 use Rattle.lhm_ring.proofs.memory.ChunkPlaces.{Chunks, Places, array_glue, places_cut}
-use Rattle.lhm_ring.proofs.memory.{Lodging.three_made, PlaceCut.block, Places.places-head}
 use Rattle.lhm_ring.proofs.memory.NodeFields.{Cells, Land, Node, Nr, Pl, RK, RL, RV, Three, three_rows, word-pointer}
-use Rattle.lhm_ring.proofs.memory.PlacesRearranged.{AreBlocks-IsRearranged, places_rearranged}
 use Rattle.lhm_ring.proofs.memory.Steps.{runs_with, self_left, states, states_also, tokens}
+use Rattle.lhm_ring.proofs.memory.{Lodging.three_made, PlaceCut.block, Places.places-head, PlacesRearranged.AreBlocks-IsRearranged}
+use Rattle.lhm_ring.proofs.memory.{PlacesRearranged.places_rearranged}
 use Rattle.lhm_ring.specs.{Nodes.parts_own, contracts.nodes.ChunkUnit.the_row as unit}
 use Rattle.lhm_ring.specs.contracts.nodes.Nodes.pop_chunk.{clauses, ended, Key.name as #self}
 use Rattle.std.specs.contracts.impls.GlobalAllocator.TheImpl.{ghosts}

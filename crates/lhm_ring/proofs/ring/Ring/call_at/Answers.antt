@@ -1,8 +1,8 @@
 use Rattle.lhm_ring.proofs.Names.{None, Some, ap, refl, subst, ◌∙◌, links_at, with_body, pair, revalued, state, CalledAtPair}
 use Rattle.lhm_ring.proofs.memory.{OneNodeChanged.links_at-with_body, Places.IsLaid-same}
-use Rattle.lhm_ring.proofs.{rings.ContentChange.ChangesOnly-held, tables.Retained.with_body-twice}
 use Rattle.lhm_ring.proofs.rings.Insides.{Holds-inside, IsAt-inside, IsOwned-written, contents-set, pair-inside, seen}
-use Rattle.lhm_ring.proofs.rings.Insides.{seen}
+use Rattle.lhm_ring.proofs.rings.{ContentChange.ChangesOnly-held}
+use Rattle.lhm_ring.proofs.{tables.Retained.with_body-twice}
 use Rattle.lhm_ring.proofs.ring.Ring.call_at.Goals as goal
 
 pub take-key-requires : goal.take-key-requires

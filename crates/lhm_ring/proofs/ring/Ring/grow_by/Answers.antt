@@ -1,7 +1,8 @@
-use Rattle.lhm_ring.proofs.Names.{ap, arith, length, max, refl, subst, sym, ◌+◌, ◌<◌, ◌∙◌, ◌≡◌, IsOwned, contents, holders, ring_cells, Chunk}
-use Rattle.lhm_ring.proofs.rings.{HeldPointers.pointers_of, Stacking.IsOwned-raised, Stacking.IsOwned-stacked, Stacking.contents-stacked}
-use Rattle.lhm_ring.proofs.{Names.chunk, memory.Places.IsLaid-grown, memory.Places.length-made, rings.Insides.counts-seen}
-use Rattle.lhm_ring.proofs.{rings.NodesGrown.nodes_grown-fewer}
+use Rattle.lhm_ring.proofs.Names.{ap, arith, length, max, refl, subst, sym, ◌+◌, ◌<◌, ◌∙◌, ◌≡◌, IsOwned, contents, holders, ring_cells}
+use Rattle.lhm_ring.proofs.Names.{Chunk, chunk}
+use Rattle.lhm_ring.proofs.rings.{HeldPointers.pointers_of, Insides.counts-seen, NodesGrown.nodes_grown-fewer, Stacking.IsOwned-raised}
+use Rattle.lhm_ring.proofs.rings.{Stacking.IsOwned-stacked, Stacking.contents-stacked}
+use Rattle.lhm_ring.proofs.memory.{Places.IsLaid-grown, Places.length-made}
 use Rattle.lhm_ring.proofs.ring.Ring.grow_by.Goals as goal
 
 pub overflow_sub-missing : goal.overflow_sub-missing

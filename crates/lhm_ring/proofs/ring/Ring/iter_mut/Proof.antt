@@ -1,18 +1,20 @@
 -- `iter_mut` shares the ring as one of holes, and lends the values. Assumes `Logic`.
-use Rattle.lhm_ring.proofs.Names.{subst, with_values, Incl-trans, parts_share, Goes-spent_ref, stay_dropped, takes_beside, Body as Borrowed}
-use Rattle.lhm_ring.proofs.Names.{AreLent, ValueLoan, proved_at, Incl-refl, plain_out, view_owns, named_lft, types_at, alloc_all, sets_last}
-use Rattle.lhm_ring.proofs.Names.{ℕ, spread, leaves, tables, inst_fn, vstruct, look_at, through, fsplit3, no_more, returns, List, refl}
-use Rattle.lhm_ring.proofs.Names.{◌++◌, fbor, flft, fobs, fact, hide, owns, vnil, vptr, sets, later, split, Logic, first, SemTy, sym, ◌∷◌}
-use Rattle.lhm_ring.proofs.Names.{◌≡◌, Fml, Lft, emp, ent, drop, join, keep, move, pick, some, use0, use1, use2, addr, exec, stop}
-use Rattle.lhm_ring.proofs.Names.{held_left, loan_name, full_share, follows_by, follows_if, view-Hides, RattleType, mut_ref_to, State}
-use Rattle.lhm_ring.proofs.Names.{Links, after, GName, fseps, ftrue, ShrRef, framed, a_type, at_ret, fsplit, split3, blocks, of_opd}
-use Rattle.lhm_ring.proofs.Names.{follows, part_at, layouts, nothing, calls_at, walk_of, free_all, lands_as, pass_all, open_ref, and_then}
-use Rattle.lhm_ring.proofs.Names.{SProp, Array, param, plain, heard, peeks, Lasts, lasts, Stays, named, vcons, await, feq_i, fjoin, group}
-use Rattle.lhm_ring.proofs.Names.{KeepsAllButValues, [], id⊢, ◌⊑◌, no, mem, Bor, Val, Ura, env, get, !, by, qed, raw, ‵, ◌$◌, ◌∵◌, ◌⊛◌, sem, agg}
-use Rattle.lhm_ring.proofs.memory.{NodeFields.marker, NodeFields.struct_made, ValuesInOrder.run_of, ValuesInOrder.unvalued-set_held_values}
+use Rattle.lhm_ring.proofs.Names.{subst, with_values, Incl-trans, parts_share, Goes-spent_ref, stay_dropped, takes_beside}
+use Rattle.lhm_ring.proofs.Names.{Body as Borrowed, AreLent, ValueLoan, proved_at, Incl-refl, plain_out, view_owns, named_lft, types_at}
+use Rattle.lhm_ring.proofs.Names.{alloc_all, sets_last, ℕ, spread, leaves, tables, inst_fn, vstruct, look_at, through, fsplit3, no_more}
+use Rattle.lhm_ring.proofs.Names.{returns, List, refl, ◌++◌, fbor, flft, fobs, fact, hide, owns, vnil, vptr, sets, later, split, Logic}
+use Rattle.lhm_ring.proofs.Names.{first, SemTy, sym, ◌∷◌, ◌≡◌, Fml, Lft, emp, ent, drop, join, keep, move, pick, some, use0, use1, use2}
+use Rattle.lhm_ring.proofs.Names.{addr, exec, stop, held_left, loan_name, full_share, follows_by, follows_if, view-Hides, RattleType}
+use Rattle.lhm_ring.proofs.Names.{mut_ref_to, State, Links, after, GName, fseps, ftrue, ShrRef, framed, a_type, at_ret, fsplit, split3}
+use Rattle.lhm_ring.proofs.Names.{blocks, of_opd, follows, part_at, layouts, nothing, calls_at, walk_of, free_all, lands_as, pass_all}
+use Rattle.lhm_ring.proofs.Names.{open_ref, and_then, SProp, Array, param, plain, heard, peeks, Lasts, lasts, Stays, named, vcons, await}
+use Rattle.lhm_ring.proofs.Names.{feq_i, fjoin, group, KeepsAllButValues, [], id⊢, ◌⊑◌, no, mem, Bor, Val, Ura, env, get, !, by, qed, raw}
+use Rattle.lhm_ring.proofs.Names.{‵, ◌$◌, ◌∵◌, ◌⊛◌, sem, agg}
 use Rattle.lhm_ring.proofs.memory.Steps.{all_spent, runs_with, states, states_also, tokens}
-use Rattle.lhm_ring.proofs.memory.ValuesSplitOff.{AreLent-held, Fields, Full, Inside, LoanMarker, Sharable-unvalued, Thinned, Vals}
-use Rattle.lhm_ring.proofs.memory.ValuesSplitOff.{back, good, held_by, loan_made, parts, places, ring_cut, thin_shape, thinned, vals, view}
+use Rattle.lhm_ring.proofs.memory.ValuesSplitOff.{AreLent-held, Fields, Full, Inside, LoanMarker, Sharable-unvalued, Thinned, Vals, back}
+use Rattle.lhm_ring.proofs.memory.ValuesSplitOff.{good, held_by, loan_made, parts, places, ring_cut, thin_shape, thinned, vals, view}
+use Rattle.lhm_ring.proofs.memory.{NodeFields.marker, NodeFields.struct_made, ValuesInOrder.run_of}
+use Rattle.lhm_ring.proofs.memory.{ValuesInOrder.unvalued-set_held_values}
 use Rattle.lhm_ring.specs.contracts.ring.Ring.iter_mut.{clauses, ended, Key.name as #self}
 use Rattle.lhm_ring.{proofs.ring.Ring.iter_mut.Statement.statement, specs.declared.iter_mut.LentValues.LentValues}
 use denote.{Laws.Is, Laws.shows, Param.Laws.param_laws, Triple.Spec.triple_of}

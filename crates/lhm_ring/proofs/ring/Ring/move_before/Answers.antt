@@ -1,9 +1,10 @@
 use Rattle.lhm_ring.proofs.Names.{refl, ◌∙◌, IsHeld}
-use Rattle.lhm_ring.proofs.{memory.Places.IsLaid-same, rings.Moves.is_there-next, rings.Moves.is_there-previous, rings.Moves.listed-own}
-use Rattle.lhm_ring.proofs.rings.{HeldPointers.IsApart-held, Insides.IsAt-inside, RingCells.links_at-ring_cells}
-use Rattle.lhm_ring.proofs.rings.Moves.{AtHeld-before, IfSome-pointer, IsOwned-before, is_there-before, is_there-moved, is_there-neighbours}
-use Rattle.lhm_ring.proofs.rings.Moves.{AllByRecursion-moved, Holds-moved, IsPlaceFor-next, cut_moved, holders-placed}
-use Rattle.lhm_ring.proofs.rings.{Insides.seen, Lookup.IsAt-holds, Order.IsOwned-moved, Order.contents-moved, RingNodes.NodeAt-held}
+use Rattle.lhm_ring.proofs.memory.{Places.IsLaid-same}
+use Rattle.lhm_ring.proofs.rings.Moves.{AllByRecursion-moved, AtHeld-before, Holds-moved, IfSome-pointer, IsOwned-before, IsPlaceFor-next}
+use Rattle.lhm_ring.proofs.rings.Moves.{cut_moved, holders-placed, is_there-before, is_there-moved, is_there-neighbours, is_there-next}
+use Rattle.lhm_ring.proofs.rings.Moves.{is_there-previous, listed-own}
+use Rattle.lhm_ring.proofs.rings.{HeldPointers.IsApart-held, Insides.IsAt-inside, Insides.seen, Lookup.IsAt-holds, Order.IsOwned-moved}
+use Rattle.lhm_ring.proofs.rings.{Order.contents-moved, RingCells.links_at-ring_cells, RingNodes.NodeAt-held}
 use Rattle.lhm_ring.proofs.ring.Ring.move_before.Goals as goal
 
 pub links-links-requires : goal.links-links-requires
@@ -20,7 +21,8 @@ prev_of-previous-requires g c =
     let i = c.self.inside in let p = c.args.at.pointer.ptr in
     let e = links_at-ring_cells i.ends i.nodes.cells p c.args.at.block ∙ c.links-links.ensures in
     let there = IfSome-pointer (IsHeld c.args.self.now.held) c.args.before c.requires.before in
-    is_there-before c.self.invariant.ring (seen c.self.inside c.self.invariant c.self.view_is) p e c.join.ensures.joined c.requires.at c.of-place.result.ptr
+    is_there-before c.self.invariant.ring (seen c.self.inside c.self.invariant c.self.view_is) p e c.join.ensures.joined c.requires.at
+    c.of-place.result.ptr
     c.of-place.ensures there
 
 pub next_of-next-requires : goal.next_of-next-requires
@@ -28,7 +30,8 @@ next_of-next-requires g c =
     let i = c.self.inside in let p = c.args.at.pointer.ptr in
     let e = links_at-ring_cells i.ends i.nodes.cells p c.args.at.block ∙ c.links-links.ensures in
     let there = IfSome-pointer (IsHeld c.args.self.now.held) c.args.before c.requires.before in
-    is_there-previous c.self.invariant.ring (seen c.self.inside c.self.invariant c.self.view_is) p e c.join.ensures.joined c.requires.at c.of-place.result.ptr
+    is_there-previous c.self.invariant.ring (seen c.self.inside c.self.invariant c.self.view_is) p e c.join.ensures.joined c.requires.at
+    c.of-place.result.ptr
     c.of-place.ensures there
     c.prev_of-previous.ensures
 
@@ -38,9 +41,11 @@ join-requires-2 g c =
     let e = links_at-ring_cells i.ends i.nodes.cells p c.args.at.block ∙ c.links-links.ensures in
     let there = IfSome-pointer (IsHeld c.args.self.now.held) c.args.before c.requires.before in
     let ok = c.self.invariant.ring in (
-      is_there-previous ok (seen i c.self.invariant c.self.view_is) p e c.join.ensures.joined c.requires.at c.of-place.result.ptr c.of-place.ensures there
+      is_there-previous ok (seen i c.self.invariant c.self.view_is) p e c.join.ensures.joined c.requires.at c.of-place.result.ptr
+          c.of-place.ensures there
           c.prev_of-previous.ensures,
-      is_there-moved ok (seen i c.self.invariant c.self.view_is) p e c.join.ensures.joined c.requires.at c.to-moved.result.ptr c.to-moved.ensures,
+      is_there-moved ok (seen i c.self.invariant c.self.view_is) p e c.join.ensures.joined c.requires.at c.to-moved.result.ptr
+          c.to-moved.ensures,
     )
 
 pub join-requires-3 : goal.join-requires-3
@@ -50,9 +55,11 @@ join-requires-3 g c =
     let there = IfSome-pointer (IsHeld c.args.self.now.held) c.args.before c.requires.before in
     let ok = c.self.invariant.ring in (
       c.join-2.ensures.joined.there c.to-moved.result.ptr
-          ∙ is_there-moved ok (seen i c.self.invariant c.self.view_is) p e c.join.ensures.joined c.requires.at c.to-moved.result.ptr c.to-moved.ensures,
+          ∙ is_there-moved ok (seen i c.self.invariant c.self.view_is) p e c.join.ensures.joined c.requires.at c.to-moved.result.ptr
+          c.to-moved.ensures,
       c.join-2.ensures.joined.there c.next_of-next.result.ptr
-          ∙ is_there-next ok (seen i c.self.invariant c.self.view_is) p e c.join.ensures.joined c.requires.at c.of-place.result.ptr c.of-place.ensures there
+          ∙ is_there-next ok (seen i c.self.invariant c.self.view_is) p e c.join.ensures.joined c.requires.at c.of-place.result.ptr
+          c.of-place.ensures there
           c.prev_of-previous.ensures c.next_of-next.ensures,
     )
 

@@ -1,10 +1,10 @@
 use Rattle.lhm_ring.proofs.Names.{[], ap, append-nil, inl, refl, sym, ◌++◌, ◌∙◌, null_ptr}
-use Rattle.lhm_ring.proofs.{memory.Places.IsLaid-same, rings.HeldPointers.IsApart-held, rings.Insides.IsAt-inside}
-use Rattle.lhm_ring.proofs.rings.Moves.{AtHeld-before, IsOwned-before, is_there-moved, is_there-neighbours, is_there-previous, next_at-back}
-use Rattle.lhm_ring.proofs.rings.RingCells.{is_there-nowhere, links_at-ring_cells, prev_at-null}
-use Rattle.lhm_ring.proofs.rings.Moves.{Holds-moved, cut_moved, holders-placed}
-use Rattle.lhm_ring.proofs.rings.{Insides.seen, Lookup.IsAt-holds, Order.IsOwned-moved, Order.contents-moved, RingNodes.NodeAt-held}
-use Rattle.lhm_ring.proofs.rings.RingCells.{led_to-none}
+use Rattle.lhm_ring.proofs.memory.{Places.IsLaid-same}
+use Rattle.lhm_ring.proofs.rings.Moves.{AtHeld-before, Holds-moved, IsOwned-before, cut_moved, holders-placed, is_there-moved}
+use Rattle.lhm_ring.proofs.rings.Moves.{is_there-neighbours, is_there-previous, next_at-back}
+use Rattle.lhm_ring.proofs.rings.RingCells.{is_there-nowhere, led_to-none, links_at-ring_cells, prev_at-null}
+use Rattle.lhm_ring.proofs.rings.{HeldPointers.IsApart-held, Insides.IsAt-inside, Insides.seen, Lookup.IsAt-holds, Order.IsOwned-moved}
+use Rattle.lhm_ring.proofs.rings.{Order.contents-moved, RingNodes.NodeAt-held}
 use Rattle.lhm_ring.proofs.ring.Ring.move_to_back.Goals as goal
 
 pub links-links-requires : goal.links-links-requires
@@ -23,7 +23,8 @@ join-requires-2 g c =
     let ok = c.self.invariant.ring in (
       is_there-previous ok (seen i c.self.invariant c.self.view_is) p e c.join.ensures.joined c.requires null_ptr refl tt
           (sym (prev_at-null c.join.new.ends c.join.new.nodes.cells)),
-      is_there-moved ok (seen i c.self.invariant c.self.view_is) p e c.join.ensures.joined c.requires c.to-moved.result.ptr c.to-moved.ensures,
+      is_there-moved ok (seen i c.self.invariant c.self.view_is) p e c.join.ensures.joined c.requires c.to-moved.result.ptr
+          c.to-moved.ensures,
     )
 
 pub join-requires-3 : goal.join-requires-3
@@ -31,7 +32,8 @@ join-requires-3 g c =
     let i = c.self.inside in let p = c.args.at.pointer.ptr in
     let e = links_at-ring_cells i.ends i.nodes.cells p c.args.at.block ∙ c.links-links.ensures in (
       c.join-2.ensures.joined.there c.to-moved.result.ptr
-          ∙ is_there-moved c.self.invariant.ring (seen c.self.inside c.self.invariant c.self.view_is) p e c.join.ensures.joined c.requires c.to-moved.result.ptr
+          ∙ is_there-moved c.self.invariant.ring (seen c.self.inside c.self.invariant c.self.view_is) p e c.join.ensures.joined
+          c.requires c.to-moved.result.ptr
           c.to-moved.ensures,
       is_there-nowhere c.join-2.new.ends c.join-2.new.nodes.cells c.none.result.ptr c.none.ensures,
     )

@@ -1,12 +1,13 @@
-use Rattle.lhm_ring.proofs.rings.{HeldPointers.IsApart-held, Neighbours.AtHeld-next, ReadAtPosition.IsAt-held}
-use Rattle.lhm_ring.proofs.{Names.◌∙◌, rings.RingCells.IsAt-in_nodes, rings.RingCells.links_at-ring_cells}
-use Rattle.lhm_ring.proofs.rings.Insides.{seen}
+use Rattle.lhm_ring.proofs.rings.{HeldPointers.IsApart-held, Insides.seen, Neighbours.AtHeld-next, ReadAtPosition.IsAt-held}
+use Rattle.lhm_ring.proofs.rings.{RingCells.IsAt-in_nodes, RingCells.links_at-ring_cells}
+use Rattle.lhm_ring.proofs.Names.{◌∙◌}
 use Rattle.lhm_ring.proofs.ring.Ring.next.Goals as goal
 
 pub links-requires : goal.links-requires
 links-requires g c =
     let i = c.self.inside in let p = c.args.at.pointer.ptr in
-    IsAt-in_nodes i.ends i.nodes.cells p c.args.at.block (IsAt-held c.self.invariant.ring (seen c.self.inside c.self.invariant c.self.view_is) c.requires)
+    IsAt-in_nodes i.ends i.nodes.cells p c.args.at.block (IsAt-held c.self.invariant.ring
+    (seen c.self.inside c.self.invariant c.self.view_is) c.requires)
 
 pub returns-clause-next : goal.returns-clause-next
 returns-clause-next g c xs t ys h at =

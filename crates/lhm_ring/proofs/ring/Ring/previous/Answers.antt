@@ -1,6 +1,6 @@
 use Rattle.lhm_ring.proofs.Names.{◌∙◌}
-use Rattle.lhm_ring.proofs.rings.{HeldPointers.IsApart-held, Insides.IsAt-inside, Neighbours.AtHeld-previous, RingCells.links_at-ring_cells}
-use Rattle.lhm_ring.proofs.rings.Insides.{seen}
+use Rattle.lhm_ring.proofs.rings.{HeldPointers.IsApart-held, Insides.IsAt-inside, Insides.seen, Neighbours.AtHeld-previous}
+use Rattle.lhm_ring.proofs.rings.{RingCells.links_at-ring_cells}
 use Rattle.lhm_ring.proofs.ring.Ring.previous.Goals as goal
 
 pub links-requires : goal.links-requires

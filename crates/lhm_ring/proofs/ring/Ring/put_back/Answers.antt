@@ -1,9 +1,9 @@
 use Rattle.lhm_ring.proofs.Names.{None, ap, inl, refl, subst, sym, ◌-◌, ◌∙◌, IsThere, ring_cells, held, pair, Ptr}
-use Rattle.lhm_ring.proofs.{memory.Places.IsLaid-same, rings.Insides.seen}
+use Rattle.lhm_ring.proofs.memory.{Places.IsLaid-same}
 use Rattle.lhm_ring.proofs.rings.PutBackAndUnlink.{Filled-node, FilledPlace-written, IsApart-holders, IsAt-spare, IsOwned-last}
 use Rattle.lhm_ring.proofs.rings.PutBackAndUnlink.{IsSome-spare, Ready-spare, contents-last, is_there-filled, links_at-written}
 use Rattle.lhm_ring.proofs.rings.RingCells.{IsAt-in_nodes, IsJoined-same, is_there-nowhere, led_to-none, led_to-some, prev_at-null}
-use Rattle.lhm_ring.proofs.{rings.Writes.IsAt-there}
+use Rattle.lhm_ring.proofs.rings.{Insides.seen, Writes.IsAt-there}
 use Rattle.lhm_ring.proofs.ring.Ring.put_back.Goals as goal
 
 pub position-at-requires : goal.position-at-requires

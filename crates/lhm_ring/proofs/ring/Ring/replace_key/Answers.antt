@@ -1,8 +1,8 @@
 use Rattle.lhm_ring.proofs.Names.{None, Some, ap, refl, ◌∙◌, ◌≡◌, links_at, with_body, pair, rekeyed}
 use Rattle.lhm_ring.proofs.memory.{OneNodeChanged.links_at-with_body, Places.IsLaid-same}
-use Rattle.lhm_ring.proofs.{rings.ContentChange.ChangesOnly-held, tables.Retained.with_body-twice}
 use Rattle.lhm_ring.proofs.rings.Insides.{Holds-inside, IsAt-inside, IsOwned-written, contents-set, pair-inside, seen}
-use Rattle.lhm_ring.proofs.rings.Insides.{seen}
+use Rattle.lhm_ring.proofs.rings.{ContentChange.ChangesOnly-held}
+use Rattle.lhm_ring.proofs.{tables.Retained.with_body-twice}
 use Rattle.lhm_ring.proofs.ring.Ring.replace_key.Goals as goal
 
 pub take-old-requires : goal.take-old-requires
@@ -32,7 +32,8 @@ pub returns-clause-held : goal.returns-clause-held
 returns-clause-held g c = λ xs t ys e at.
     contents-set c.self.inside c.self.invariant c.self.view_is c.args.at.block c.requires
     c.take-old.ensures.body _ (rekeyed c.args.key) (λ _ _ _. refl) (written g c)
-    ∙ ChangesOnly-held c.self.invariant.ring (seen c.self.inside c.self.invariant c.self.view_is) c.args.at.pointer.ptr xs t ys e at (rekeyed c.args.key)
+    ∙ ChangesOnly-held c.self.invariant.ring (seen c.self.inside c.self.invariant c.self.view_is) c.args.at.pointer.ptr xs t ys e at
+    (rekeyed c.args.key)
 
 pub returns-clause-old : goal.returns-clause-old
 returns-clause-old g c = λ xs t ys e at.

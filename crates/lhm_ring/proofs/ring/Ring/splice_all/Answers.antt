@@ -1,4 +1,5 @@
-use Rattle.lhm_ring.proofs.Names.{ap, refl, subst, sym, ◌+◌, ◌∙◌, cleared, with_bodies, IsOwned, IsSpan, contents, holders, ring_cells, state, triples}
+use Rattle.lhm_ring.proofs.Names.{ap, refl, subst, sym, ◌+◌, ◌∙◌, cleared, with_bodies, IsOwned, IsSpan, contents, holders, ring_cells}
+use Rattle.lhm_ring.proofs.Names.{state, triples}
 use Rattle.lhm_ring.proofs.memory.{NodesWithBodies.with_bodies-own, Places.IsLaid-same}
 use Rattle.lhm_ring.proofs.rings.{HeldPointers.pointers_of, Holders.contents-cleared, Insides.seen, RingNodes.length-held}
 use Rattle.lhm_ring.proofs.ring.Ring.splice_all.Goals as goal

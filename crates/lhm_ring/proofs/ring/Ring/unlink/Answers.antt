@@ -1,10 +1,12 @@
 use Rattle.lhm_ring.proofs.Names.{None, ap, subst, sym, ◌+◌, ◌-◌, ◌∙◌, ◌≡◌, IsOwned, holders, listed, ring_cells, IsApart, IsHeld}
-use Rattle.lhm_ring.proofs.{memory.Places.IsLaid-same, rings.ReadAtPosition.hash-held, rings.RingCells.ring_cells-with_body}
-use Rattle.lhm_ring.proofs.rings.{HeldPointers.IsApart-owned, Insides.IsAt-inside, Insides.seen, Lookup.Cut-held, Lookup.held_here}
-use Rattle.lhm_ring.proofs.rings.{Holders.holders-chained, Holders.holders-emptied, Holders.holders-joined, Order.contents-now}
+use Rattle.lhm_ring.proofs.memory.{Places.IsLaid-same}
 use Rattle.lhm_ring.proofs.rings.PutBackAndUnlink.{Holds-unlinked, IsAt-unlinked, IsOwned-unlinked, count-held, listed-unlinked_held}
-use Rattle.lhm_ring.proofs.rings.{Moves.is_there-neighbours, PutBackAndUnlink.pair-unlinked, PutBackAndUnlink.rest_of, PutBackAndUnlink.s}
+use Rattle.lhm_ring.proofs.rings.PutBackAndUnlink.{pair-unlinked, rest_of, s}
 use Rattle.lhm_ring.proofs.rings.RingCells.{ChainsTo-ring_cells, Holds-in_nodes, IsAt-in_nodes, body_at-ring_cells, links_at-ring_cells}
+use Rattle.lhm_ring.proofs.rings.RingCells.{ring_cells-with_body}
+use Rattle.lhm_ring.proofs.rings.{HeldPointers.IsApart-owned, Holders.holders-chained, Holders.holders-emptied, Holders.holders-joined}
+use Rattle.lhm_ring.proofs.rings.{Insides.IsAt-inside, Insides.seen, Lookup.Cut-held, Lookup.held_here, Moves.is_there-neighbours}
+use Rattle.lhm_ring.proofs.rings.{Order.contents-now, ReadAtPosition.hash-held}
 use Rattle.lhm_ring.proofs.ring.Ring.unlink.Goals as goal
 
 pub links-old-requires : goal.links-old-requires
@@ -28,7 +30,8 @@ set_chain-requires g c =
     let i = c.self.inside in let p = c.args.at.pointer.ptr in let b = c.args.at.block in let ends = c.join.new.ends in
     let ws = c.take-key.new.self.cells in let e = links_at-ring_cells i.ends i.nodes.cells p b ∙ c.links-old.ensures in
     let taken = ring_cells-with_body ends c.join.new.nodes.cells p b None ws c.take-key.ensures.cells in
-    IsAt-in_nodes ends ws p b (IsAt-unlinked c.self.invariant.ring (seen c.self.inside c.self.invariant c.self.view_is) c.requires e c.join.ensures.joined taken)
+    IsAt-in_nodes ends ws p b (IsAt-unlinked c.self.invariant.ring (seen c.self.inside c.self.invariant c.self.view_is) c.requires e
+    c.join.ensures.joined taken)
 
 pub overflow_sub-self : goal.overflow_sub-self
 overflow_sub-self g c = count-held c.self.invariant.ring (seen c.self.inside c.self.invariant c.self.view_is) c.requires

@@ -1,6 +1,6 @@
 use Rattle.lhm_ring.proofs.Names.{ap, refl, with_body, revalued, state, value_set}
-use Rattle.lhm_ring.proofs.rings.ContentChange.{ChangesOnly-held}
 use Rattle.lhm_ring.proofs.rings.Insides.{Holds-inside, IsOwned-written, contents-set, pair-inside, seen}
+use Rattle.lhm_ring.proofs.rings.{ContentChange.ChangesOnly-held}
 use Rattle.lhm_ring.proofs.ring.Ring.value_mut.Goals as goal
 
 pub value_mut-requires : goal.value_mut-requires
