@@ -6,6 +6,7 @@ pub use Rattle.std.proofs.Common.{suc, sym, take, true, true≢false, vec_len, w
 pub use Rattle.std.proofs.Common.{◌^◌, ◌∙◌, ◌∷◌, ◌≡◌, ◌≢◌, ◌≤◌, ◌⊎◌}
 pub use Rattle.std.specs.Prelude.{Err, IfNone, IfSome, Ok, OnErr, OnOk, OnSome, Result, bit_and, bit_or, count_by, filter, is_some, min}
 pub use Rattle.std.specs.{Prelude.nat_lt, Cmp.IsStrictWeakOrder, Mem.type_size, Vec.vec_capacity, Vec.vec_ptr}
+pub use Rattle.lhm_ring.proofs.rings.Listed.{HasContent}
 pub use Rattle.lhm_ring.specs.BucketBlock.{behind, block_dealloc, block_heads, elements_lent, elements_own, parts_own}
 pub use Rattle.lhm_ring.specs.Buckets.{BitsHaveChains, BucketState, HasNoChain, IsBucketCount, SetsBit, bit_of, bits_of}
 pub use Rattle.lhm_ring.specs.Buckets.{leads_to, made_fitted, made_raised, may_contain, rechained_fitted, rechained_lowered}
@@ -16,8 +17,7 @@ pub use Rattle.lhm_ring.specs.Index.{ChangesLinks, HasChain, HasChains, HoldsOth
 pub use Rattle.lhm_ring.specs.Index.{IsOnChain, IsPutFirst, IsRearranged, OfNodeAt, PutsFirst, PutsIn, Spot, count_in_bucket}
 pub use Rattle.lhm_ring.specs.Index.{count_with_hash, entries, is_in, spot, spots}
 pub use Rattle.lhm_ring.specs.{Iter.held_left, Iter.loan_name, Ring.unvalued}
-pub use Rattle.lhm_ring.specs.Links.{AreLinked, AreNeighbours, ChainsTo, HasContent, HasEnds, IsJoined, IsLaid, IsOwned, HasSpan, IsRing}
-pub use Rattle.lhm_ring.specs.Links.{IsSpan}
+pub use Rattle.lhm_ring.specs.Links.{AreLinked, AreNeighbours, ChainsTo, HasEnds, HasSpan, IsJoined, IsLaid, IsOwned, IsRing, IsSpan}
 pub use Rattle.lhm_ring.specs.Links.{IsSpareList, IsThere, LeadsBack, LeadsOn, chaining_to, content_at, content_of, ends_links, has_links}
 pub use Rattle.lhm_ring.specs.Links.{is_there, leading_back, leading_on, least_more, link_at, link_of, most_nodes, next_at}
 pub use Rattle.lhm_ring.specs.Links.{next_of, nodes_grown, one_of, prev_at, prev_of, ring_cells, span}
@@ -104,11 +104,11 @@ pub use types.Kit.{flt_i, flt_l, fpack, fpick, frame, fsplit, fsplit3, given, gr
 pub use types.Kit.{pick, prop, qed, raw, rewrite, runs, show, some, split, split3, step, suffices, updating, use0, use1, use2, use3, ‵, ◌$◌}
 pub use types.Run.{addr, align_word, and_then, assigns, assigns_last, bin, blocks, enter, exec, first, fld, init, lit, load, look, no_more}
 pub use types.Run.{of_opd, returns, size_lit, size_word, stop, store, switches_on, unit_lit}
+unfoldable pub use Rattle.lhm_ring.proofs.rings.Listed.{listed}
 unfoldable pub use Rattle.lhm_ring.specs.{Buckets.buckets, Sort.IsAscending, ValueLoan.value_at, ValueLoan.without_value}
 unfoldable pub use Rattle.lhm_ring.specs.Index.{CoversAll}
 unfoldable pub use Rattle.lhm_ring.specs.ContentLoan.{body_in, without_body}
-unfoldable pub use Rattle.lhm_ring.{proofs.rings.Listed.listed, specs.Links.IsStacked, specs.Links.contents, specs.Links.from_at}
-unfoldable pub use Rattle.lhm_ring.{specs.Links.place_count}
+unfoldable pub use Rattle.lhm_ring.specs.Links.{IsStacked, contents, from_at, place_count}
 unfoldable pub use Rattle.lhm_ring.specs.Nodes.{cell_at, change, places, row}
 unfoldable pub use Rattle.std.specs.List.{IsDistinct}
 unfoldable pub use base.Fml.{fseps}

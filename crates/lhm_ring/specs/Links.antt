@@ -106,9 +106,6 @@ module _ {B : Type 0} where
   IsSpareList cs h [] = h ≡ None
   IsSpareList cs h (p ∷ ps) = (h ≡ Some p) × IsSpareList cs (link_at cs p) ps
 
-  abbrev pub HasContent : List (Cell Links B) → Ptr → Type 0
-  HasContent cs p = (x : Held B) × (content_at cs p ≡ Some x)
-
   -- the nodes: the one at null, the held ones ps in order, and the spare ones ss
   pub record IsRing (cs : List (Cell Links B)) (ps : List Ptr) (spare : Option Ptr) (ss : List Ptr)
       : Type 0 where

@@ -18,8 +18,8 @@ module _ {B : Type 0} where
   body_in-without_body_other p q (c ∷ run) n = grind (arith, same_ptr-equal, body_in-without_body_other p q run n)
 
 module _ {L B : Type 0} where
-  pub IsApart-with_bodies : (cs : List (Cell L B)) (run : List (Ptr × Option B)) → IsApart (pointers cs) → IsApart (pointers
-      (with_bodies cs run))
+  pub IsApart-with_bodies : (cs : List (Cell L B)) (run : List (Ptr × Option B)) → IsApart (pointers cs)
+      → IsApart (pointers (with_bodies cs run))
   IsApart-with_bodies cs run = subst IsApart (sym (pointers-rebodied (λ p _. body_in run p) cs))
 
   pub links_at-with_bodies : (cs : List (Cell L B)) (run : List (Ptr × Option B)) (q : Ptr)

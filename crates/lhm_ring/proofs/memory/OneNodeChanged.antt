@@ -1,8 +1,8 @@
 -- A change of one node alone: what is read of the others stays.
 use Rattle.lhm_ring.proofs.Names.{List, Option, Some, [], ap, arith, false, length, refl, subst, sym, true, ◌++◌, ◌∙◌, ◌∷◌, ◌≡◌}
-use Rattle.lhm_ring.proofs.Names.{AreLinked, HasContent, IsSpareList, IsThere, content_at, content_of, has_links, is_there, link_of}
-use Rattle.lhm_ring.proofs.Names.{listed, one_of, Cell, body_at, body_of, cell, cell_at, links_at, links_of, same_ptr, with_body}
-use Rattle.lhm_ring.proofs.Names.{with_links, Links, AllByRecursion, Ptr}
+use Rattle.lhm_ring.proofs.Names.{AreLinked, IsSpareList, IsThere, content_at, content_of, has_links, is_there, link_of, listed, one_of}
+use Rattle.lhm_ring.proofs.Names.{Cell, body_at, body_of, cell, cell_at, links_at, links_of, same_ptr, with_body, with_links, Links}
+use Rattle.lhm_ring.proofs.Names.{AllByRecursion, Ptr}
 use Rattle.lhm_ring.proofs.lists.{Apart.IsFresh, Apart.same_ptr-equal, ForAll.AllByRecursion-map}
 use Rattle.lhm_ring.proofs.rings.Writes.{cell_at-change, cell_at-change_other, length-change, links_of-seen, reader-with_links_same}
 use Rattle.lhm_ring.specs.SameNodes.{IsSpareList-same, SameLink}
@@ -59,11 +59,6 @@ module _ {B : Type 0} where
 
     content_at-other : (q : Ptr) → same_ptr p q ≡ false → content_at ds q ≡ content_at cs q
     content_at-other q n = ap (λ z. content_of q (links_of z) (body_of z)) (other q n)
-
-    pub AllByRecursion-content_other : (ps : List Ptr) → IsFresh p ps
-        → AllByRecursion (HasContent cs) ps → AllByRecursion (HasContent ds) ps
-    AllByRecursion-content_other [] f a = tt
-    AllByRecursion-content_other (x ∷ xs) f a = ((a.0.0, content_at-other x f.0 ∙ a.0.1), AllByRecursion-content_other xs f.1 a.1)
 
     pub listed-other : (ps : List Ptr) → IsFresh p ps → listed ds ps ≡ listed cs ps
     unfolding listed

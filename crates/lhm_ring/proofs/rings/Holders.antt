@@ -1,9 +1,9 @@
 -- What nodes hold, in the order in which they are listed, and where it lies.
-use Rattle.lhm_ring.proofs.Names.{List, None, Option, Some, [], ap, append_assoc, cond, refl, subst, sym, false, true, ◌++◌, ◌∙◌, ◌∷◌}
-use Rattle.lhm_ring.proofs.Names.{◌≡◌, ChainsTo, HasContent, IsJoined, cleared, chaining_to, content_of, contents, holders, link_of}
-use Rattle.lhm_ring.proofs.Names.{listed, one_of, ring_cells, Cell, Ends, IsApart, IsAt, Link, body_of, cell, cell_at, change, links_at}
-use Rattle.lhm_ring.proofs.Names.{map, triples, links_of, pointers, same_ptr, with_body, with_links, Held, held, Links, AllByRecursion}
-use Rattle.lhm_ring.proofs.Names.{Ptr, map-append}
+use Rattle.lhm_ring.proofs.Names.{List, None, Option, Some, [], ap, append_assoc, cond, refl, sym, false, true, ◌++◌, ◌∙◌}
+use Rattle.lhm_ring.proofs.Names.{◌∷◌, ◌≡◌, ChainsTo, HasContent, IsJoined, cleared, chaining_to, content_at, content_of, contents}
+use Rattle.lhm_ring.proofs.Names.{holders, listed, one_of, ring_cells, Cell, Ends, IsApart, IsAt, Link, body_of, cell, cell_at, change}
+use Rattle.lhm_ring.proofs.Names.{links_at, map, triples, links_of, pointers, same_ptr, with_body, with_links, Held, Links}
+use Rattle.lhm_ring.proofs.Names.{AllByRecursion, Ptr, map-append}
 use Rattle.lhm_ring.proofs.lists.Apart.{IsApart-added, IsApart-none, IsApart-tail, IsFresh, IsFresh-head, same_ptr-reflexive}
 use Rattle.lhm_ring.proofs.lists.{Cuts.pointers-alone, ForAll.AllByRecursion-map, Options.Some-injective}
 use Rattle.lhm_ring.proofs.rings.{Contents.IsAt-content, HeldPointers.pointers_of, Lookup.AllByRecursion-at, Lookup.Cut}
@@ -71,22 +71,18 @@ module _ {B : Type 0} where
       ∙ ap (λ ps. holders xs ++ ps) (holders-cons c ys ∙ ap (λ ps. ps ++ holders ys) (holder-none c e))
       ∙ sym (holders-append xs ys)
 
+  own_content : (cs : List (Cell Links B)) (d : Cell Links B) → IsOwn cs d → content_at cs d.at ≡ content_of d.at (Some d.links) d.body
+  own_content cs d a = ap (λ o. content_of d.at (links_of o) (body_of o)) a
+
   contents-own : (cs ds : List (Cell Links B)) → AllByRecursion (IsOwn cs) ds → contents ds ≡ listed cs (holders ds)
   unfolding contents listed
   contents-own cs [] a = refl
-  contents-own cs (d ∷ ds) a = by_body (contents-own cs ds a.1) d.body refl
-    where
-      by_body : contents ds ≡ listed cs (holders ds) → (b : Option B) → d.body ≡ b
-          → content d ++ contents ds ≡ listed cs (pointers_of (content d ++ contents ds))
-      by_body on None e =
-          let none : content d ≡ [] = ap (λ o. one_of (content_of d.at (Some d.links) o)) e in
-          (λ i. none i ++ contents ds) ∙ on ∙ (λ i. listed cs (pointers_of (sym none i ++ contents ds)))
-      by_body on (Some x) e =
-          let t : Held B = held d.at d.links.hash (link_of (Some d.links)) x in
-          let one : content d ≡ t ∷ [] = ap (λ o. one_of (content_of d.at (Some d.links) o)) e in
-          let here = ap (λ o. content_of d.at (links_of o) (body_of o)) a.0 ∙ ap (content_of d.at (Some d.links)) e in
-          (λ i. one i ++ contents ds) ∙ ap (λ hs. t ∷ hs) on ∙ sym (ap (λ o. one_of o ++ listed cs (holders ds)) here)
-          ∙ (λ i. listed cs (pointers_of (sym one i ++ contents ds)))
+  contents-own cs (d ∷ ds) a =
+      elim d.body as (λ b. content_at cs d.at ≡ content_of d.at (Some d.links) b → one_of (content_of d.at (Some d.links) b) ++ contents ds
+      ≡ listed cs (pointers_of (one_of (content_of d.at (Some d.links) b) ++ contents ds))) [
+        | None ↦ λ _. contents-own cs ds a.1
+        | Some x ↦ λ h. λ i. one_of (sym h i) ++ contents-own cs ds a.1 i
+      ] (own_content cs d a.0)
 
   -- what nodes hold is what is held where they lie
   pub contents-listed : (cs : List (Cell Links B)) → IsApart (pointers cs) → contents cs ≡ listed cs (holders cs)
@@ -95,18 +91,12 @@ module _ {B : Type 0} where
   AllByRecursion-own : (cs ds : List (Cell Links B)) → AllByRecursion (IsOwn cs) ds → AllByRecursion (HasContent cs) (holders ds)
   unfolding contents
   AllByRecursion-own cs [] a = tt
-  AllByRecursion-own cs (d ∷ ds) a = by_body (AllByRecursion-own cs ds a.1) d.body refl
-    where
-      by_body : AllByRecursion (HasContent cs) (holders ds) → (b : Option B) → d.body ≡ b
-          → AllByRecursion (HasContent cs) (pointers_of (content d ++ contents ds))
-      by_body on None e =
-          let none : content d ≡ [] = ap (λ o. one_of (content_of d.at (Some d.links) o)) e in
-          subst (λ hs. AllByRecursion (HasContent cs) (pointers_of (hs ++ contents ds))) (sym none) on
-      by_body on (Some x) e =
-          let t : Held B = held d.at d.links.hash (link_of (Some d.links)) x in
-          let one : content d ≡ t ∷ [] = ap (λ o. one_of (content_of d.at (Some d.links) o)) e in
-          let here = ap (λ o. content_of d.at (links_of o) (body_of o)) a.0 ∙ ap (content_of d.at (Some d.links)) e in
-          subst (λ hs. AllByRecursion (HasContent cs) (pointers_of (hs ++ contents ds))) (sym one) ((t, here), on)
+  AllByRecursion-own cs (d ∷ ds) a =
+      elim d.body as (λ b. content_at cs d.at ≡ content_of d.at (Some d.links) b
+      → AllByRecursion (HasContent cs) (pointers_of (one_of (content_of d.at (Some d.links) b) ++ contents ds))) [
+        | None ↦ λ _. AllByRecursion-own cs ds a.1
+        | Some x ↦ λ h. ((_, h), AllByRecursion-own cs ds a.1)
+      ] (own_content cs d a.0)
 
   -- each of these holds something
   pub AllByRecursion-holders : (cs : List (Cell Links B)) → IsApart (pointers cs) → AllByRecursion (HasContent cs) (holders cs)

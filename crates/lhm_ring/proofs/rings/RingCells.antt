@@ -1,10 +1,9 @@
 -- The nodes of a ring, and the one at null that stands for its ends.
-use Rattle.lhm_ring.proofs.Names.{List, None, Option, Some, [], ap, arith, cond, false, refl, subst, sym, true, ◌++◌, ◌∙◌, ◌∷◌, ◌≡◌}
-use Rattle.lhm_ring.proofs.Names.{AreLinked, ChainsTo, HasContent, IsJoined, IsOwned, IsRing, IsSpareList, IsThere, chaining_to}
-use Rattle.lhm_ring.proofs.Names.{content_at, content_of, contents, ends_links, has_links, holders, link_of, listed, next_at, one_of}
-use Rattle.lhm_ring.proofs.Names.{prev_at, ring_cells, AreBlocks, Cell, Holds, IsAt, body_at, body_of, cell, cell_at, change, is_block}
-use Rattle.lhm_ring.proofs.Names.{links_at, links_of, pointers, same_ptr, with_body, with_links, led_to, target, Link, Ends, Links}
-use Rattle.lhm_ring.proofs.Names.{AllByRecursion, Ptr, block_ptr, null_ptr}
+use Rattle.lhm_ring.proofs.Names.{List, None, Option, Some, [], ap, arith, cond, false, refl, subst, sym, true, ◌∙◌, ◌∷◌, ◌≡◌, AreLinked}
+use Rattle.lhm_ring.proofs.Names.{ChainsTo, HasContent, IsJoined, IsOwned, IsRing, IsSpareList, IsThere, chaining_to, contents}
+use Rattle.lhm_ring.proofs.Names.{ends_links, has_links, holders, link_of, next_at, prev_at, ring_cells, AreBlocks, Cell, Holds, IsAt}
+use Rattle.lhm_ring.proofs.Names.{body_at, body_of, cell, cell_at, change, is_block, links_at, links_of, pointers, same_ptr, with_body}
+use Rattle.lhm_ring.proofs.Names.{with_links, led_to, target, Link, Ends, Links, AllByRecursion, Ptr, block_ptr, null_ptr}
 use Rattle.lhm_ring.proofs.lists.{Apart.IsApart-added, Apart.IsApart-none, ForAll.AllByRecursion-map, Options.Some-injective}
 use Rattle.lhm_ring.proofs.lists.{Options.none_some}
 use Rattle.lhm_ring.proofs.rings.{Lookup.AllByRecursion-at, Writes.IsAt-there}
@@ -117,14 +116,6 @@ module _ {B : Type 0} (e : Ends) (cs : List (Cell Links B)) where
   cell_at-apart : (p : Ptr) → Apart p → cell_at (ring_cells e cs) p ≡ cell_at cs p
   unfolding cell_at
   cell_at-apart p h = ap (λ y. cond y (Some (cell null_ptr (ends_links e) None)) (cell_at cs p)) h
-
-  content_at-in_nodes : (p : Ptr) → Apart p → content_at (ring_cells e cs) p ≡ content_at cs p
-  content_at-in_nodes p h = ap (λ z. content_of p (links_of z) (body_of z)) (cell_at-apart p h)
-
-  pub listed-in_nodes : (ps : List Ptr) → AllByRecursion Apart ps → listed (ring_cells e cs) ps ≡ listed cs ps
-  unfolding listed
-  listed-in_nodes [] h = refl
-  listed-in_nodes (p ∷ ps) h = λ i. one_of (content_at-in_nodes p h.0 i) ++ listed-in_nodes ps h.1 i
 
   pub AreLinked-in_nodes : (ps : List Ptr) → AllByRecursion Apart ps → AreLinked (ring_cells e cs) ps → AreLinked cs ps
   AreLinked-in_nodes [] h l = tt

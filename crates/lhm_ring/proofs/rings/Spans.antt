@@ -1,24 +1,32 @@
 -- A part of what nodes hold, each right after the one before: its first and its last, and what is left without them.
 use Rattle.lhm_ring.proofs.Names.{List, None, Some, [], ap, append-nil, append_assoc, arith, cond, length, length-append, map-append}
 use Rattle.lhm_ring.proofs.Names.{refl, subst, sym, take, ℕ, ◌++◌, ◌-◌, ◌∙◌, ◌∷◌, ◌≡◌, AreLinked, HasEnds, HasSpan, IsSpan, contents}
-use Rattle.lhm_ring.proofs.Names.{content_at, content_of, from_at, holders, last_of, link_of, listed, next_at, next_of, prev_at, prev_of}
-use Rattle.lhm_ring.proofs.Names.{span, Cell, Holds, IsApart, IsAt, body_at, cell, links_at, pointers, pointers-change, with_body, Held}
-use Rattle.lhm_ring.proofs.Names.{held, triples, Links, Ptr}
+use Rattle.lhm_ring.proofs.Names.{content_at, from_at, holders, last_of, link_of, listed, next_at, next_of, prev_at, prev_of, span}
+use Rattle.lhm_ring.proofs.Names.{take-length, Cell, Holds, IsApart, IsAt, body_at, cell, links_at, pointers, pointers-change, with_body}
+use Rattle.lhm_ring.proofs.Names.{Held, held, triples, Links, Ptr}
 use Rattle.lhm_ring.proofs.lists.Apart.{IsApart-tail, IsFresh-head, IsFresh-middle, same_ptr-reflexive}
-use Rattle.lhm_ring.proofs.lists.{Cuts.same_ptr-fresh, LinkRows.listed-append, Options.Some-injective}
+use Rattle.lhm_ring.proofs.lists.{Cuts.same_ptr-fresh, Last.last_from, LinkRows.listed-append}
 use Rattle.lhm_ring.proofs.memory.{OneNodeChanged.OnlyAt-with_body, OneNodeChanged.links_at-with_body, OneNodeChanged.listed-other}
 use Rattle.lhm_ring.proofs.rings.Holders.{AllByRecursion-holders, IsApart-holders, contents-listed, holders-emptied}
-use Rattle.lhm_ring.proofs.rings.{Contents.Holds-content, Contents.IsAt-content, Ends.First, Ends.Last, Ends.Last-last_at}
-use Rattle.lhm_ring.proofs.rings.{HeldPointers.pointers_of, Lookup.Cut-held, Lookup.held_here, RingNodes.CutAt, RingNodes.CutAt-listed}
+use Rattle.lhm_ring.proofs.rings.{Contents.Holds-content, Contents.IsAt-content, Contents.held-content, Ends.First, Ends.Last}
+use Rattle.lhm_ring.proofs.rings.{Ends.Last-last_at, HeldPointers.pointers_of, Lookup.Cut-held, Lookup.held_here, RingNodes.CutAt}
+use Rattle.lhm_ring.proofs.rings.{RingNodes.CutAt-listed}
 use Rattle.lhm_ring.specs.SameNodes.{AreLinked-same}
+use Rattle.std.proofs.lemmas.List.{take-append-le}
+
+last_from-last_of : {B : Type 0} (t : Held B) (hs : List (Held B)) → last_from t.at (pointers_of hs) ≡ last_of t hs
+last_from-last_of t [] = refl
+last_from-last_of t (u ∷ hs) = last_from-last_of u hs
 
 module _ {B : Type 0} (cs : List (Cell Links B)) where
   pub AreLinked-tail : (x : Ptr) (xs : List Ptr) → AreLinked cs (x ∷ xs) → AreLinked cs xs
   AreLinked-tail x xs k = grind arith
 
-  HasEnds-behind : (t : Held B) (hs : List (Held B)) (b : Ptr) → AreLinked cs (pointers_of (t ∷ hs)) → last_of t hs ≡ b
-      → HasEnds hs (next_at cs t.at) b
-  HasEnds-behind t hs b k e = grind arith
+  -- what is in a row behind p
+  pub HasEnds-behind : (p : Ptr) (hs : List (Held B)) {b : Ptr} → AreLinked cs (p ∷ pointers_of hs)
+      → last_from p (pointers_of hs) ≡ b → HasEnds hs (next_at cs p) b
+  HasEnds-behind p [] k e = tt
+  HasEnds-behind p (t ∷ ts) k e = (sym k.0.0, sym (last_from-last_of t ts) ∙ e)
 
   -- the first of a span, and the rest of it
   pub first : (hs : List (Held B)) {f b : Ptr} {n : ℕ} → IsSpan cs hs f b n → (n ≡ 0 → ⊥)
@@ -29,7 +37,7 @@ module _ {B : Type 0} (cs : List (Cell Links B)) where
     record {
       count = let e = s.count in omega arith;
       linked = AreLinked-tail t.at (pointers_of ts) s.linked;
-      ends = subst (λ p. HasEnds ts (next_at cs p) b) s.ends.0 (HasEnds-behind t ts b s.linked s.ends.1);
+      ends = subst (λ p. HasEnds ts (next_at cs p) b) s.ends.0 (HasEnds-behind t.at ts s.linked (last_from-last_of t ts ∙ s.ends.1));
     },
   )
 
@@ -49,9 +57,8 @@ module _ {B : Type 0} (cs : List (Cell Links B)) where
   last [] s some = absurd (some (sym s.count))
   last (t ∷ ts) {f} {b} {n} s some =
       let l = Last-last_at (t ∷ ts) {o = Some (last_of t ts)} refl (ap (λ p. Some p) s.ends.1) in
-      let r = but_last l.before l.node f b (subst (λ hs. AreLinked cs (pointers_of hs)) l.is s.linked) (subst
-      (λ hs. HasEnds hs f b) l.is s.ends) in
-      let e = ap length (sym l.is) ∙ s.count in (
+      let r = but_last l.before l.node f b (subst (λ hs. AreLinked cs (pointers_of hs)) l.is s.linked)
+      (subst (λ hs. HasEnds hs f b) l.is s.ends) in let e = ap length (sym l.is) ∙ s.count in (
         l,
         record {
           count = omega (arith, length-append l.before (l.node ∷ []));
@@ -69,10 +76,6 @@ module _ {B : Type 0} where
       ap (λ y. cond y (u ∷ hs) (from_at t.at hs)) (same_ptr-fresh (λ t. t.at) u.at us t vs (IsFresh-head u.at (pointers_of hs) d))
       ∙ from_at-past us t vs (IsApart-tail u.at (pointers_of hs) d)
 
-  take-append : (xs ys : List (Held B)) → take (length xs) (xs ++ ys) ≡ xs
-  take-append [] ys = refl
-  take-append (x ∷ xs) ys = ap (λ zs. x ∷ zs) (take-append xs ys)
-
 -- what is held at one place among what nodes hold
 module _ {B : Type 0} (cs : List (Cell Links B)) (d : IsApart (pointers cs)) (us : List (Held B)) (t : Held B) (vs : List (Held B))
     (e : contents cs ≡ us ++ t ∷ vs) {p : Ptr} (at : t.at ≡ p) where
@@ -84,19 +87,14 @@ module _ {B : Type 0} (cs : List (Cell Links B)) (d : IsApart (pointers cs)) (us
   content_at-contents = cut.here
 
   -- it is moved out
-  pub contents-emptied : contents (with_body p None cs) ≡ us ++ vs
-  contents-emptied =
-      let ds = with_body p None cs in let s = cut.split in let b = Holds-content cs p cut.here in let l = IsAt-content cs p cut.here in
+  pub contents-emptied : {ds : List (Cell Links B)} → ds ≡ with_body p None cs → contents ds ≡ us ++ vs
+  contents-emptied is =
+      let zs = with_body p None cs in let s = cut.split in let b = Holds-content cs p cut.here in let l = IsAt-content cs p cut.here in
       let k = Cut-held cs p b.0 b.1 in let apart = subst IsApart s.is (IsApart-holders cs d) in
-      contents-listed ds (subst IsApart (sym (pointers-change p (λ c. cell c.at c.links None) (λ c. refl) cs)) d)
-      ∙ ap (listed ds) (holders-emptied k (held_here k b.1) s.before s.after s.is apart)
-      ∙ listed-other cs ds p (OnlyAt-with_body p None cs l.0 l.1).other (s.before ++ s.after) (IsFresh-middle s.before p s.after apart)
+      ap contents is ∙ contents-listed zs (subst IsApart (sym (pointers-change p (λ c. cell c.at c.links None) (λ c. refl) cs)) d)
+      ∙ ap (listed zs) (holders-emptied k (held_here k b.1) s.before s.after s.is apart)
+      ∙ listed-other cs zs p (OnlyAt-with_body p None cs l.0 l.1).other (s.before ++ s.after) (IsFresh-middle s.before p s.after apart)
       ∙ listed-append cs s.before s.after ∙ (λ i. cut.listed_before i ++ cut.listed_after i)
-
--- what is read there
-held-content : {B : Type 0} (cs : List (Cell Links B)) (p : Ptr) {t : Held B} {l : Links} {x : B} → content_at cs p ≡ Some t
-    → links_at cs p ≡ Some l → body_at cs p ≡ Some x → t ≡ held p l.hash (link_of (Some l)) x
-held-content cs p {t} c e f = Some-injective t _ (sym c ∙ (λ i. content_of p (e i) (f i)))
 
 -- a part of what nodes hold
 module _ {B : Type 0} {cs : List (Cell Links B)} (d : IsApart (pointers cs)) where
@@ -105,7 +103,7 @@ module _ {B : Type 0} {cs : List (Cell Links B)} (d : IsApart (pointers cs)) whe
   take-span us (t ∷ ts) vs is s =
       (λ i. take (sym s.count i) (from_at (sym s.ends.0 i) (is i)))
       ∙ ap (take (length (t ∷ ts))) (from_at-past us t (ts ++ vs) (subst (λ hs. IsApart (pointers_of hs)) is (IsApart-holders cs d)))
-      ∙ take-append (t ∷ ts) vs
+      ∙ take-append-le (length (t ∷ ts)) (t ∷ ts) vs (omega arith) ∙ take-length (t ∷ ts)
 
   module _ {f b : Ptr} {n : ℕ} (s : HasSpan cs f b n) where
     pub span-part : span cs n f ≡ s.part
@@ -125,7 +123,7 @@ module _ {B : Type 0} {cs : List (Cell Links B)} (d : IsApart (pointers cs)) whe
       pub Holds-first : Holds cs f
       Holds-first = Holds-content cs f content-first
 
-      pub HasSpan-behind_first : {l : Links} → links_at cs f ≡ Some l → {q : Ptr} → q ≡ l.next.ptr → HasSpan cs q b (n - 1)
+      abbrev pub HasSpan-behind_first : {l : Links} → links_at cs f ≡ Some l → {q : Ptr} → q ≡ l.next.ptr → HasSpan cs q b (n - 1)
       HasSpan-behind_first e is = let r = first cs s.part s.span some in let t = r.0 in record {
         before = s.before ++ t.node ∷ [];
         part = t.after;
@@ -134,14 +132,14 @@ module _ {B : Type 0} {cs : List (Cell Links B)} (d : IsApart (pointers cs)) whe
         span = subst (λ p. IsSpan cs t.after p b (n - 1)) (ap next_of e ∙ sym is) r.1;
       }
 
-      at_last : contents cs ≡ s.before ++ ((last cs s.part s.span some).0.before ++ (last cs s.part s.span some).0.node ∷ s.after)
+      pub at_last : contents cs ≡ s.before ++ ((last cs s.part s.span some).0.before ++ (last cs s.part s.span some).0.node ∷ s.after)
       at_last = let t = (last cs s.part s.span some).0 in
           s.is ∙ ap (λ hs. s.before ++ (hs ++ s.after)) t.is ∙ ap (λ hs. s.before ++ hs) (append_assoc t.before (t.node ∷ []) s.after)
 
       content-last : content_at cs b ≡ Some (last cs s.part s.span some).0.node
       content-last = let t = (last cs s.part s.span some).0 in
-          content_at-contents cs d (s.before ++ t.before) t.node s.after (at_last ∙ sym (append_assoc s.before t.before
-          (t.node ∷ s.after))) t.at_is
+          content_at-contents cs d (s.before ++ t.before) t.node s.after
+          (at_last ∙ sym (append_assoc s.before t.before (t.node ∷ s.after))) t.at_is
 
       pub IsAt-last : IsAt cs b
       IsAt-last = IsAt-content cs b content-last
@@ -149,7 +147,7 @@ module _ {B : Type 0} {cs : List (Cell Links B)} (d : IsApart (pointers cs)) whe
       pub Holds-last : Holds cs b
       Holds-last = Holds-content cs b content-last
 
-      pub HasSpan-ahead_of_last : {l : Links} → links_at cs b ≡ Some l → {q : Ptr} → q ≡ l.prev.ptr → HasSpan cs f q (n - 1)
+      abbrev pub HasSpan-ahead_of_last : {l : Links} → links_at cs b ≡ Some l → {q : Ptr} → q ≡ l.prev.ptr → HasSpan cs f q (n - 1)
       HasSpan-ahead_of_last e is = let r = last cs s.part s.span some in let t = r.0 in record {
         before = s.before;
         part = t.before;
@@ -161,13 +159,11 @@ module _ {B : Type 0} {cs : List (Cell Links B)} (d : IsApart (pointers cs)) whe
   module _ {f b : Ptr} {n : ℕ} (s : HasSpan cs f b n) (some : n ≡ 0 → ⊥) {l : Links} {q : Ptr} {x : B} where
     pub span-first : links_at cs f ≡ Some l → q ≡ l.next.ptr → body_at cs f ≡ Some x
         → span cs n f ≡ held f l.hash (link_of (Some l)) x ∷ span cs (n - 1) q
-    unfolding HasSpan-behind_first
     span-first e is h = span-part s ∙ (first cs s.part s.span some).0.is
         ∙ (λ i. held-content cs f (content-first s some) e h i ∷ sym (span-part (HasSpan-behind_first s some e is)) i)
 
     pub span-last : links_at cs b ≡ Some l → q ≡ l.prev.ptr → body_at cs b ≡ Some x
         → span cs n f ≡ span cs (n - 1) f ++ held b l.hash (link_of (Some l)) x ∷ []
-    unfolding HasSpan-ahead_of_last
     span-last e is h = span-part s ∙ (last cs s.part s.span some).0.is
         ∙ (λ i. sym (span-part (HasSpan-ahead_of_last s some e is)) i ++ held-content cs b (content-last s some) e h i ∷ [])
 
@@ -175,41 +171,41 @@ module _ {B : Type 0} {cs : List (Cell Links B)} (d : IsApart (pointers cs)) whe
 abbrev pub HasSpan-whole : {B : Type 0} {cs : List (Cell Links B)} {f b : Ptr} {n : ℕ} → IsSpan cs (contents cs) f b n → HasSpan cs f b n
 HasSpan-whole {cs = cs} s = record { before = []; part = contents cs; after = []; is = sym (append-nil (contents cs)); span = s }
 
-module _ {B : Type 0} {cs : List (Cell Links B)} (d : IsApart (pointers cs)) {f b : Ptr} {n : ℕ} (s : IsSpan cs (contents cs) f b n)
+-- one end of it is moved out
+module _ {B : Type 0} {cs ds : List (Cell Links B)} (d : IsApart (pointers cs)) {f b : Ptr} {n : ℕ} (s : IsSpan cs (contents cs) f b n)
     (some : n ≡ 0 → ⊥) where
-  stays : (p : Ptr) {k : Links} → links_at cs p ≡ Some k → {hs : List (Held B)} → contents (with_body p None cs) ≡ hs → {g c : Ptr}
-      → IsSpan cs hs g c (n - 1) → IsSpan (with_body p None cs) (contents (with_body p None cs)) g c (n - 1)
-  stays p e is {g} {c} r = let ds = with_body p None cs in let same = links_at-with_body p None cs _ e in
-      subst (λ hs. IsSpan ds hs g c (n - 1)) (sym is) (record {
+  stays : (p : Ptr) {l : Links} → links_at cs p ≡ Some l → ds ≡ with_body p None cs → {hs : List (Held B)} → contents ds ≡ hs → {g c : Ptr}
+      → IsSpan cs hs g c (n - 1) → IsSpan ds (contents ds) g c (n - 1)
+  stays p e is left {g} {c} r =
+      let same : (q : Ptr) → links_at ds q ≡ links_at cs q = λ q. ap (λ zs. links_at zs q) is ∙ links_at-with_body p None cs _ e q in
+      subst (λ hs. IsSpan ds hs g c (n - 1)) (sym left) (record {
         count = r.count;
         linked = AreLinked-same cs ds (λ q. ap next_of (same q)) (λ q. ap prev_of (same q)) _ r.linked;
         ends = r.ends;
       })
 
-  rest_of_first : contents (with_body f None cs) ≡ (first cs (contents cs) s some).0.after
+  rest_of_first : ds ≡ with_body f None cs → contents ds ≡ (first cs (contents cs) s some).0.after
   rest_of_first = let t = (first cs (contents cs) s some).0 in contents-emptied cs d [] t.node t.after t.is t.at_is
 
-  pub IsSpan-rest_of_first : {l : Links} {q : Ptr} → links_at cs f ≡ Some l → q ≡ l.next.ptr → IsSpan (with_body f None cs) (contents
-      (with_body f None cs)) q b (n - 1)
-  IsSpan-rest_of_first e is = let r = first cs (contents cs) s some in
-      stays f e rest_of_first (subst (λ p. IsSpan cs r.0.after p b (n - 1)) (ap next_of e ∙ sym is) r.1)
+  pub IsSpan-rest_of_first : {l : Links} → links_at cs f ≡ Some l → {q : Ptr} → q ≡ l.next.ptr → ds ≡ with_body f None cs
+      → IsSpan ds (contents ds) q b (n - 1)
+  IsSpan-rest_of_first e to is = stays f e is (rest_of_first is) (HasSpan-behind_first d (HasSpan-whole s) some e to).span
 
-  pub triples-first_taken : {l : Links} {x : B} → links_at cs f ≡ Some l → body_at cs f ≡ Some x
-      → triples (contents cs) ≡ (l.hash, x) ∷ triples (contents (with_body f None cs))
-  triples-first_taken e h = let t = (first cs (contents cs) s some).0 in
-      ap triples (t.is ∙ (λ i. held-content cs f (content_at-contents cs d [] t.node t.after t.is t.at_is) e h i ∷ sym rest_of_first i))
+  pub triples-first_taken : {l : Links} → links_at cs f ≡ Some l → {x : B} → body_at cs f ≡ Some x → ds ≡ with_body f None cs
+      → triples (contents cs) ≡ (l.hash, x) ∷ triples (contents ds)
+  triples-first_taken e h is = ap triples ((first cs (contents cs) s some).0.is
+      ∙ (λ i. held-content cs f (content-first d (HasSpan-whole s) some) e h i ∷ sym (rest_of_first is) i))
 
-  rest_of_last : contents (with_body b None cs) ≡ (last cs (contents cs) s some).0.before
-  rest_of_last = let t = (last cs (contents cs) s some).0 in contents-emptied cs d t.before t.node [] t.is t.at_is ∙ append-nil t.before
+  rest_of_last : ds ≡ with_body b None cs → contents ds ≡ (last cs (contents cs) s some).0.before
+  rest_of_last is = let t = (last cs (contents cs) s some).0 in
+      contents-emptied cs d t.before t.node [] t.is t.at_is is ∙ append-nil t.before
 
-  pub IsSpan-rest_of_last : {l : Links} {q : Ptr} → links_at cs b ≡ Some l → q ≡ l.prev.ptr → IsSpan (with_body b None cs) (contents
-      (with_body b None cs)) f q (n - 1)
-  IsSpan-rest_of_last e is = let r = last cs (contents cs) s some in
-      stays b e rest_of_last (subst (λ p. IsSpan cs r.0.before f p (n - 1)) (ap prev_of e ∙ sym is) r.1)
+  pub IsSpan-rest_of_last : {l : Links} → links_at cs b ≡ Some l → {q : Ptr} → q ≡ l.prev.ptr → ds ≡ with_body b None cs
+      → IsSpan ds (contents ds) f q (n - 1)
+  IsSpan-rest_of_last e to is = stays b e is (rest_of_last is) (HasSpan-ahead_of_last d (HasSpan-whole s) some e to).span
 
-  pub triples-last_taken : {l : Links} {x : B} → links_at cs b ≡ Some l → body_at cs b ≡ Some x
-      → triples (contents cs) ≡ triples (contents (with_body b None cs)) ++ (l.hash, x) ∷ []
-  triples-last_taken e h = let t = (last cs (contents cs) s some).0 in
-      ap triples (t.is ∙ (λ i. sym rest_of_last i ++ held-content cs b (content_at-contents cs d t.before t.node [] t.is t.at_is) e h i ∷
-      []))
-      ∙ map-append (λ (t : Held B). (t.hash, t.pair)) (contents (with_body b None cs)) (held b _ _ _ ∷ [])
+  pub triples-last_taken : {l : Links} → links_at cs b ≡ Some l → {x : B} → body_at cs b ≡ Some x → ds ≡ with_body b None cs
+      → triples (contents cs) ≡ triples (contents ds) ++ (l.hash, x) ∷ []
+  triples-last_taken e h is = ap triples ((last cs (contents cs) s some).0.is
+      ∙ (λ i. sym (rest_of_last is) i ++ held-content cs b (content-last d (HasSpan-whole s) some) e h i ∷ []))
+      ∙ map-append (λ (t : Held B). (t.hash, t.pair)) (contents ds) (held b _ _ _ ∷ [])

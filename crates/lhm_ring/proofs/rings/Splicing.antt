@@ -1,18 +1,18 @@
 -- All that a ring holds becomes spare.
 use Rattle.lhm_ring.proofs.Names.{List, [], ap, arith, false, subst, sym, ℕ, ◌++◌, ◌+◌, ◌∙◌, ◌∷◌, ◌≡◌, HasRow, IsRow, Nodes, SameButLinks}
-use Rattle.lhm_ring.proofs.Names.{SparesRow, StartsAt, onto, AreLinked, IsJoined, IsOwned, IsRing, IsSpan, contents, holders, listed}
-use Rattle.lhm_ring.proofs.Names.{IsSpareList, IsThere, ring_cells, Cell, None, cleared, has_links, length, link_of, links_at, next_of}
-use Rattle.lhm_ring.proofs.Names.{prev_of, suc, same_ptr, target, Held, Link, Ends, Links, AllByRecursion, Ptr, null_ptr}
+use Rattle.lhm_ring.proofs.Names.{SparesRow, StartsAt, onto, IsJoined, IsOwned, IsRing, IsSpan, contents, holders, listed, IsSpareList}
+use Rattle.lhm_ring.proofs.Names.{IsThere, ring_cells, Cell, None, cleared, has_links, length, link_of, links_at, next_of, prev_of, suc}
+use Rattle.lhm_ring.proofs.Names.{same_ptr, target, Held, Link, Ends, Links, AllByRecursion, Ptr, null_ptr}
 use Rattle.lhm_ring.proofs.lists.ForAll.{AllByRecursion-always, AllByRecursion-left, AllByRecursion-map, AllByRecursion-right}
 use Rattle.lhm_ring.proofs.lists.{Apart.IsApart-tail, Apart.IsFresh, Apart.IsFresh-head}
 use Rattle.lhm_ring.proofs.rings.Joins.{AreLinked-unchanged, AreNeighbours-made, AvoidsSource-fresh, AvoidsTarget-fresh}
 use Rattle.lhm_ring.proofs.rings.Joins.{IsSpareList-unchanged, listed-unchanged}
 use Rattle.lhm_ring.proofs.rings.RingCells.{AllByRecursion-there_in_nodes, AreLinked-in_nodes, IsSpareList-in_nodes, IsSpareList-in_ring}
 use Rattle.lhm_ring.proofs.rings.RingCells.{is_there-null, next_at-null}
+use Rattle.lhm_ring.proofs.rings.RingSpans.{AreLinked-held, IsFresh-held, IsSpan-row, held_row}
 use Rattle.lhm_ring.proofs.rings.SpareRows.{AllByRecursion-onto, IsApart-onto, SameButLinks-in_ring, StartsAt-next, length-onto}
 use Rattle.lhm_ring.proofs.rings.{HeldPointers.pointers_of, Holders.holders-joined, Order.contents-now, Rebodied.length-rebodied}
-use Rattle.lhm_ring.proofs.rings.{Rebodied.links_at-rebodied, RingSpans.IsFresh-held, RingSpans.IsSpan-row, RingSpans.held_row}
-use Rattle.lhm_ring.proofs.rings.{Spans.AreLinked-tail}
+use Rattle.lhm_ring.proofs.rings.{Rebodied.links_at-rebodied, Spans.AreLinked-tail}
 use Rattle.lhm_ring.specs.SameNodes.{AreLinked-same, IsSpareList-same, SameLink}
 
 -- all that a ring holds becomes spare
@@ -24,22 +24,16 @@ module _ {B : Type 0} (e : Ends) (nodes : List (Cell Links B)) {ps : List Ptr} {
   abbrev ss : List Ptr
   ss = o.spare_pointers
 
-  linked : AreLinked cs ps
-  linked = AreLinked-tail cs null_ptr ps (held_row e nodes o).0
-
-  IsFresh-all : IsFresh null_ptr (ps ++ ss)
-  IsFresh-all = IsFresh-head null_ptr (ps ++ ss) o.ring.apart
-
   abbrev IsFresh-row : IsFresh null_ptr ps
   IsFresh-row = IsFresh-held e nodes o
 
   IsFresh-spares : IsFresh null_ptr ss
-  IsFresh-spares = AllByRecursion-right (λ q. same_ptr null_ptr q ≡ false) ps ss IsFresh-all
+  IsFresh-spares = AllByRecursion-right (λ q. same_ptr null_ptr q ≡ false) ps ss (IsFresh-head null_ptr (ps ++ ss) o.ring.apart)
 
   IsRow-whole : {f : Ptr} → f ≡ e.first.ptr → IsRow nodes f n (target spare) ps ss
   IsRow-whole is = record {
     long = o.held_count;
-    linked = AreLinked-in_nodes e nodes ps IsFresh-row linked;
+    linked = AreLinked-held e nodes o;
     starts = subst (StartsAt ps) (next_at-null e nodes ∙ sym is) (StartsAt-next cs null_ptr ps (held_row e nodes o).0);
     there = AllByRecursion-there_in_nodes e nodes ps IsFresh-row (AllByRecursion-left (IsThere cs) ps ss o.ring.there.1);
     apart = IsApart-tail null_ptr (ps ++ ss) o.ring.apart;
@@ -100,7 +94,7 @@ module _ {B : Type 0} (e : Ends) (nodes : List (Cell Links B)) {ps : List Ptr} {
         → pointers_of hs ≡ ps → {b : Ptr} → b ≡ e.last.ptr → IsSpan fs hs f b n
     IsSpan-spliced {d} fs j hs order = IsSpan-row e nodes o (AreLinked-in_nodes d fs ps IsFresh-row
         (AreLinked-unchanged j ps (AvoidsSource-fresh null_ptr ps IsFresh-row) (AvoidsTarget-fresh null_ptr ps IsFresh-row)
-        (AreLinked-same cs ds same.next same.prev ps linked))) hs order is
+        (AreLinked-same cs ds same.next same.prev ps (AreLinked-tail cs null_ptr ps (held_row e nodes o).0)))) hs order is
 
 -- what is held stays, if nodes are joined
 pub contents-joined : {K V : Type 0} (ns ds : Nodes Links K V) {e d : Ends} {a b : Ptr}

@@ -1,4 +1,4 @@
-use Rattle.lhm_ring.proofs.Names.{[], ap, nil_from_length, subst, sym, ◌++◌, ◌-◌, ◌∙◌, ◌∷◌, with_bodies, IsSpan, contents, triples}
+use Rattle.lhm_ring.proofs.Names.{ap, nil_from_length, sym, ◌∙◌, with_bodies, triples}
 use Rattle.lhm_ring.proofs.memory.NodesWithBodies.{IsApart-with_bodies, body_at-with_bodies, links_at-with_bodies}
 use Rattle.lhm_ring.proofs.memory.NodesWithBodies.{with_bodies-without_body}
 use Rattle.lhm_ring.proofs.rings.Spans.{HasSpan-whole, Holds-last, IsAt-last, IsSpan-rest_of_last, triples-last_taken}
@@ -23,17 +23,14 @@ take-key-requires g c =
 pub invariant_of-self : goal.invariant_of-self
 invariant_of-self g c =
     let i = c.self.inside in let cs = i.nodes.now.cells in let run = i.contents.run in
-    let left = ap (with_bodies cs) c.take-key.ensures.run ∙ with_bodies-without_body i.last.ptr run cs i.nodes.now.apart in
-    let e = links_at-with_bodies cs run i.last.ptr ∙ c.links-links.ensures in
-    subst (λ zs. IsSpan zs (contents zs) i.first.ptr c.address-self-inside.result.ptr (i.left - 1)) (sym left)
-    (IsSpan-rest_of_last (IsApart-with_bodies cs run i.nodes.now.apart) c.self.invariant c.if-self-eq0.false e
-    c.address-self-inside.ensures)
+    IsSpan-rest_of_last (IsApart-with_bodies cs run i.nodes.now.apart) c.self.invariant c.if-self-eq0.false
+    (links_at-with_bodies cs run i.last.ptr ∙ c.links-links.ensures) c.address-self-inside.ensures
+    (ap (with_bodies cs) c.take-key.ensures.run ∙ with_bodies-without_body i.last.ptr run cs i.nodes.now.apart)
 
 pub returns : goal.returns
 returns g c =
     let i = c.self.inside in let cs = i.nodes.now.cells in let run = i.contents.run in
-    let left = ap (with_bodies cs) c.take-key.ensures.run ∙ with_bodies-without_body i.last.ptr run cs i.nodes.now.apart in
-    let e = links_at-with_bodies cs run i.last.ptr ∙ c.links-links.ensures in
-    let b = body_at-with_bodies cs run i.last.ptr _ c.links-links.ensures ∙ c.take-key.ensures.body in
-    sym c.self.view_is ∙ triples-last_taken (IsApart-with_bodies cs run i.nodes.now.apart) c.self.invariant c.if-self-eq0.false e b
-    ∙ ap (λ zs. triples (contents zs) ++ (c.links-links.result.now.hash, c.take-key.result) ∷ []) (sym left)
+    sym c.self.view_is ∙ triples-last_taken (IsApart-with_bodies cs run i.nodes.now.apart) c.self.invariant c.if-self-eq0.false
+    (links_at-with_bodies cs run i.last.ptr ∙ c.links-links.ensures)
+    (body_at-with_bodies cs run i.last.ptr _ c.links-links.ensures ∙ c.take-key.ensures.body)
+    (ap (with_bodies cs) c.take-key.ensures.run ∙ with_bodies-without_body i.last.ptr run cs i.nodes.now.apart)

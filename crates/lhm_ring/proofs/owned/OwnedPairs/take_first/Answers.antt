@@ -1,4 +1,4 @@
-use Rattle.lhm_ring.proofs.Names.{ap, nil_from_length, subst, sym, ◌-◌, ◌∙◌, ◌∷◌, IsSpan, contents, triples}
+use Rattle.lhm_ring.proofs.Names.{ap, nil_from_length, sym, ◌∙◌, triples}
 use Rattle.lhm_ring.proofs.memory.{Places.IsChain-same}
 use Rattle.lhm_ring.proofs.rings.Spans.{HasSpan-whole, Holds-first, IsAt-first, IsSpan-rest_of_first, triples-first_taken}
 use Rattle.lhm_ring.proofs.owned.OwnedPairs.take_first.Goals as goal
@@ -18,13 +18,11 @@ invariant_of-self g c =
     let i = c.self.inside in let s = c.self.invariant in let out = c.take-key.ensures in
     record {
       last = s.last;
-      span = subst (λ zs. IsSpan zs (contents zs) c.address-self-inside.result.ptr s.last (i.left - 1)) (sym out.cells)
-          (IsSpan-rest_of_first i.nodes.apart s.span c.if-self-eq0.false c.links-links.ensures c.address-self-inside.ensures);
+      span = IsSpan-rest_of_first i.nodes.apart s.span c.if-self-eq0.false c.links-links.ensures c.address-self-inside.ensures out.cells;
       all_listed = IsChain-same _ s.all_listed out.land.1;
     }
 
 pub returns : goal.returns
 returns g c =
-    let i = c.self.inside in let out = c.take-key.ensures in
-    sym c.self.view_is ∙ triples-first_taken i.nodes.apart c.self.invariant.span c.if-self-eq0.false c.links-links.ensures out.body
-    ∙ ap (λ zs. (c.links-links.result.now.hash, c.take-key.result) ∷ triples (contents zs)) (sym out.cells)
+    sym c.self.view_is ∙ triples-first_taken c.self.inside.nodes.apart c.self.invariant.span c.if-self-eq0.false c.links-links.ensures
+    c.take-key.ensures.body c.take-key.ensures.cells
