@@ -3,7 +3,7 @@ use Rattle.linked_hash_map.proofs.Names.{List, Some, [], ap, arith, cond, length
 use Rattle.linked_hash_map.proofs.Names.{◌∙◌, ◌∷◌, ◌≡◌, IsApart-tail, IsFresh-head, same_ptr-reflexive, CutAt-IsAt, IsAt-index_of, cut_at}
 use Rattle.linked_hash_map.proofs.Names.{slice_get-append, IsApart, IsAt, index_of, AtHeld, Held, IsHeld, change_at, revalued, TableState}
 use Rattle.linked_hash_map.proofs.Names.{WritesOnly, set_value_at, Beside, map_of, pairs_of, Ptr}
-use Rattle.lhm_ring.proofs.rings.HeldPointers.{same_ptr-fresh}
+use Rattle.lhm_ring.proofs.lists.Cuts.{same_ptr-fresh}
 use Rattle.linked_hash_map.proofs.nodes.HeldPairs.{bare-change, length-pairs_of, pairs_of-append}
 use Rattle.linked_hash_map.proofs.{nodes.Kept.map_of-revalued, pairs.Indexes.set_value_at-append}
 use Rattle.lhm_ring.proofs.tables.Positions as Positions
@@ -66,7 +66,8 @@ module _ {K V : Type 0} where
   index_of-append [] t ys d = ap (λ y. cond y 0 (index_of t.at ys + 1)) (same_ptr-reflexive t.at)
   index_of-append (x ∷ xs) t ys d =
       let on = index_of-append xs t ys (IsApart-tail x.at (map (λ u. u.at) (xs ++ t ∷ ys)) d) in
-      grind (arith, same_ptr-fresh, IsFresh-head)
+      let far = same_ptr-fresh (λ (u : Held (K × V)). u.at) x.at xs t ys (IsFresh-head x.at (map (λ u. u.at) (xs ++ t ∷ ys)) d) in
+      grind (arith, far)
 
   pub index_of-at : (hs : List (Held (K × V))) {p : Ptr} (i : ℕ) → IsAt hs p i → IsApart (map (λ u. u.at) hs) → index_of p hs ≡ i
   index_of-at hs i at apart =
