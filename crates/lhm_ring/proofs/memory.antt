@@ -1,4 +1,3 @@
-pub mod BlockPointers
 pub mod BlockValues
 pub mod BucketParts
 pub mod ChunkParts

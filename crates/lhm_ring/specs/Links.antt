@@ -9,7 +9,7 @@ use denote.RawPtr.{Ptr, null_ptr}
 use Rattle.lhm_ring.specs.declared.pointer.Link.{Link}
 use Rattle.lhm_ring.specs.declared.links.Links.{Links}
 use Rattle.lhm_ring.specs.declared.links.Ends.{Ends}
-use Rattle.lhm_ring.specs.Nodes.{Cell, cell, same_ptr, links_at, body_at, with_links, IsApart, is_block, Chunk}
+use Rattle.lhm_ring.specs.Nodes.{Cell, cell, same_ptr, links_at, with_links, IsApart, is_block, Chunk}
 use Rattle.lhm_ring.specs.Ring.{Held, last_of}
 use Rattle.lhm_ring.specs.Pointer.{target}
 
@@ -76,9 +76,6 @@ module _ {B : Type 0} where
   content_of p (Some l) (Some b) =
       Some (record { at = p; hash = l.hash; link = link_of (Some l); pair = b })
 
-  abbrev pub content_at : List (Cell Links B) → Ptr → Option (Held B)
-  content_at cs p = content_of p (links_at cs p) (body_at cs p)
-
   -- in ds the chain link of the node at p is o, and nothing else differs
   abbrev pub ChainsTo : List (Cell Links B) → Ptr → Link → List (Cell Links B) → Type 0
   ChainsTo cs p o ds = (l : Links) → links_at cs p ≡ Some l → ds ≡ with_links p (chaining_to o l) cs
@@ -133,10 +130,9 @@ module _ {B : Type 0} where
     pub next : (q : Ptr) → next_at ds q ≡ cond (same_ptr a q) b (next_at cs q)
     pub prev : (q : Ptr) → prev_at ds q ≡ cond (same_ptr b q) a (prev_at cs q)
     pub link : (q : Ptr) → link_at ds q ≡ link_at cs q
-    pub content : (q : Ptr) → content_at ds q ≡ content_at cs q
     pub there : (q : Ptr) → is_there ds q ≡ is_there cs q
     pub count : length ds ≡ length cs
-    pub order : holders ds ≡ holders cs
+    pub held : contents ds ≡ contents cs
 
 module _ {B : Type 0} where
   -- hs begins at f and ends at b

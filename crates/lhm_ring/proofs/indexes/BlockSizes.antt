@@ -1,5 +1,5 @@
 -- The block of n buckets has room for n heads, and for n words behind them.
-use Rattle.lhm_ring.proofs.Names.{arith, ℕ, ◌*◌, ◌-◌, ◌<◌, ◌≡◌, ◌≤◌, block_heads}
+use Rattle.lhm_ring.proofs.Names.{arith, block_heads, ℕ, ◌*◌, ◌-◌, ◌<◌, ◌≡◌, ◌≤◌}
 
 pub block_heads-enough : (n : ℕ) → n ≤ block_heads n
 block_heads-enough n = omega arith

@@ -1,14 +1,7 @@
 -- The heads and the words of the buckets.
-use Rattle.lhm_ring.proofs.Names.{List, None, Option, Some, T, [], ap, arith, cases_eq, get_or, get_or-set_other, get_or-set_same, inl, inr}
-use Rattle.lhm_ring.proofs.Names.{length, ltb→lt, map, refl, set, subst, suc, sym, true, zero, ℕ, ◌++◌, ◌+◌, ◌<◌, ◌^◌, ◌∙◌, ◌∷◌, ◌≡◌}
-use Rattle.lhm_ring.proofs.Names.{◌≢◌, BitsHaveChains, BucketState, bits_of, leads_to, is_null_or_block, led_to, Head, Word}
-use Rattle.lhm_ring.proofs.Names.{length-map, map-set, InBlock, Ptr, Testable, block_ptr, null_ptr}
-
--- there are as many words as heads
-pub length-words : (heads : List Head) (words : List Word) {n : ℕ} {s : BucketState}
-    → record { heads = map leads_to heads; words = map bits_of words } ≡ s
-    → length heads ≡ n → length words ≡ n → length s.heads ≡ length (map bits_of words)
-length-words heads words seen h w = grind (arith, length-map)
+use Rattle.lhm_ring.proofs.Names.{BitsHaveChains, InBlock, List, None, Option, Ptr, Some, Testable, [], ap, arith, block_ptr, cases_eq}
+use Rattle.lhm_ring.proofs.Names.{get_or, get_or-set_other, get_or-set_same, inl, inr, is_null_or_block, led_to, length, map, null_ptr}
+use Rattle.lhm_ring.proofs.Names.{refl, set, suc, sym, true, zero, ℕ, ◌++◌, ◌+◌, ◌<◌, ◌∙◌, ◌∷◌, ◌≡◌, ◌≢◌}
 
 module _ {X Y : Type 0} (f : X → Y) (none : Y) where
   -- one more empty element
@@ -28,11 +21,6 @@ module _ {X Y : Type 0} (f : X → Y) (none : Y) where
   get_or-cleared (y ∷ xs) (suc i) x e a zero l = a 0 (omega arith)
   get_or-cleared (y ∷ xs) (suc i) x e a (suc b) l = get_or-cleared xs i x e (λ c m. a (suc c) (omega (arith, m))) b (omega (arith, l))
 
--- an element is written in place
-pub map-set_taken : {X Y : Type 0} (f : X → Y) {old taken new : List X} (b : ℕ) (x : X) → new ≡ set taken b x → taken ≡ old
-    → map f new ≡ set (map f old) b (f x)
-map-set_taken f {old} b x put take = ap (map f) (put ∙ ap (λ xs. set xs b x) take) ∙ map-set f old b x
-
 -- past the last element lies what stands for none
 pub get_or-everywhere : {X : Type 0} (none : X) (xs : List X) → ((b : ℕ) → b < length xs → get_or xs b none ≡ none)
     → (b : ℕ) → get_or xs b none ≡ none
@@ -46,15 +34,13 @@ pub BitsHaveChains-set : (heads : List (Option Ptr)) (words : List ℕ) (bucket 
     → (head ≡ None → get_or new bucket 0 ≡ 0) → BitsHaveChains heads words → BitsHaveChains (set heads bucket head) new
 BitsHaveChains-set heads words bucket head new l others own bits b none =
     elim (cases_eq b bucket) [
-      | inl here ↦ ap (λ c. get_or new c 0) here
-          ∙ own (sym (get_or-set_same heads bucket head None l) ∙ ap (λ c. get_or (set heads bucket head) c None) (sym here) ∙ none)
+      | inl here ↦ ap (λ c. get_or new c 0) here ∙ own (grind (arith, get_or-set_same))
       | inr away ↦ others b away ∙ bits b (sym (get_or-set_other heads bucket b head None away) ∙ none)
     ]
 
 -- what may be compared with null, and where it leads
 pub Testable-null_or_block : (p : Ptr) → is_null_or_block p ≡ true → Testable p
-Testable-null_or_block (block_ptr b o) e = ltb→lt o (2 ^ 63) (subst T (sym e) tt)
-Testable-null_or_block null_ptr e = omega arith
+Testable-null_or_block p e = grind arith
 
 pub led_to-in_block : (p : Ptr) → InBlock p → led_to p ≡ Some p
 led_to-in_block (block_ptr b o) t = refl

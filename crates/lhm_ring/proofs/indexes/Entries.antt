@@ -1,17 +1,17 @@
 -- Nodes with no chain link: what a change of chain links alone leaves.
-use Rattle.std.proofs.Common.{◌≡◌, ℕ, List, [], ◌∷◌, ◌++◌, refl, sym, ◌∙◌, ap, Bool, Option, None, ◌%◌, true, false, length, map, subst}
-use Rattle.std.proofs.{Common.eqb, Common.arith, lemmas.List.map-append, lemmas.List.length-map}
+use Rattle.lhm_ring.proofs.lists.RearrangedCounts.{count_by-map}
+use Rattle.lhm_ring.specs.Index.{OfNodeAt, count_in_bucket, count_with_hash, entries, spot, spots}
+use Rattle.lhm_ring.specs.Ring.{AtHeld, Held, IsHeld, SplitAt, change_at, last_at, last_of, linked_to, revalued, triples}
+use Rattle.lhm_ring.specs.Search.{Compares, CountsAll, CountsSome, HasKey, LacksKey}
+use Rattle.std.proofs.Common.{Bool, List, None, Option, [], ap, arith, eqb, false, length, map, refl, subst, sym, true, ℕ, ◌%◌, ◌++◌, ◌∙◌}
+use Rattle.std.proofs.{Common.◌∷◌, Common.◌≡◌, lemmas.List.length-map, lemmas.List.map-append, lemmas.Simd.map-map}
 use Rattle.std.specs.Prelude.{count_by}
-use Rattle.lhm_ring.proofs.lists.RearrangedCounts.{count_by-cons}
-use Rattle.lhm_ring.specs.Ring.{Held, IsHeld, AtHeld, linked_to, last_at, last_of, change_at, triples, SplitAt, revalued}
-use Rattle.lhm_ring.specs.Index.{OfNodeAt, entries, spot, spots, count_with_hash, count_in_bucket}
-use Rattle.lhm_ring.specs.Search.{HasKey, LacksKey, Compares, CountsSome, CountsAll}
 use denote.RawPtr.{Ptr}
 
 pub entries-link : {K V : Type 0} (before : List (Held (K × V))) (x : Held (K × V)) (after : List (Held (K × V))) (l : Option Ptr)
     → entries (before ++ linked_to l x ∷ after) ≡ entries (before ++ x ∷ after)
-entries-link [] x after l = refl
-entries-link (y ∷ before) x after l = ap (λ v. linked_to None y ∷ v) (entries-link before x after l)
+entries-link before x after l =
+    map-append (linked_to None) before (linked_to l x ∷ after) ∙ sym (map-append (linked_to None) before (x ∷ after))
 
 pub entries-linked_to : {K V : Type 0} (old new : List (Held (K × V))) (p : Ptr) (l : Option Ptr) → IsHeld old p
     → AtHeld old p (λ before x after. new ≡ before ++ linked_to l x ∷ after) → entries new ≡ entries old
@@ -29,22 +29,16 @@ module _ {K V : Type 0} where
 
   pub EntriesCut-split : (hs xs : List (Held (K × V))) (t : Held (K × V)) (ys : List (Held (K × V)))
       → entries hs ≡ xs ++ t ∷ ys → EntriesCut hs xs t ys
-  EntriesCut-split [] [] t ys e = absurd (cc)
-  EntriesCut-split [] (x ∷ xs) t ys e = absurd (cc)
+  EntriesCut-split [] [] t ys e = absurd cc
+  EntriesCut-split [] (x ∷ xs) t ys e = absurd cc
   EntriesCut-split (h ∷ hs) [] t ys e =
-      record {
-        split = record { before = []; node = h; after = hs; is = refl; at_is = (cc) };
-        before_is = refl;
-        after_is = (cc);
-      }
+      record { split = record { before = []; node = h; after = hs; is = refl; at_is = cc }; before_is = refl; after_is = cc }
   EntriesCut-split (h ∷ hs) (x ∷ xs) t ys e =
-      let rest : entries hs ≡ xs ++ t ∷ ys = cc in
-      let first : linked_to None h ≡ x = cc in
-      let i : EntriesCut hs xs t ys = EntriesCut-split hs xs t ys rest in
+      let i = EntriesCut-split hs xs t ys cc in
       let k = i.split in
       record {
-        split = record { before = h ∷ k.before; node = k.node; after = k.after; is = ap (λ zs. h ∷ zs) k.is; at_is = k.at_is };
-        before_is = (λ j. first j ∷ i.before_is j);
+        split = record { before = h ∷ k.before; node = k.node; after = k.after; is = cc; at_is = k.at_is };
+        before_is = cc;
         after_is = i.after_is;
       }
 
@@ -70,20 +64,17 @@ module _ {K V : Type 0} where
       key_is = OfNodeAt-kept (λ x. is_key x.pair.0 ≡ true) h.key_is;
     }
 
-  pub entries-entries : (hs : List (Held (K × V))) → entries (entries hs) ≡ entries hs
-  entries-entries [] = refl
-  entries-entries (t ∷ hs) = ap (λ ys. linked_to None t ∷ ys) (entries-entries hs)
-
   pub length-entries : (hs : List (Held (K × V))) → length (entries hs) ≡ length hs
   length-entries hs = length-map hs (linked_to {B = K × V} None)
 
+  entries-entries : (hs : List (Held (K × V))) → entries (entries hs) ≡ entries hs
+  entries-entries = map-map (linked_to None) (linked_to {B = K × V} None)
+
   pub pointers-entries : (hs : List (Held (K × V))) → map (λ t. t.at) (entries hs) ≡ map (λ t. t.at) hs
-  pointers-entries [] = refl
-  pointers-entries (t ∷ hs) = ap (λ ps. t.at ∷ ps) (pointers-entries hs)
+  pointers-entries = map-map (λ t. t.at) (linked_to {B = K × V} None)
 
   pub triples-entries : (hs : List (Held (K × V))) → triples (entries hs) ≡ triples hs
-  triples-entries [] = refl
-  triples-entries (t ∷ hs) = ap (λ ts. (t.hash, t.pair) ∷ ts) (triples-entries hs)
+  triples-entries = map-map (λ t. (t.hash, t.pair)) (linked_to {B = K × V} None)
 
   last_of-entries : (t : Held (K × V)) (hs : List (Held (K × V))) → last_of (linked_to None t) (entries hs) ≡ last_of t hs
   last_of-entries t [] = refl
@@ -104,9 +95,9 @@ module _ {K V : Type 0} where
   pub AtHeld-entries : (hs : List (Held (K × V))) (p : Ptr) (P : List (Held (K × V)) → Held (K × V) → List (Held (K × V)) → Type 0)
       → AtHeld hs p (λ xs t ys. P (entries xs) (linked_to None t) (entries ys)) → AtHeld (entries hs) p P
   AtHeld-entries hs p P h xs t ys e at =
-      let i : EntriesCut hs xs t ys = EntriesCut-split hs xs t ys e in
+      let i = EntriesCut-split hs xs t ys e in
       let k = i.split in
-      let seen = h k.before k.node k.after k.is (ap (λ (u : Held (K × V)). u.at) k.at_is ∙ at) in
+      let seen = h k.before k.node k.after k.is (ap (λ u. u.at) k.at_is ∙ at) in
       subst (λ (z : List (Held (K × V)) × (Held (K × V) × List (Held (K × V)))). P z.0 z.1.0 z.1.1)
       (λ j. (i.before_is j, (k.at_is j, i.after_is j))) seen
 
@@ -119,38 +110,26 @@ module _ {K V : Type 0} where
       → LacksKey is_key hash hs → LacksKey is_key hash (entries hs)
   LacksKey-entries is_key hash hs none xs t ys e =
       let k = (EntriesCut-split hs xs t ys e).split in
-      subst (λ (u : Held (K × V)). Compares is_key hash u false) k.at_is (none k.before k.node k.after k.is)
+      subst (λ u. Compares is_key hash u false) k.at_is (none k.before k.node k.after k.is)
 
-  count_by-entries : (test : ℕ → Bool) (hs : List (Held (K × V))) → count_by (λ s. test s.hash)
-      (spots (entries hs)) ≡ count_by (λ s. test s.hash) (spots hs)
-  count_by-entries test [] = refl
-  count_by-entries test (t ∷ hs) =
-      let rest = count_by-entries test hs in
-      let left = count_by-cons (λ s. test s.hash) (spot (linked_to None t)) (spots (entries hs)) in
-      let right = count_by-cons (λ s. test s.hash) (spot t) (spots hs) in
-      omega (arith, rest, left, right)
+  pub count_by-entries : (test : ℕ → Bool) (hs : List (Held (K × V)))
+      → count_by (λ s. test s.hash) (spots (entries hs)) ≡ count_by (λ s. test s.hash) (spots hs)
+  count_by-entries test hs =
+      count_by-map (λ s. test s.hash) spot (entries hs) ∙ count_by-map (λ t. test t.hash) (linked_to {B = K × V} None) hs
+      ∙ sym (count_by-map (λ s. test s.hash) spot hs)
 
-  pub count_with_hash-entries : (hs : List (Held (K × V))) (hash : ℕ)
-      → count_with_hash (spots (entries hs)) hash ≡ count_with_hash (spots hs) hash
-  count_with_hash-entries hs hash = count_by-entries (λ n. eqb n hash) hs
+  module _ (hs : List (Held (K × V))) (m n hash visited compared : ℕ) (wide : m ≡ n) where
+    count_with_hash-entries : count_with_hash (spots (entries hs)) hash ≡ count_with_hash (spots hs) hash
+    count_with_hash-entries = count_by-entries (λ k. eqb k hash) hs
 
-  pub count_in_bucket-entries : (hs : List (Held (K × V))) (n hash : ℕ)
-      → count_in_bucket (spots (entries hs)) n hash ≡ count_in_bucket (spots hs) n hash
-  count_in_bucket-entries hs n hash = count_by-entries (λ m. eqb (m % n) (hash % n)) hs
+    count_in_bucket-entries : count_in_bucket (spots (entries hs)) n hash ≡ count_in_bucket (spots hs) m hash
+    count_in_bucket-entries = count_by-entries (λ k. eqb (k % n) (hash % n)) hs ∙ ap (λ k. count_in_bucket (spots hs) k hash) (sym wide)
 
-  pub CountsSome-entries : (hs : List (Held (K × V))) (m n hash visited compared : ℕ) → m ≡ n
-      → CountsSome (spots hs) m hash visited compared → CountsSome (spots (entries hs)) n hash visited compared
-  CountsSome-entries hs m n hash visited compared wide c =
-      let all = count_with_hash-entries hs hash in
-      let near = count_in_bucket-entries hs m hash in
-      grind arith
+    pub CountsSome-entries : CountsSome (spots hs) m hash visited compared → CountsSome (spots (entries hs)) n hash visited compared
+    CountsSome-entries c = grind (arith, count_with_hash-entries, count_in_bucket-entries)
 
-  pub CountsAll-entries : (hs : List (Held (K × V))) (m n hash visited compared : ℕ) → m ≡ n → CountsAll (spots hs) m hash visited compared
-      → CountsAll (spots (entries hs)) n hash visited compared
-  CountsAll-entries hs m n hash visited compared wide c = record {
-    visited_all = c.visited_all ∙ sym (count_in_bucket-entries hs m hash) ∙ ap (λ k. count_in_bucket (spots (entries hs)) k hash) wide;
-    compared_all = c.compared_all ∙ sym (count_with_hash-entries hs hash);
-  }
+    pub CountsAll-entries : CountsAll (spots hs) m hash visited compared → CountsAll (spots (entries hs)) n hash visited compared
+    CountsAll-entries c = grind (arith, count_with_hash-entries, count_in_bucket-entries)
 
 -- nodes with the same entries are as many
 pub length-same_entries : {K V : Type 0} (hs ks : List (Held (K × V))) → entries hs ≡ entries ks → length hs ≡ length ks

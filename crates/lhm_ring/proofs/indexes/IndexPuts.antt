@@ -1,9 +1,9 @@
 -- A node is put into its chain, and all nodes are, one after another.
-use Rattle.lhm_ring.proofs.Names.{List, None, Option, Some, [], ap, append-nil, append_assoc, arith, get_or, length, length-append}
-use Rattle.lhm_ring.proofs.Names.{length-set, refl, subst, sym, ℕ, ◌%◌, ◌++◌, ◌+◌, ◌<◌, ◌∙◌, ◌∷◌, ◌≡◌, ◌≤◌, BucketState, HoldsOthers}
-use Rattle.lhm_ring.proofs.Names.{Indexes, IsPutFirst, PutsFirst, entries, spot, spots, AtHeld, Held, IsHeld, first_at, linked_to, Ptr}
-use Rattle.lhm_ring.proofs.{indexes.Entries.entries-link, indexes.Entries.length-same_entries, rings.Ends.First, rings.Ends.First-first_at}
+use Rattle.lhm_ring.proofs.Names.{AtHeld, BucketState, Held, HoldsOthers, Indexes, IsHeld, IsPutFirst, List, None, Option, Ptr, PutsFirst}
+use Rattle.lhm_ring.proofs.Names.{Some, [], ap, append-nil, append_assoc, arith, entries, first_at, get_or, length, length-append}
+use Rattle.lhm_ring.proofs.Names.{length-set, linked_to, refl, spot, spots, sym, ℕ, ◌%◌, ◌++◌, ◌+◌, ◌<◌, ◌∙◌, ◌∷◌, ◌≡◌, ◌≤◌}
 use Rattle.lhm_ring.proofs.indexes.{IndexMoves.PutsIn-last, Spots.PutsIn-spots, WholeBuckets.Indexes-put}
+use Rattle.lhm_ring.proofs.{indexes.Entries.entries-link, indexes.Entries.length-same_entries, rings.Ends.First, rings.Ends.First-first_at}
 
 module _ {K V : Type 0} where
   -- the node that comes last is the one that the buckets lack
@@ -11,25 +11,18 @@ module _ {K V : Type 0} where
       → nodes ≡ old ++ t ∷ [] → Indexes i (spots old) → HoldsOthers i nodes t.at
   HoldsOthers-last {i} old t last indexed = record {
     held = record { before = old; node = t; after = []; is = last; at_is = refl };
-    others = subst (λ hs. Indexes i (spots hs)) (sym (append-nil old)) indexed;
+    others = rw (append-nil old) indexed;
   }
 
   -- the node at p is put first in its chain
-  module _ (p : Ptr) (old new : BucketState) (nodes nodes' : List (Held (K × V))) (put : PutsFirst p old new nodes nodes') where
-    pub Indexes-put_first : HoldsOthers old nodes p → 0 < length old.heads → Indexes new (spots nodes')
-    Indexes-put_first lacks some =
-        let h = lacks.held in
-        let k = put h.before h.node h.after h.is h.at_is in
-        let x = linked_to (get_or old.heads (h.node.hash % length old.heads) None) h.node in
-        subst (λ (v : List (Held (K × V))). Indexes new (spots v)) (sym k.nodes_is)
-        (Indexes-put new (spot x) (spots (h.before ++ x ∷ h.after)) lacks.others some refl
-        (PutsIn-spots h.before x h.after) k.heads_is k.words_is)
-
-    pub entries-put_first : IsHeld nodes p → entries nodes' ≡ entries nodes
-    entries-put_first h = grind (arith, entries-link)
-
-    pub length-put_first : IsHeld nodes p → length new.heads ≡ length old.heads
-    length-put_first h = grind (arith, length-set)
+  pub Indexes-put_first : (p : Ptr) (old new : BucketState) (nodes nodes' : List (Held (K × V))) → PutsFirst p old new nodes nodes'
+      → HoldsOthers old nodes p → 0 < length old.heads → Indexes new (spots nodes')
+  Indexes-put_first p old new nodes nodes' put lacks some =
+      let h = lacks.held in
+      let k = put h.before h.node h.after h.is h.at_is in
+      let x = linked_to (get_or old.heads (h.node.hash % length old.heads) None) h.node in
+      rw k.nodes_is (Indexes-put new (spot x) (spots (h.before ++ x ∷ h.after)) lacks.others some refl
+      (PutsIn-spots h.before x h.after) k.heads_is k.words_is)
 
 -- the first nodes are rehashed, and the rest begins at pointer
 pub record IsRehashing {K V : Type 0} (i : BucketState) (old nodes : List (Held (K × V)))
@@ -46,7 +39,7 @@ pub record IsRehashing {K V : Type 0} (i : BucketState) (old nodes : List (Held 
 module _ {K V : Type 0} {i : BucketState} {old nodes : List (Held (K × V))} {pointer : Option Ptr} {count buckets : ℕ}
     (w : IsRehashing i old nodes pointer count buckets) where
   -- at a node
-  module _ (p : Ptr) (e : pointer ≡ Some p) where
+  module _ {p : Ptr} (e : pointer ≡ Some p) where
     abbrev pub IsHeld-rehashing : IsHeld nodes p
     IsHeld-rehashing =
         let g : First w.rest p = First-first_at w.rest w.pointer_is e in
@@ -54,13 +47,13 @@ module _ {K V : Type 0} {i : BucketState} {old nodes : List (Held (K × V))} {po
           before = w.done;
           node = g.node;
           after = g.after;
-          is = w.is ∙ ap (λ (v : List (Held (K × V))). w.done ++ v) g.is;
+          is = w.is ∙ ap (λ v. w.done ++ v) g.is;
           at_is = g.at_is;
         }
 
     pub count-rehashing : count + 1 ≤ length old
     count-rehashing =
-        let g : IsHeld nodes p = IsHeld-rehashing in
+        let g = IsHeld-rehashing in
         let a : length nodes ≡ length old = length-same_entries nodes old w.kept in
         grind (arith, length-append)
 
@@ -71,7 +64,7 @@ module _ {K V : Type 0} {i : BucketState} {old nodes : List (Held (K × V))} {po
         → PutsFirst p i i' nodes nodes' → AtHeld nodes p (λ before x after. next ≡ first_at after)
         → IsRehashing i' old nodes' next (count + 1) buckets
     IsRehashing-step i' nodes' next some put nx =
-        let g : IsHeld nodes p = IsHeld-rehashing in
+        let g = IsHeld-rehashing in
         let x : Held (K × V) = g.node in
         let k : IsPutFirst i i' nodes' w.done x g.after = put w.done x g.after g.is g.at_is in
         let x' : Held (K × V) = linked_to (get_or i.heads (x.hash % length i.heads) None) x in
@@ -85,6 +78,6 @@ module _ {K V : Type 0} {i : BucketState} {old nodes : List (Held (K × V))} {po
               some refl (PutsIn-last w.done x') k.heads_is k.words_is;
           pointer_is = nx w.done x g.after g.is g.at_is;
           count_is = (omega (arith, long, d));
-          kept = entries-put_first p i i' nodes nodes' put g ∙ w.kept;
-          buckets_is = length-put_first p i i' nodes nodes' put g ∙ w.buckets_is;
+          kept = ap entries k.nodes_is ∙ entries-link w.done x g.after _ ∙ sym (ap entries g.is) ∙ w.kept;
+          buckets_is = ap length k.heads_is ∙ length-set i.heads _ _ ∙ w.buckets_is;
         }

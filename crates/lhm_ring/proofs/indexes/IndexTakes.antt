@@ -1,10 +1,11 @@
 -- A node is removed from its chain.
-use Rattle.lhm_ring.proofs.Names.{Bool, List, None, Option, Some, [], ap, append_assoc, arith, get_or, length, set, subst, sym, true, ℕ}
-use Rattle.lhm_ring.proofs.Names.{◌%◌, ◌++◌, ◌<◌, ◌∙◌, ◌∷◌, ◌≡◌, filter, HasChains, IsChain, IsLast, IsOnChain, IsRearranged, OfNodeAt}
-use Rattle.lhm_ring.proofs.Names.{PutsIn, Spot, is_in, spot, spots, AtHeld, Held, IsHeld, SplitLast, linked_to, mod-lt, Ptr}
-use Rattle.lhm_ring.proofs.indexes.Spots.{IsHeld-spot, OfNodeAt-spot, OnNode, OnNode-rearranged, PutsIn-spots_at, PutsIn-spots_of}
-use Rattle.lhm_ring.proofs.indexes.WholeIndex.{HasChains-take_first, HasChains-take_next}
-use Rattle.lhm_ring.proofs.lists.Rearranged.{IsRearranged-less_middle, IsRearranged-more_middle, PutsIn-filter_in, no_puts}
+use Rattle.lhm_ring.proofs.Names.{AtHeld, HasChains, Held, IsHeld, IsOnChain, IsRearranged, List, None, OfNodeAt, Option, Ptr, PutsIn}
+use Rattle.lhm_ring.proofs.Names.{Some, SplitLast, Spot, [], ap, append_assoc, arith, filter, is_in, length, linked_to, mod-lt, refl, set}
+use Rattle.lhm_ring.proofs.Names.{spot, spots, subst, sym, true, ℕ, ◌%◌, ◌++◌, ◌<◌, ◌∙◌, ◌∷◌, ◌≡◌}
+use Rattle.lhm_ring.proofs.indexes.Chains.{IsChain-changed, IsChain-tail}
+use Rattle.lhm_ring.proofs.indexes.Spots.{IsHeld-spot, OfNodeAt-spot, OnNode, OnNode-rearranged, PutsIn-spots_of}
+use Rattle.lhm_ring.proofs.indexes.WholeIndex.{HasChains-own, HasChains-set, SameOthers, SameOthers-PutsIn}
+use Rattle.lhm_ring.proofs.lists.Rearranged.{IsRearranged-less_middle, IsRearranged-more_middle, filter-PutsIn, length-IsRearranged}
 
 -- the heads have every node except the one at p
 pub record HasOtherChains {K V : Type 0} (heads : List (Option Ptr)) (nodes : List (Held (K × V))) (p : Ptr) : Type 0 where
@@ -14,37 +15,37 @@ pub record HasOtherChains {K V : Type 0} (heads : List (Option Ptr)) (nodes : Li
 -- with a spot there is a bucket
 pub length-HasChains : {heads : List (Option Ptr)} {xs : List Spot} (s : Spot) (ws : List Spot)
     → HasChains heads xs → PutsIn s ws xs → 0 < length heads
-length-HasChains s ws h p = grind (arith, no_puts)
+length-HasChains {xs = xs} s ws h p = let n = h.none in let e = length-IsRearranged (s ∷ ws) xs p in grind arith
 
--- the one before, if there is one
-abbrev HasBefore : List Spot → Ptr → Type 0
-HasBefore = SplitLast (λ s. s.at)
+-- a spot of a bucket is taken out
+module _ {K V : Type 0} {n b : ℕ} {s : Spot} {nodes : List (Held (K × V))} (k : OnNode n b s nodes) where
+  abbrev others : List Spot
+  others = spots (k.of.before ++ k.of.after)
 
-HasBefore-last : (before : Option Ptr) (done : List Spot) (q : Ptr) → before ≡ Some q → IsLast before done → HasBefore done q
-HasBefore-last before done q e h = grind arith
+  PutsIn-others : PutsIn s others (spots nodes)
+  PutsIn-others = subst (λ v. PutsIn v others (spots nodes)) k.of.at_is (PutsIn-spots_of k.of.before k.of.node k.of.after k.of.is)
 
-none-IsLast : (before : Option Ptr) (done : List Spot) → before ≡ None → IsLast before done → done ≡ []
-none-IsLast before done e h = grind arith
+  IsRearranged-others : (us vs : List Spot) → IsRearranged (us ++ s ∷ vs) (filter (is_in n b) (spots nodes))
+      → IsRearranged (us ++ vs) (filter (is_in n b) others)
+  IsRearranged-others us vs = IsRearranged-less_middle us s vs (filter (is_in n b) others) (filter (is_in n b) (spots nodes))
+      (filter-PutsIn (is_in n b) s others (spots nodes) PutsIn-others k.passes)
+
+  SameOthers-others : SameOthers n b (spots nodes) others
+  SameOthers-others c ne p = sym (SameOthers-PutsIn n b s others (spots nodes) k.passes PutsIn-others c ne p)
 
 -- the chain is split at the one before
 module _ {heads : List (Option Ptr)} {hash : ℕ} {xs : List Spot} {before : Option Ptr} {p q : Ptr}
     (w : IsOnChain heads hash xs before p) (e : before ≡ Some q) where
-  HasBefore-on_chain : HasBefore w.done q
-  HasBefore-on_chain = HasBefore-last before w.done q e w.behind
+  HasBefore-on_chain : SplitLast (λ s. s.at) w.done q
+  HasBefore-on_chain = let b = w.behind in grind arith
 
   append-before : w.done ++ w.here ∷ w.rest ≡ HasBefore-on_chain.before ++ HasBefore-on_chain.node ∷ w.here ∷ w.rest
-  append-before =
-      let b = HasBefore-on_chain in
-      ap (λ (v : List Spot). v ++ w.here ∷ w.rest) b.is ∙ append_assoc b.before (b.node ∷ []) (w.here ∷ w.rest)
-
-  IsRearranged-before : IsRearranged (HasBefore-on_chain.before ++ HasBefore-on_chain.node ∷ w.here ∷ w.rest)
-      (filter (is_in (length heads) (hash % length heads)) xs)
-  IsRearranged-before = grind (arith, append-before)
+  append-before = let i = HasBefore-on_chain.is in grind (arith, append_assoc)
 
 module _ {K V : Type 0} {heads : List (Option Ptr)} {hash : ℕ} {nodes : List (Held (K × V))} {before : Option Ptr} {p : Ptr}
     (w : IsOnChain heads hash (spots nodes) before p) where
   pub OnNode-on_chain : OnNode (length heads) (hash % length heads) w.here nodes
-  OnNode-on_chain = OnNode-rearranged (length heads) (hash % length heads) w.done w.here w.rest nodes w.holds
+  OnNode-on_chain = OnNode-rearranged _ (hash % length heads) w.done w.here w.rest nodes w.holds refl
 
   pub IsHeld-on_chain : IsHeld nodes p
   IsHeld-on_chain = IsHeld-spot OnNode-on_chain.of w.at_is
@@ -52,26 +53,24 @@ module _ {K V : Type 0} {heads : List (Option Ptr)} {hash : ℕ} {nodes : List (
   pub HasOtherChains-take_first : {link : Option Ptr} → before ≡ None → HasChains heads (spots nodes)
       → OfNodeAt nodes p (λ x. link ≡ x.link) → HasOtherChains (set heads (hash % length heads) link) nodes p
   HasOtherChains-take_first {link} e h l =
-      let n : ℕ = length heads in
-      let bucket : ℕ = hash % n in
-      let o : OnNode n bucket w.here nodes = OnNode-on_chain in
-      let others : List Spot = spots (o.of.before ++ o.of.after) in
-      let puts : PutsIn w.here others (spots nodes) = PutsIn-spots_at o.of in
-      let none : w.done ++ w.here ∷ w.rest ≡ w.here ∷ w.rest =
-      ap (λ (v : List Spot). v ++ w.here ∷ w.rest) (none-IsLast before w.done e w.behind) in
-      let i = HasChains-take_first bucket w.here w.rest others h
-      (mod-lt hash (length-HasChains w.here others h puts)) (subst (IsChain (get_or heads bucket None)) none w.linked)
-      (subst (λ (v : List Spot). IsRearranged v (filter (is_in n bucket) (spots nodes))) none w.holds) o.passes puts in
+      let o = OnNode-on_chain in
+      let none : w.done ≡ [] = (let b = w.behind in grind arith) in
       record {
         held = IsHeld-spot o.of w.at_is;
-        others = subst (λ v. HasChains (set heads bucket v) others) (sym (OfNodeAt-spot (λ s. link ≡ s.link) o.of w.at_is l)) i;
+        others = HasChains-set (hash % length heads) (others o) h (mod-lt hash (length-HasChains w.here (others o) h (PutsIn-others o)))
+            (SameOthers-others o) link (record {
+              chain = w.rest;
+              linked = rw (OfNodeAt-spot (λ s. link ≡ s.link) o.of w.at_is l) (IsChain-tail _ w.done w.here w.rest w.linked);
+              holds = subst (λ v. IsRearranged (v ++ w.rest) (filter (is_in _ (hash % length heads)) (others o))) none
+                  (IsRearranged-others o w.done w.rest w.holds);
+            });
       }
 
   module _ {q : Ptr} (e : before ≡ Some q) where
     OnNode-before : OnNode (length heads) (hash % length heads) (HasBefore-on_chain w e).node nodes
     OnNode-before =
         let b = HasBefore-on_chain w e in
-        OnNode-rearranged (length heads) (hash % length heads) b.before b.node (w.here ∷ w.rest) nodes (IsRearranged-before w e)
+        OnNode-rearranged _ (hash % length heads) b.before b.node (w.here ∷ w.rest) nodes w.holds (append-before w e)
 
     pub IsHeld-before : IsHeld nodes q
     IsHeld-before = IsHeld-spot OnNode-before.of (HasBefore-on_chain w e).at_is
@@ -80,43 +79,33 @@ module _ {K V : Type 0} {heads : List (Option Ptr)} {hash : ℕ} {nodes : List (
         → OfNodeAt nodes p (λ x. link ≡ x.link) → AtHeld nodes q (λ before x after. nodes' ≡ before ++ linked_to link x ∷ after)
         → HasOtherChains heads nodes' p
     HasOtherChains-take_next {nodes'} {link} h l sets =
-        let n : ℕ = length heads in
-        let bucket : ℕ = hash % n in
-        let f : Spot → Bool = is_in n bucket in
-        let b : HasBefore w.done q = HasBefore-on_chain w e in
-        let o : OnNode n bucket w.here nodes = OnNode-on_chain in
-        let y : OnNode n bucket b.node nodes = OnNode-before in
+        let n = length heads in
+        let bucket = hash % n in
+        let f = is_in n bucket in
+        let b = HasBefore-on_chain w e in
+        let y = OnNode-before in
         let k = y.of in
-        let zs : List Spot = spots (k.before ++ k.after) in
-        let y' : Spot = spot (linked_to link k.node) in
-        let was : PutsIn b.node zs (spots nodes) = PutsIn-spots_at k in
+        let zs = others y in
+        let y' = spot (linked_to link k.node) in
         let put' : PutsIn y' zs (spots nodes') = PutsIn-spots_of k.before (linked_to link k.node) k.after
         (sets k.before k.node k.after k.is (ap (λ v. v.at) k.at_is ∙ b.at_is)) in
-        let same : is_in n bucket y' ≡ true = ap (λ v. is_in n bucket v) k.at_is ∙ y.passes in
-        let less = IsRearranged-less_middle b.before b.node (w.here ∷ w.rest) (filter f zs) (filter f (spots nodes))
-        (PutsIn-filter_in f b.node zs (spots nodes) was y.passes) (IsRearranged-before w e) in
-        let more = IsRearranged-more_middle b.before y' (w.here ∷ w.rest) (filter f zs) (filter f (spots nodes'))
-        (PutsIn-filter_in f y' zs (spots nodes') put' same) less in
-        let s : OnNode n bucket w.here nodes' = OnNode-rearranged n bucket (b.before ++ y' ∷ []) w.here w.rest nodes'
-        (subst (λ v. IsRearranged v (filter f (spots nodes'))) (sym (append_assoc b.before (y' ∷ []) (w.here ∷ w.rest))) more) in
+        let same : f y' ≡ true = ap f k.at_is ∙ y.passes in
+        let changed = IsRearranged-more_middle b.before y' (w.here ∷ w.rest) (filter f zs) (filter f (spots nodes'))
+        (filter-PutsIn f y' zs (spots nodes') put' same)
+        (IsRearranged-others y b.before (w.here ∷ w.rest) (rw (← append-before w e) w.holds)) in
+        let assoc = sym (append_assoc b.before (y' ∷ []) (w.here ∷ w.rest)) in
+        let s = OnNode-rearranged n bucket (b.before ++ y' ∷ []) w.here w.rest nodes' changed assoc in
         record {
           held = IsHeld-spot s.of w.at_is;
-          others = HasChains-take_next {xs = spots nodes} {xs' = spots nodes'} h (mod-lt hash (length-HasChains b.node zs h was)) (record {
-            done = b.before;
-            y = b.node;
-            s = w.here;
-            rest = w.rest;
-            linked = subst (IsChain (get_or heads bucket None)) (append-before w e) w.linked;
-            holds = IsRearranged-before w e;
-            y' = y';
-            at_is = ap (λ v. v.at) k.at_is;
-            hash_is = ap (λ v. v.hash) k.at_is;
-            link_is = OfNodeAt-spot (λ s. link ≡ s.link) o.of w.at_is l;
-            zs = zs;
-            y_passes = y.passes;
-            s_passes = s.passes;
-            was = was;
-            is = put';
-            others = PutsIn-spots_at s.of;
-          });
+          others = HasChains-own bucket (others s) h (mod-lt hash (length-HasChains b.node zs h (PutsIn-others y)))
+              (λ c ne r. SameOthers-others y c ne r ∙ SameOthers-PutsIn n bucket y' zs (spots nodes') same put' c ne r
+              ∙ SameOthers-others s c ne r)
+              (record {
+                chain = (b.before ++ y' ∷ []) ++ w.rest;
+                linked = rw (append_assoc b.before (y' ∷ []) w.rest)
+                    (IsChain-changed _ b.before b.node y' (w.here ∷ w.rest) w.rest (ap (λ v. v.at) k.at_is)
+                    (rw (OfNodeAt-spot (λ s. link ≡ s.link) OnNode-on_chain.of w.at_is l) (IsChain-tail _ w.done w.here w.rest w.linked))
+                    (rw (← append-before w e) w.linked));
+                holds = IsRearranged-others s (b.before ++ y' ∷ []) w.rest (rw (← assoc) changed);
+              });
         }

@@ -1,7 +1,6 @@
 -- A list whose elements lie at pointers that are apart is cut at one of them in one way.
-use Rattle.lhm_ring.proofs.Names.{List, [], arith, false, map, refl, subst, sym, ◌++◌, ◌∷◌, ◌≡◌, IsApart, same_ptr, Ptr}
+use Rattle.lhm_ring.proofs.Names.{IsApart, List, Ptr, [], arith, false, map, same_ptr, ◌++◌, ◌∷◌, ◌≡◌}
 use Rattle.lhm_ring.proofs.lists.Apart.{IsApart-tail, IsFresh, IsFresh-head, same_ptr-reflexive}
-use Rattle.std.proofs.lemmas.List.{map-id}
 
 module _ {X : Type 0} (place : X → Ptr) where
   pub same_ptr-fresh : (p : Ptr) (xs : List X) (t : X) (ys : List X) → IsFresh p (map place (xs ++ t ∷ ys)) → same_ptr p (place t) ≡ false
@@ -21,8 +20,3 @@ module _ {X : Type 0} (place : X → Ptr) where
   cut_alone {t} {v} (h ∷ hs) (x ∷ xs) ys (u ∷ us) ws d e f at =
       let i = cut_alone {t = t} {v = v} hs xs ys us ws (IsApart-tail (place h) (map place hs) d) (cc) (cc) at in
       let same : x ≡ u = cc in (λ j. same j ∷ i.0 j, i.1)
-
--- the same of pointers
-pub pointers-alone : (ps xs ys us vs : List Ptr) (p : Ptr) → IsApart ps → ps ≡ xs ++ p ∷ ys → ps ≡ us ++ p ∷ vs → (xs ≡ us) × (ys ≡ vs)
-pointers-alone ps xs ys us vs p d e f =
-    let i = cut_alone (λ (q : Ptr). q) {t = p} {v = p} ps xs ys us vs (subst IsApart (sym (map-id ps)) d) e f refl in (i.0, i.1.1)

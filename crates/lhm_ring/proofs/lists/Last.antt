@@ -1,5 +1,5 @@
 -- The last element of a list, and the first, or another one if it is empty.
-use Rattle.lhm_ring.proofs.Names.{List, [], ap, arith, refl, ◌∷◌, SplitLast, AllByRecursion}
+use Rattle.lhm_ring.proofs.Names.{AllByRecursion, List, SplitLast, [], ap, arith, refl, ◌∷◌}
 
 module _ {X : Type 0} where
   abbrev pub first_from : X → List X → X

@@ -1,6 +1,6 @@
 -- Lists that are one another in another order.
-use Rattle.lhm_ring.proofs.Names.{Bool, List, [], ap, arith, cond, false, length, nil_from_length, refl, subst, sym, true, ℕ, ◌&&◌, ◌+◌}
-use Rattle.lhm_ring.proofs.Names.{◌++◌, ◌∙◌, ◌∷◌, ◌≡◌, count_by, filter, AllByRecursion, IsRearranged, PutsIn, SplitAt}
+use Rattle.lhm_ring.proofs.Names.{AllByRecursion, Bool, IsRearranged, List, PutsIn, SplitAt, [], ap, arith, cond, count_by, false, filter}
+use Rattle.lhm_ring.proofs.Names.{length, refl, subst, sym, true, ℕ, ◌&&◌, ◌++◌, ◌+◌, ◌∙◌, ◌∷◌, ◌≡◌}
 use Rattle.lhm_ring.proofs.lists.RearrangedCounts.{count_by-all, count_by-append, count_by-cons, count_by-filter}
 use Rattle.lhm_ring.proofs.lists.{ForAll.AllByRecursion-removed, ForAll.AllByRecursion-right, Splits.SplitAround}
 
@@ -8,44 +8,25 @@ module _ {X : Type 0} where
   pub length-IsRearranged : (xs ys : List X) → IsRearranged xs ys → length xs ≡ length ys
   length-IsRearranged xs ys h = sym (count_by-all xs) ∙ h (λ x. true) ∙ count_by-all ys
 
-  pub none-IsRearranged : (xs : List X) → IsRearranged [] xs → xs ≡ []
-  none-IsRearranged xs h = nil_from_length xs (sym (length-IsRearranged [] xs h))
-
-  pub no_puts : (x : X) (xs : List X) → PutsIn x xs [] → ⊥
-  no_puts x xs h = let e = length-IsRearranged (x ∷ xs) [] h in omega arith
-
   pub PutsIn-middle : (xs : List X) (x : X) (ys : List X) → PutsIn x (xs ++ ys) (xs ++ x ∷ ys)
-  PutsIn-middle xs x ys p =
-      omega (arith, count_by-append p xs (x ∷ ys), count_by-append p xs ys, count_by-cons p x ys, count_by-cons p x (xs ++ ys))
+  PutsIn-middle xs x ys p = grind (arith, count_by-append, count_by-cons)
 
   -- one element less in both, and one more
   module _ (us : List X) (x : X) (vs ys ys' : List X) (q : PutsIn x ys ys') where
     pub IsRearranged-less_middle : IsRearranged (us ++ x ∷ vs) ys' → IsRearranged (us ++ vs) ys
-    IsRearranged-less_middle h p =
-        omega (arith, h p, q p, PutsIn-middle us x vs p, count_by-cons p x ys, count_by-cons p x (us ++ vs))
+    IsRearranged-less_middle h p = let a = h p in let b = q p in grind (arith, PutsIn-middle, count_by-cons)
 
     pub IsRearranged-more_middle : IsRearranged (us ++ vs) ys → IsRearranged (us ++ x ∷ vs) ys'
-    IsRearranged-more_middle h p =
-        omega (arith, h p, q p, PutsIn-middle us x vs p, count_by-cons p x ys, count_by-cons p x (us ++ vs))
-
-  -- those that pass a test, once an element is put in
-  module _ (t : X → Bool) (x : X) (xs ys : List X) (h : PutsIn x xs ys) where
-    counted : (p : X → Bool) (b : Bool) → t x ≡ b → cond {A = ℕ} (b && p x) 1 0 + count_by p (filter t xs) ≡ count_by p (filter t ys)
-    counted p b e =
-        let own : cond {A = ℕ} (t x && p x) 1 0 ≡ cond (b && p x) 1 0 = ap (λ c. cond {A = ℕ} (c && p x) 1 0) e in
-        omega (arith, own, h (λ y. t y && p y), count_by-cons (λ y. t y && p y) x xs, count_by-filter p t xs, count_by-filter p t ys)
-
-    pub PutsIn-filter_in : t x ≡ true → PutsIn x (filter t xs) (filter t ys)
-    PutsIn-filter_in e p = count_by-cons p x (filter t xs) ∙ counted p true e
-
-    pub filter-PutsIn : t x ≡ false → IsRearranged (filter t xs) (filter t ys)
-    filter-PutsIn e p = let a = counted p false e in omega arith
-
-    pub IsRearranged-put : t x ≡ true → (us : List X) → IsRearranged us (filter t xs) → IsRearranged (x ∷ us) (filter t ys)
-    IsRearranged-put e us r p = count_by-cons p x us ∙ ap (λ n. cond {A = ℕ} (p x) 1 0 + n) (r p) ∙ counted p true e
+    IsRearranged-more_middle h p = let a = h p in let b = q p in grind (arith, PutsIn-middle, count_by-cons)
 
   pub IsRearranged-filter : (t : X → Bool) (xs ys : List X) → IsRearranged xs ys → IsRearranged (filter t xs) (filter t ys)
   IsRearranged-filter t xs ys h p = count_by-filter p t xs ∙ h (λ x. t x && p x) ∙ sym (count_by-filter p t ys)
+
+  -- those that pass a test, once an element is put in
+  pub filter-PutsIn : (t : X → Bool) (x : X) (xs ys : List X) → PutsIn x xs ys → {b : Bool} → t x ≡ b
+      → IsRearranged (cond b (x ∷ filter t xs) (filter t xs)) (filter t ys)
+  filter-PutsIn t x xs ys h e =
+      subst (λ b. IsRearranged (cond b (x ∷ filter t xs) (filter t xs)) (filter t ys)) e (IsRearranged-filter t (x ∷ xs) ys h)
 
 -- an element that passes a test
 pub SplitAt-counted : {X : Type 0} (t : X → Bool) (xs : List X) → (count_by t xs ≡ 0 → ⊥) → SplitAt t xs true
@@ -53,17 +34,14 @@ SplitAt-counted t [] h = absurd (h refl)
 SplitAt-counted t (x ∷ xs) h = (elim (t x) as (λ b. t x ≡ b → SplitAt t (x ∷ xs) true) [
   | true ↦ λ e. record { before = []; node = x; after = xs; is = refl; at_is = e }
   | false ↦ λ e.
-      let none : cond {A = ℕ} (t x) 1 0 ≡ 0 = ap (λ b. cond {A = ℕ} b 1 0) e in
-      let i = SplitAt-counted t xs (λ z. h (count_by-cons t x xs ∙ (λ j. none j + z j))) in
+      let i = SplitAt-counted t xs (λ z. h (count_by-cons t x xs ∙ (λ j. cond {A = ℕ} (e j) 1 0 + z j))) in
       record { before = x ∷ i.before; node = i.node; after = i.after; is = ap (λ v. x ∷ v) i.is; at_is = i.at_is }
 ]) refl
 
 -- elements that are told apart
 module _ {X : Type 0} (same : X → X → Bool) (equal : (x y : X) → same x y ≡ true → x ≡ y) (reflexive : (x : X) → same x x ≡ true) where
   pub count_by-own : (x : X) (us vs : List X) → count_by (same x) (us ++ x ∷ vs) ≡ 0 → ⊥
-  count_by-own x us vs z =
-      let own : cond {A = ℕ} (same x x) 1 0 ≡ 1 = ap (λ b. cond {A = ℕ} b 1 0) (reflexive x) in
-      omega (arith, own, z, count_by-append (same x) us (x ∷ vs), count_by-cons (same x) x vs)
+  count_by-own x us vs z = grind (arith, count_by-append, count_by-cons, reflexive)
 
   -- each of a list is in another that is the same in another order
   pub SplitAround-IsRearranged : (xs : List X) (x : X) (ws zs : List X) → IsRearranged xs zs → PutsIn x ws zs → SplitAround xs x

@@ -1,5 +1,5 @@
 -- What is said of a result, by what follows from it.
-use Rattle.lhm_ring.proofs.Names.{arith, OnErr, OnOk, Result}
+use Rattle.lhm_ring.proofs.Names.{OnErr, OnOk, Result, arith}
 
 pub OnOk-always : {X E P : Type 0} (r : Result X E) → P → OnOk r P
 OnOk-always r h = grind arith

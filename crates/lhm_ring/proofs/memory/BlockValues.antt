@@ -1,12 +1,11 @@
 -- An empty block by value, and a pointer. Assumes `Logic`.
-use Rattle.lhm_ring.proofs.Names.{List, T, [], arith, false, refl, subst, true, ℕ, ◌++◌, ◌+◌, ◌<◌, ◌∙◌, ◌∷◌, ◌≡◌, block_owns, links_address}
-use Rattle.lhm_ring.proofs.Names.{pointers, same_ptr, Good, word, Fml, fat, froom, full_share, SProp, emp, ent, fst∗, never, never_e, sep}
-use Rattle.lhm_ring.proofs.Names.{via, fact, fact_i, part_at, layout, RattleType, Ptr, block_ptr, lies_at, null_ptr, ptr_val, room_for}
-use Rattle.lhm_ring.proofs.Names.{makes_shadow, shape, Struct, tcons, tnil, ty_ptr, ty_struct, Val, WT, has_ty, of_list, vcons, vnil}
-use Rattle.lhm_ring.proofs.Names.{vstruct, size, Model, Ura, !, Goal, Item, Seq, by, drop, feq_l, fpick, fsplit, given, keep, learn, move}
-use Rattle.lhm_ring.proofs.Names.{pick, qed, some, split, use1, ‵, ◌$◌, ◌∵◌, ◌⊛◌, Logic, sem}
-use Rattle.lhm_ring.proofs.{lists.Apart.IsFresh, lists.Apart.same_ptr-equal, memory.Steps.knows}
-use Rattle.lhm_ring.proofs.memory.NodeFields.{Cells, Node, Pl, RK, RL, RV, Three, lo, value_out}
+use Rattle.lhm_ring.proofs.Names.{ !, Fml, Goal, Item, List, Logic, Model, Ptr, RattleType, SProp, Seq, Struct, T, Ura, Val, WT, [], arith}
+use Rattle.lhm_ring.proofs.Names.{block_owns, block_ptr, by, drop, emp, ent, fact, fact_i, false, feq_l, fpick, froom, fsplit, fst∗}
+use Rattle.lhm_ring.proofs.Names.{full_share, has_ty, keep, layout, lies_at, links_address, makes_shadow, move, never, never_e, null_ptr}
+use Rattle.lhm_ring.proofs.Names.{of_list, part_at, pointers, ptr_val, qed, refl, room_for, same_ptr, sem, sep, shape, size, subst, tcons}
+use Rattle.lhm_ring.proofs.Names.{tnil, true, ty_ptr, ty_struct, use1, vcons, via, vnil, vstruct, word, ‵, ℕ, ◌$◌, ◌++◌, ◌+◌, ◌<◌, ◌∙◌}
+use Rattle.lhm_ring.proofs.memory.NodeFields.{Cells, Node, Pl, RK, RL, RV, Three, lo, value_known}
+use Rattle.lhm_ring.proofs.{Names.◌∵◌, Names.◌∷◌, Names.◌≡◌, lists.Apart.IsFresh, lists.Apart.same_ptr-equal, memory.Steps.knows}
 use Rattle.std.specs.declared.alloc.Allocator.{Ghosts}
 use mir.Raw.{raw as bare}
 use Rattle.lhm_ring.specs.contracts.nodes.Block as R-type
@@ -53,13 +52,9 @@ module _ {M : Type 1} {𝓤 : Ura M} (𝓛 : Logic 𝓤) (𝓜 : Model 𝓤 𝓛
       → ent 𝓤 (sep 𝓤 (sem 𝓛 (New p)) (sem 𝓛 (lies_at (RL E) full_share (links_address (RL E) (RK E) (RV E) p) x))) (never 𝓤)
   clash (block_ptr b o) x = let at : ℕ = o + lo E in
       qed 𝓛 (‵ (froom (bare (layout E.links)) b at) ∷ ‵ (part_at (RL E) full_share x b at) ∷ []) ∵
-      use1 𝓛 (‵ (froom (layout E.links) b at)) (𝓛.laws.raw-room (layout E.links) b at) $ move !
-      (1 ∷ []) $
-      use1 𝓛 (some (λ (v : Val). given (Good (layout E.links) v)
-      (‵ (fat full_share (layout E.links) b at v) ⊛ ‵ (E.links.own_val x (v ∷ [])))))
-      (value_out 0 E.links E.links_laws 𝓛 x b at) $ pick ! (λ v. learn ! (λ _. split ! $
-      keep ! (2 ∷ 0 ∷ []) $ by ! (𝓜.room_at (layout E.links) (layout E.links) b at at at full_share
-      v (omega arith, omega arith) (omega arith, omega arith))))
+      use1 𝓛 (‵ (froom (layout E.links) b at)) (𝓛.laws.raw-room (layout E.links) b at) $ move ! (1 ∷ []) $
+      value_known 0 E.links E.links_laws x b at ! (λ v _. keep ! (2 ∷ 0 ∷ []) $
+      by ! (𝓜.room_at (layout E.links) (layout E.links) b at at at full_share v (omega arith, omega arith) (omega arith, omega arith)))
   clash null_ptr x = fst∗ 𝓤 (never 𝓤) (never 𝓤)
 
   -- what cannot be owned at one pointer shows two

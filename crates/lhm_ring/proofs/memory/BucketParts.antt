@@ -1,66 +1,43 @@
 -- The memory of a block is split into that of heads and that of words, and joined again. Assumes `Logic`.
-use Rattle.lhm_ring.proofs.Names.{[], arith, refl, ℕ, ◌*◌, ◌+◌, ◌-◌, ◌∷◌, ◌≡◌, ◌≤◌, parts_own, as_raw, as_written, El, array_of, glued}
-use Rattle.lhm_ring.proofs.Names.{room_split, froom, fwand, SProp, apply∗, ent, sep, wand, layout, RattleType, block_ptr, room_for, Ty}
-use Rattle.lhm_ring.proofs.Names.{ty_array, Ura, !, assume, done, fjoin, frame, fsplit, move, qed, raw, split, use1, use2, ‵, ◌$◌, ◌∵◌, ◌⊛◌}
-use Rattle.lhm_ring.proofs.{Names.Logic, Names.sem, memory.Lodging.element}
-use Rattle.lhm_ring.specs.contracts.bucket_block.{Head.the_row as head, Word.the_row as word}
+use Rattle.lhm_ring.proofs.Names.{ !, El, Logic, RattleType, SProp, Ty, Ura, [], apply∗, arith, array_of, as_raw, as_written, assume}
+use Rattle.lhm_ring.proofs.Names.{block_ptr, done, ent, fjoin, frame, froom, fsplit, fwand, glued, layout, move, parts_own, qed, raw, refl}
+use Rattle.lhm_ring.proofs.Names.{room_for, room_split, sem, sep, split, ty_array, use1, use2, wand, ‵, ℕ, ◌$◌, ◌*◌, ◌+◌, ◌-◌, ◌∵◌, ◌∷◌}
+use Rattle.lhm_ring.proofs.{Names.◌≡◌, Names.◌≤◌, Names.◌⊛◌, memory.Lodging.element}
 use denote.Param.Laws.{Laws}
+use Rattle.lhm_ring.specs.contracts.bucket_block.{Head.the_row as head, Word.the_row as word}
 use mir.Raw.{raw as bare}
 use Rattle.lhm_ring.proofs.bucket_block.Head.TheLaws as head-laws
 use Rattle.lhm_ring.proofs.bucket_block.Word.TheLaws as word-laws
 
 -- the same with no name in their machine types, as a call of a generic function has them
+abbrev unnamed : RattleType → RattleType
+unnamed R = record R { mir = bare (layout R) ∷ [] }
+
 abbrev pub head₀ : RattleType
-head₀ = record {
-  Denot = head.Denot;
-  mir = bare (layout head) ∷ [];
-  written = head.written;
-  reaches = head.reaches;
-  lives = head.lives;
-  own_val = head.own_val;
-  exit = head.exit;
-  coded = head.coded;
-  shr_at = head.shr_at;
-}
+head₀ = unnamed head
 
 pub head₀-laws : Laws head₀
-head₀-laws =
-    let L = head-laws.the_row_laws in
-    record {
-      one = refl;
-      single = L.single;
-      lawful = λ 𝓛. record { typed = (L.lawful 𝓛).typed };
-      drops = λ 𝓛. L.drops 𝓛;
-      shares = λ 𝓛.
-          L.shares 𝓛;
-      shr_laws = L.shr_laws;
-    }
-
-abbrev pub word₀ : RattleType
-word₀ = record {
-  Denot = word.Denot;
-  mir = bare (layout word) ∷ [];
-  written = word.written;
-  reaches = word.reaches;
-  lives = word.lives;
-  own_val = word.own_val;
-  exit = word.exit;
-  coded = word.coded;
-  shr_at = word.shr_at;
+head₀-laws = let L = head-laws.the_row_laws in record {
+  one = refl;
+  single = L.single;
+  lawful = λ 𝓛. record { typed = (L.lawful 𝓛).typed };
+  drops = λ 𝓛. L.drops 𝓛;
+  shares = λ 𝓛. L.shares 𝓛;
+  shr_laws = L.shr_laws;
 }
 
+abbrev pub word₀ : RattleType
+word₀ = unnamed word
+
 pub word₀-laws : Laws word₀
-word₀-laws =
-    let L = word-laws.the_row_laws in
-    record {
-      one = refl;
-      single = L.single;
-      lawful = λ 𝓛. record { typed = (L.lawful 𝓛).typed };
-      drops = λ 𝓛. L.drops 𝓛;
-      shares = λ 𝓛.
-          L.shares 𝓛;
-      shr_laws = L.shr_laws;
-    }
+word₀-laws = let L = word-laws.the_row_laws in record {
+  one = refl;
+  single = L.single;
+  lawful = λ 𝓛. record { typed = (L.lawful 𝓛).typed };
+  drops = λ 𝓛. L.drops 𝓛;
+  shares = λ 𝓛. L.shares 𝓛;
+  shr_laws = L.shr_laws;
+}
 
 abbrev pub heads : Ty
 heads = layout head

@@ -1,14 +1,14 @@
 -- The memory of a chunk's block is split into that of its head and that of its nodes. Assumes `Logic`.
-use Rattle.lhm_ring.proofs.Names.{[], ap, arith, refl, suc, sym, zero, ℕ, ◌*◌, ◌+◌, ◌/◌, ◌∙◌, ◌∷◌, ◌≡◌, IsChunk, chunk_type, chunk_units}
-use Rattle.lhm_ring.proofs.Names.{head_type, unit_bytes, as_raw, as_written, next, one_more, type_size, froom, fwand, SProp, apply∗, ent}
-use Rattle.lhm_ring.proofs.Names.{sep, wand, layout, block_ptr, room_for, Ty, tcons, tnil, ty_array, ty_int, w64, mul_assoc, align, size}
-use Rattle.lhm_ring.proofs.Names.{Ura, !, assume, done, fjoin, frame, fsplit, move, qed, raw, rewrite, split, use1, use2, ‵, ◌$◌, ◌∵◌, ◌⊛◌}
-use Rattle.lhm_ring.proofs.Names.{Logic, sem}
-use Rattle.lhm_ring.proofs.memory.{ChunkSizes.units-times, PlaceCut.written, NodeFields.RK, NodeFields.RL, NodeFields.RV, NodeFields.Three}
-use Rattle.lhm_ring.specs.{Nodes.parts_own, contracts.nodes.ChunkUnit.the_row as unit, contracts.nodes.Node.the_row as node}
+use Rattle.lhm_ring.proofs.Names.{ !, IsChunk, Logic, SProp, Ty, Ura, [], align, ap, apply∗, arith, as_raw, as_written, assume, block_ptr}
+use Rattle.lhm_ring.proofs.Names.{chunk_type, chunk_units, done, ent, fjoin, frame, froom, fsplit, fwand, head_type, layout, move}
+use Rattle.lhm_ring.proofs.Names.{mul_assoc, next, one_more, qed, raw, refl, rewrite, room_for, sem, sep, size, split, suc, sym, tcons}
+use Rattle.lhm_ring.proofs.Names.{tnil, ty_array, ty_int, type_size, unit_bytes, use1, use2, w64, wand, zero, ‵, ℕ, ◌$◌, ◌*◌, ◌+◌, ◌/◌}
+use Rattle.lhm_ring.proofs.Names.{◌∙◌, ◌∵◌, ◌∷◌, ◌≡◌, ◌⊛◌}
+use Rattle.lhm_ring.proofs.memory.{ChunkSizes.units-times, NodeFields.RK, NodeFields.RL, NodeFields.RV, NodeFields.Three, PlaceCut.written}
 use denote.RawPtr.Room.{past, room_cut, room_glue}
-use mir.Raw.{raw as bare}
 use prog.Align.{Dv, head_aligns, tail_aligns}
+use Rattle.lhm_ring.specs.{Nodes.parts_own, contracts.nodes.ChunkUnit.the_row as unit, contracts.nodes.Node.the_row as node}
+use mir.Raw.{raw as bare}
 
 -- where m values of τ end
 pub past-times : (τ : Ty) (m o : ℕ) → past τ m o ≡ o + m * size τ

@@ -1,7 +1,6 @@
 -- How many units a chunk takes, and how many bytes these have.
-use Rattle.lhm_ring.proofs.Names.{ap, arith, subst, suc, sym, zero, ℕ, ◌*◌, ◌+◌, ◌/◌, ◌<◌, ◌^◌, ◌∙◌, ◌≡◌, ◌≤◌, one_below, add-mul}
-use Rattle.lhm_ring.proofs.Names.{le-mul_of_pos_right, lt_of_le_of_lt, mul-zero, mul_assoc, suc-mul, zero-mul, capped_is}
-use Rattle.lhm_ring.proofs.Names.{capped_small, capped}
+use Rattle.lhm_ring.proofs.Names.{add-mul, ap, arith, capped, capped_is, capped_small, le-mul_of_pos_right, lt_of_le_of_lt, mul-zero, ◌≤◌}
+use Rattle.lhm_ring.proofs.Names.{mul_assoc, one_below, subst, suc, suc-mul, sym, zero, zero-mul, ℕ, ◌*◌, ◌+◌, ◌/◌, ◌<◌, ◌^◌, ◌∙◌, ◌≡◌}
 
 -- so many units have the bytes of a head and n nodes
 pub units-times : (u s n : ℕ) → 16 / u * u ≡ 16 → s / u * u ≡ s → (16 / u + n * (s / u)) * u ≡ 16 + n * s

@@ -1,7 +1,7 @@
 -- What one node holds is moved out of what is lent. Assumes `Logic`.
-use Rattle.lhm_ring.proofs.Names.{List, None, Option, Some, [], ap, cond, false, refl, sym, true, ◌++◌, ◌∙◌, ◌∷◌, ◌≡◌, bodies, body_in}
-use Rattle.lhm_ring.proofs.Names.{firsts, seconds, without_body, body_owns, same_ptr, Fml, ent, id⊢, sep, Ptr, Ura, !, done, fjoin, fsplit}
-use Rattle.lhm_ring.proofs.Names.{move, qed, split, use1, use2, ‵, ◌$◌, ◌∵◌, ◌⊛◌, Logic, sem}
+use Rattle.lhm_ring.proofs.Names.{ !, Fml, List, Logic, None, Option, Ptr, Some, Ura, [], ap, bodies, body_in, body_owns, cond, done, ent}
+use Rattle.lhm_ring.proofs.Names.{false, firsts, fjoin, fsplit, id⊢, move, qed, refl, same_ptr, seconds, sem, sep, split, sym, true, use1}
+use Rattle.lhm_ring.proofs.Names.{use2, without_body, ‵, ◌$◌, ◌++◌, ◌∙◌, ◌∵◌, ◌∷◌, ◌≡◌, ◌⊛◌}
 use Rattle.lhm_ring.proofs.lists.{Apart.same_ptr-equal, Options.none_some, Splits.SplitAround}
 use Rattle.lhm_ring.proofs.memory.NodeFields.{RK, RL, RV, Three}
 

@@ -7,11 +7,11 @@
 use Rattle.lhm_ring.proofs.Names.{List, None, Option, Some, [], refl, ℕ, ◌+◌, ◌∷◌, Bodies, bodies, bodies_of, cleared, firsts, seconds}
 use Rattle.lhm_ring.proofs.Names.{Cell, body_owns, cell, cell_lent, cells_lent, deed_owns, land_owns, links_address, cleared_nodes, Nodes}
 use Rattle.lhm_ring.proofs.Names.{as_raw, Fml, GName, Incl, Lft, fat, fex, ffalse, froom, fsep, fseps, full_share, emp, ent, id⊢, never_e}
-use Rattle.lhm_ring.proofs.Names.{sep, Array, each, u8, mem, part_at, part_of, layout, RattleType, Valss, Ptr, block_ptr, lies_at, null_ptr}
+use Rattle.lhm_ring.proofs.Names.{sep, Array, each, u8, mem, part_at, part_of, layout, RattleType, Ptr, block_ptr, lies_at, null_ptr}
 use Rattle.lhm_ring.proofs.Names.{NamedLft, makes_shadow, Shares-less, nothing as empty, Lends, Lends-first, Lends-lies, lent_at, Struct}
-use Rattle.lhm_ring.proofs.Names.{within, ty_array, ty_int, w8, Val, vcons, vnil, vstruct, Ura, !, Goal, Item, Step, by, done, drop, feq_i}
-use Rattle.lhm_ring.proofs.Names.{fjoin, fjoin3, fpack, fpick, fsplit, fsplit3, keep, move, qed, raw, split, step, use1, use2, ‵, ◌$◌, ◌∵◌}
-use Rattle.lhm_ring.proofs.Names.{◌⊛◌, Logic, sem, Body as Borrowed, SemTy}
+use Rattle.lhm_ring.proofs.Names.{ty_array, ty_int, w8, Val, vnil, vstruct, Ura, !, by, done, drop, feq_i, fjoin, fjoin3, fpack, fpick}
+use Rattle.lhm_ring.proofs.Names.{fsplit, fsplit3, keep, move, qed, raw, split, use1, use2, ‵, ◌$◌, ◌∵◌, ◌⊛◌, Logic, sem, Body as Borrowed}
+use Rattle.lhm_ring.proofs.Names.{SemTy}
 use Rattle.lhm_ring.proofs.memory.NodeFields.{Cells, Land, Marker, Nr, One, RK, RL, RV, Three, body_uninit, ko, marker, vo}
 use Rattle.lhm_ring.proofs.memory.PartsTaken.{Entails, parts_cut, parts_glue, ◌∗◌}
 use Rattle.lhm_ring.proofs.memory.Sharing.{Law-thin, Lends-less, Lends-parts, Thin, parts_own}
@@ -113,9 +113,8 @@ module _ (E : Three) {M : Type 1} {𝓤 : Ura M} (𝓛 : Logic 𝓤) where
   content_glue : (c : Node (RL E) (RK E) (RV E)) (cs : List (Node (RL E) (RK E) (RV E))) (ws : List Content)
       → Entails 𝓛 (run (c ∷ cs) ws ∗ stem (RL E) (RK E) (RV E) c) (any_run cs ∗ One E (cell c.at c.links None))
   content_glue c cs [] = qed 𝓛 (‵ ffalse ∷ ‵ (stem (RL E) (RK E) (RV E) c) ∷ []) ∵ keep ! (0 ∷ []) $ by ! (never_e 𝓤 _)
-  content_glue c cs (w ∷ ws) = qed 𝓛 (‵ (run (c ∷ cs) (w ∷ ws)) ∷ ‵ (stem (RL E) (RK E) (RV E) c) ∷
-      []) ∵ fsplit ! $ use1 𝓛 (‵ (body c.at None)) (emptied_body c.at w) $ move ! (2 ∷ []) $ fsplit
-      ! $
+  content_glue c cs (w ∷ ws) = qed 𝓛 (‵ (run (c ∷ cs) (w ∷ ws)) ∷ ‵ (stem (RL E) (RK E) (RV E) c) ∷ []) ∵ fsplit ! $
+      use1 𝓛 (‵ (body c.at None)) (emptied_body c.at w) $ move ! (2 ∷ []) $ fsplit ! $
       -- [the links; the deed; the body; the bodies]
       move ! (0 ∷ 2 ∷ 1 ∷ []) $ fjoin3 ! $ move ! (1 ∷ []) $ fpack ! (List Content) (run cs) ws $ done !
 
@@ -159,9 +158,8 @@ module _ (E : Three) {M : Type 1} {𝓤 : Ura M} (𝓛 : Logic 𝓤) (h : (Nr E)
       → Entails 𝓛 ((Marker E).own_val (tt, tt) vs ∗ stems (RL E) (RK E) (RV E) (Land E h) h.cells ∗
       cell_at full_share (Nr E).mir vs rb ro) Fields
   unfolding part_of
-  fields_made vs = qed 𝓛 (‵ ((Marker E).own_val (tt, tt) vs) ∷ ‵
-      (stems (RL E) (RK E) (RV E) (Land E h) h.cells) ∷ ‵ (cell_at full_share (Nr E).mir vs rb ro) ∷
-      []) ∵
+  fields_made vs = qed 𝓛 (‵ ((Marker E).own_val (tt, tt) vs) ∷ ‵ (stems (RL E) (RK E) (RV E) (Land E h) h.cells)
+      ∷ ‵ (cell_at full_share (Nr E).mir vs rb ro) ∷ []) ∵
       fjoin ! $ move ! (1 ∷ 0 ∷ []) $ fjoin ! $ fpack ! (List Val)
       (λ us. fsep (cell_at full_share (Nr E).mir us rb ro)
       ((BareRow (RL E) (RK E) (RV E)).own_val h us)) vs $ done !
@@ -171,28 +169,12 @@ module _ (E : Three) {M : Type 1} {𝓤 : Ura M} (𝓛 : Logic 𝓤) (h : (Nr E)
       (sep 𝓤 (sem 𝓛 (fseps (Borrowed LentBodies 0 0 δ ∷ Fields ∷ []))) (emp 𝓤)))
       (sem 𝓛 ((mem (Nr E)).own_at (cleared_nodes h) rb ro))
   unfolding fseps part_of
-  back δ w = qed 𝓛 (‵ ((mem Anchor).own_at w rb ro) ∷ ‵
-      (fseps (Borrowed LentBodies 0 0 δ ∷ Fields ∷ [])) ∷ raw (emp 𝓤) ∷ []) ∵ drop ! $ fsplit ! $
-      fpick ! (λ os. fsplit ! $ move ! (2 ∷ []) $ fsplit ! $ fpick !
-      (λ vs. fsplit ! $ move ! (1 ∷ []) $ fsplit ! $
+  back δ w = qed 𝓛 (‵ ((mem Anchor).own_at w rb ro) ∷ ‵ (fseps (Borrowed LentBodies 0 0 δ ∷ Fields ∷ [])) ∷ raw (emp 𝓤) ∷ []) ∵ drop ! $
+      fsplit ! $
+      fpick ! (λ os. fsplit ! $ move ! (2 ∷ []) $ fsplit ! $ fpick ! (λ vs. fsplit ! $ move ! (1 ∷ []) $ fsplit ! $
       -- [the marker; the stems; the cell; nothing; the bodies; their name; nothing]
       move ! (4 ∷ []) $ fpack ! (List (Content E 𝓛)) (run E 𝓛 h.cells) os $ move ! (0 ∷ 2 ∷ []) $
       use2 𝓛 (‵ (Cells E (Land E h) (cleared h.cells))) (contents_glue E 𝓛 (Land E h) h.cells) $
       move ! (1 ∷ 0 ∷ []) $ fjoin ! $ move ! (1 ∷ 0 ∷ []) $ fjoin ! $
       fpack ! (List Val) (λ us. fsep (cell_at full_share (Nr E).mir us rb ro)
       ((Nr E).own_val (cleared_nodes h) us)) vs $ keep ! (0 ∷ []) $ done !))
-
-module _ {M : Type 1} {𝓤 : Ura M} {𝓛 : Logic 𝓤} {K : Type 0} {Γ : List (Item 𝓤)} {G : Goal 𝓤 𝓛.H} where
-  -- three values make a triple
-  pub three_made : K → (R S U : RattleType) (x : R.Denot) (y : S.Denot) (z : U.Denot) {u v w : Val}
-      → Step K 𝓛 (‵ ((Struct
-      (record { name = []; args = []; types = []; fields = R ∷ S ∷ U ∷ [] })).own_val
-      (x, (y, (z, tt))) (vstruct (vcons u (vcons v (vcons w vnil))) ∷ [])) ∷ Γ) G
-      (‵ (R.own_val x (u ∷ [])) ∷ ‵ (S.own_val y (v ∷ [])) ∷ ‵ (U.own_val z (w ∷ [])) ∷ Γ) G
-  three_made t R S U x y z {u} {v} {w} = step (λ s.
-      let all : Val = vstruct (vcons u (vcons v (vcons w vnil))) in
-      empty t $ move t (3 ∷ 0 ∷ []) $ fjoin t $ move t (2 ∷ 0 ∷ []) $ fjoin t $ move t (1 ∷ 0 ∷ [])
-      $ fjoin t $ feq_i t (List Val) (all ∷ []) (all ∷ []) refl $ fjoin t $
-      fpack t (Valss (R ∷ S ∷ U ∷ []))
-      (within (record { name = []; args = []; types = []; fields = R ∷ S ∷ U ∷ [] })
-      (x, (y, (z, tt))) (all ∷ [])) (u ∷ [], (v ∷ [], (w ∷ [], tt))) $ s)

@@ -1,9 +1,9 @@
 -- What the owner of elements is by value, and where what it owns lies. Assumes `Logic`.
 --     elements_known, elements_made      the owner is its one machine value, and what it owns
 --     in_block-block      a pointer into a block, by its block and its place
-use Rattle.lhm_ring.proofs.Names.{List, [], refl, ◌++◌, ◌∙◌, ◌∷◌, ◌≡◌, elements_own, emp, ent, RattleType, InBlock, Ptr, block_of}
-use Rattle.lhm_ring.proofs.Names.{block_ptr, count_of, null_ptr, makes_shadow, shape, Struct, Val, of_list, vnil, vstruct, Ura, Goal, Item}
-use Rattle.lhm_ring.proofs.Names.{Seq, drop, feq_l, fpick, fsplit, ‵, ◌$◌, Logic, sem}
+use Rattle.lhm_ring.proofs.Names.{Goal, InBlock, Item, List, Logic, Ptr, RattleType, Seq, Struct, Ura, Val, [], block_of, block_ptr}
+use Rattle.lhm_ring.proofs.Names.{count_of, drop, elements_own, emp, ent, feq_l, fpick, fsplit, makes_shadow, null_ptr, of_list, refl, sem}
+use Rattle.lhm_ring.proofs.Names.{shape, vnil, vstruct, ‵, ◌$◌, ◌++◌, ◌∙◌, ◌∷◌, ◌≡◌}
 use Rattle.lhm_ring.proofs.memory.NodeFields.{marker}
 use Rattle.lhm_ring.specs.contracts.bucket_block.Elements as E-type
 

@@ -3,18 +3,17 @@
 --     Field      a field of the nodes, and what the function that shows it asks and tells
 --     Seen, field_seen      what is found at the pointer passed, and that a function of this code
 --     then meets its contract
-use Rattle.lhm_ring.proofs.Names.{List, Option, Some, [], ap, refl, subst, sym, ℕ, ◌++◌, ◌+◌, ◌∙◌, ◌∷◌, ◌≡◌, body_lent, cell_lent}
-use Rattle.lhm_ring.proofs.Names.{cells_lent, word, word-Good, word_ty, after, leaves, proved_at, Lft, flft, SProp, ent, fst∗, id⊢, never}
-use Rattle.lhm_ring.proofs.Names.{sep, snd∗, via, ◌⊑◌, lft_at, fact, MachineTables, Running, tables, RefOf, yes, shared_of, hide, unhide}
-use Rattle.lhm_ring.proofs.Names.{param, RattleType, owns, Ptr, in_a_block, ptr_val, ◌+ₚ◌, Bor, plain, types_at, heard, lent_at, Clauses}
-use Rattle.lhm_ring.proofs.Names.{Ended, closing, Goes-dropped, Stays, stay_dropped, walk_of, inst_fn, Args, Callee, Fn, Sym, Ty, addr_of}
-use Rattle.lhm_ring.proofs.Names.{assign, block, copy, deref, erased, field, imm, local, named, place, return, rv_opd, seq, ty_ptr, ty_ref}
-use Rattle.lhm_ring.proofs.Names.{value_local, Val, vptr, field_of, Model, Closed, WpFn, Ura, alloc_all, env, free_all, get, get_in, is}
-use Rattle.lhm_ring.proofs.Names.{look_at, pass_all, sets, sets_last, through, !, at_ret, by, drop, feq_i, fjoin, fsplit, join, keep, move}
-use Rattle.lhm_ring.proofs.Names.{qed, raw, rewrite, split, suffices, use1, ‵, ◌$◌, ◌∵◌, ◌⊛◌, Logic, sem, sub, whole, addr, blocks, enter}
-use Rattle.lhm_ring.proofs.Names.{exec, first, fld, of_opd, returns, stop}
+use Rattle.lhm_ring.proofs.Names.{ !, Args, Bor, Callee, Clauses, Closed, Ended, Fn, Lft, List, Logic, MachineTables, Model, Option, Ptr}
+use Rattle.lhm_ring.proofs.Names.{RattleType, RefOf, Running, SProp, Some, Sym, Ty, Ura, Val, WpFn, [], addr, addr_of, alloc_all, ap}
+use Rattle.lhm_ring.proofs.Names.{assign, block, body_lent, by, cell_lent, cells_lent, closing, copy, deref, drop, ent, enter, erased}
+use Rattle.lhm_ring.proofs.Names.{fact, feq_i, field, field_of, fjoin, fld, free_all, fsplit, fst∗, get, get_in, hide, id⊢, imm, ◌≡◌, ◌⊑◌}
+use Rattle.lhm_ring.proofs.Names.{in_a_block, inst_fn, is, join, keep, lent_at, lft_at, local, look_at, move, named, never, of_opd, owns}
+use Rattle.lhm_ring.proofs.Names.{param, pass_all, place, plain, ptr_val, refl, return, returns, rewrite, rv_opd, sem, sep, seq, sets}
+use Rattle.lhm_ring.proofs.Names.{shared_of, snd∗, stop, sub, subst, suffices, sym, tables, through, ty_ptr, ty_ref, types_at, unhide}
+use Rattle.lhm_ring.proofs.Names.{use1, value_local, via, vptr, whole, word, word-Good, word_ty, yes, ‵, ℕ, ◌$◌, ◌++◌, ◌+ₚ◌, ◌+◌, ◌∙◌, ◌∷◌}
 use Rattle.lhm_ring.proofs.memory.NodeFields.{Node, Nr, Pl, RK, RL, RV, Three, args, ko, lo, vo, word-pointer}
-use Rattle.lhm_ring.proofs.{memory.NodeTaken.cell_seen, rings.Lookup.Cut, memory.Steps.all_spent, memory.Steps.states, memory.Steps.tokens}
+use Rattle.lhm_ring.proofs.memory.Steps.{all_spent, dropped, gone, known, lives, unblocks, walks, with_facts, ◌&◌}
+use Rattle.lhm_ring.proofs.{memory.NodeTaken.cell_seen, rings.Lookup.Cut}
 use denote.Triple.Spec.{Meets}
 use mathlib.Core.Option.{some}
 use Rattle.lhm_ring.specs.contracts.nodes.Nodes.key as key
@@ -22,9 +21,8 @@ use Rattle.lhm_ring.specs.contracts.nodes.Nodes.key as key
 -- the code, with the field k of the node at the pointer
 abbrev with_code : Fn → Ty → Ty → Sym → Ty → ℕ → Fn
 with_code fn ρ σ ν δ k = record fn {
-  locals = local (ty_ref (named 0) imm ρ) value_local ∷ local (ty_ref (named 0) imm σ) value_local ∷
-      local (word_ty ν) value_local ∷ local ty_ptr value_local ∷ local (ty_ref erased imm ρ)
-      value_local ∷ [];
+  locals = local (ty_ref (named 0) imm ρ) value_local ∷ local (ty_ref (named 0) imm σ) value_local ∷ local (word_ty ν) value_local
+      ∷ local ty_ptr value_local ∷ local (ty_ref erased imm ρ) value_local ∷ [];
   body =
       seq (assign (place 3 []) (rv_opd (copy (place 2 (field 0 ∷ [])))))
       (seq (block (assign (place 4 []) (addr_of (place 3 (deref δ ∷ field k ∷ [])))))
@@ -97,28 +95,19 @@ module _ {E : Three} (A : Field E) {M : Type 1} {𝓤 : Ura M} (𝓛 : Logic �
   field_seen f fn closed {ρ} {σ} {ν} {δ} {τ} {k} code lies seen =
       let H = 𝓛.H in let N = Nr E in let R = RL E in let S = RK E in let W = RV E in
       let Self = RefOf (0 ∷ []) tt (plain (λ _. N)) (λ _. tt) in
-      let hs : Stays ended.signature.params ended.kept = (stay_dropped Self yes, (stay_dropped (plain (λ _. Pl)) yes, tt)) in
-      proved_at 𝓛 ended hs clauses 𝓜 𝓡 (
-        Goes-dropped 𝓛 4 Self yes (λ κs x f. refl),
-        (Goes-dropped 𝓛 4 (plain (λ _. Pl)) yes (λ κs x f. refl), tt),
-      ) (f (args E))
-      (inst_fn (args E) fn) closed (λ y are.
-      let κs = y.0.0 in let qs = y.0.1 in let a = y.0.3 in let vss = y.0.4 in let Post : Val
-      → SProp 𝓤 = (walk_of 𝓛 ended hs clauses).post y in
-      let κ : Lft = κs.0 in let rb : ℕ = a.0.ref_ptr.0 in let ro : ℕ = a.0.ref_ptr.1 in
-      let h : N.Denot = a.0.now in let p : Ptr = a.1.0.ptr in
-      qed 𝓛 (((‵ (flft κs.0 qs.0) ⊛ ‵ (tokens 3 κs.1 qs.1)) ⊛ ‵
-      (owns (types_at ended.signature.params κs) a vss)) ∷ raw (fact 𝓤 _) ∷ raw (fact 𝓤 _) ∷ raw
-      (fact 𝓤 _) ∷ raw (fact 𝓤 (A.Asked h.cells p)) ∷ []) ∵
-      keep ! (4 ∷ 0 ∷ []) $ heard ! (A.Asked h.cells p) (λ asked. split ! $ split ! $ move !
-      (2 ∷ []) $ fsplit ! $ fsplit ! $ keep ! (1 ∷ 3 ∷ 4 ∷ []) $
+      walks 𝓛 ended clauses 𝓡 (dropped 𝓛 4 Self yes (λ κs x f. refl) & gone 𝓛 4 Pl yes (λ κs x f. refl) & tt) (f (args E))
+      (inst_fn (args E) fn) closed (λ κs qs _ a vss _ are Post leave.
+      let κ : Lft = κs.0 in let rb : ℕ = a.0.ref_ptr.0 in let ro : ℕ = a.0.ref_ptr.1 in let h : N.Denot = a.0.now in
+      let p : Ptr = a.1.0.ptr in
+      known 𝓛 (lives 3 κs qs) (owns (types_at ended.signature.params κs) a vss) (_ ∷ _ ∷ _ ∷ A.Asked h.cells p ∷ []) (λ req.
+      fsplit ! $ fsplit ! $ keep ! (1 ∷ 3 ∷ 4 ∷ []) $
       let us : List Val = vptr rb ro ∷ word p ∷ [] in let fn' : Fn = with_code (inst_fn (args E) fn)
       ρ σ ν δ k in let Run : Fn → List Val → SProp 𝓤 = λ e ws. WpFn 𝓤 H 𝓣.C 𝓣.Λ e ws Post in
       suffices ! (Run fn' us) (subst (λ (P : SProp 𝓤). ent 𝓤 (Run fn' us) P)
       (sym (λ j. Run (code j) (are.0.0 j ++ (word-pointer a.1.0 vss.1.0 are.1.0 j ++ []))))
       (id⊢ 𝓤 (Run fn' us))) $
-      enter ! 𝓣.C 𝓣.Λ fn' us Post $ alloc_all ! (λ l. pass_all ! refl ((tt, tt), (word-Good ν p, tt)) $ let Ev = env fn'.locals l in
-      let s = seen h.cells p asked in let x = s.value in let c : Node E = s.cut.split.node in
+      enter ! 𝓣.C 𝓣.Λ fn' us Post $ alloc_all ! (λ l. pass_all ! refl ((tt, tt), (word-Good ν p, tt)) $
+      let s = seen h.cells p req.1.1.1.0 in let x = s.value in let c : Node E = s.cut.split.node in
       unhide ! $ fsplit ! $ drop ! $ rewrite ! 0 (λ (cs : List (Node E)). ‵ (cells_lent R S W cs κ)) s.cut.split.is refl $
       use1 𝓛 (‵ (lent_at F (c.at +ₚ A.offset) x κ)) (via 𝓤 (sem 𝓛 (cell_lent R S W c κ))
       (cell_seen 𝓛 E κ s.cut.split.before c s.cut.split.after) (s.lent κ)) $
@@ -126,10 +115,9 @@ module _ {E : Three} (A : Field E) {M : Type 1} {𝓤 : Ura M} (𝓛 : Logic �
       (fst∗ 𝓤 (never 𝓤) (sem 𝓛 (shared_of F x 0 0 κ))) (λ pb po e. fsplit ! $ drop ! $ hide ! $
       let r : Val = vptr pb (po + A.offset) in let out : Bor A.type.Denot = record { ref_ptr = (pb, po + A.offset); now = x } in
       sets ! (is ! (of_opd ! (get_in ! (fld ! refl (stop !)) (sub ! 0 refl (whole !))))
-      (ap ptr_val (sym s.cut.split.at_is ∙ e))) refl (tt, tt) $ first ! $ blocks ! $
-      sets_last ! (addr ! (through ! refl (fld ! lies (stop !)))) refl (tt, tt) $ exec ! 𝓣.C 𝓣.Λ Ev
-      (after 2 fn'.body) (at_ret Ev Post) $ sets ! (of_opd ! (get ! refl)) refl (tt, tt) $
+      (ap ptr_val (sym s.cut.split.at_is ∙ e))) refl (tt, tt) $
+      unblocks ! $ sets ! (addr ! (through ! refl (fld ! lies (stop !)))) refl (tt, tt) $ sets ! (of_opd ! (get ! refl)) refl (tt, tt) $
       feq_i ! (List Val) (r ∷ []) (r ∷ []) refl $ fjoin ! $ move ! (1 ∷ 2 ∷ []) $ join ! $
-      states ! (A.Told x h.cells p) s.told $ all_spent ! 2 $
-      returns ! (look_at ! 0 refl) $ free_all ! refl $ keep ! (2 ∷ 0 ∷ 3 ∷ 1 ∷ []) $ by !
-      (leaves 𝓛 ended hs clauses y r out (tt, (tt, tt)) (tt, (tt, tt)))))))
+      all_spent ! 2 $
+      returns ! (look_at ! 0 refl) $ free_all ! refl $ keep ! (1 ∷ 0 ∷ 2 ∷ []) $
+      by ! (with_facts 𝓛 (_ ∷ []) (leave r out (tt, (tt, tt))) (id⊢ 𝓤 _) (s.told, tt))))))

@@ -1,11 +1,11 @@
 -- A node more among the spare ones.
-use Rattle.lhm_ring.proofs.Names.{List, None, Option, Some, [], ap, arith, cond, false, refl, subst, suc, sym, true, ◌++◌, ◌∙◌, ◌∷◌, ◌≡◌}
-use Rattle.lhm_ring.proofs.Names.{IsRing, IsSpareList, IsThere, has_links, link_at, link_of, listed, ring_cells, Cell, IsApart, cell}
-use Rattle.lhm_ring.proofs.Names.{cell_at, is_block, links_of, pointers, same_ptr, Ends, Links, Ptr, null_ptr}
-use Rattle.lhm_ring.proofs.lists.Apart.{IsApart-inserted, IsFresh, IsFresh-head, same_ptr-equal, same_ptr-reflexive, same_ptr-symmetric}
+use Rattle.lhm_ring.proofs.Names.{Cell, Ends, IsApart, IsRing, IsThere, Links, List, None, Option, Ptr, Some, [], ap, arith, cell, cell_at}
+use Rattle.lhm_ring.proofs.Names.{cond, false, has_links, is_block, link_of, links_of, null_ptr, pointers, refl, ring_cells, same_ptr}
+use Rattle.lhm_ring.proofs.Names.{subst, suc, true, ◌++◌, ◌∙◌, ◌∷◌, ◌≡◌}
+use Rattle.lhm_ring.proofs.lists.Apart.{IsApart-added, IsFresh, IsFresh-head, same_ptr-equal, same_ptr-reflexive, same_ptr-symmetric}
 use Rattle.lhm_ring.proofs.lists.ForAll.{AllByRecursion-append, AllByRecursion-left, AllByRecursion-map, AllByRecursion-right}
-use Rattle.lhm_ring.proofs.memory.{OneNodeChanged.AreLinked-other, OneNodeChanged.IsSpareList-other, OneNodeChanged.listed-other}
-use Rattle.lhm_ring.proofs.rings.{RingCells.cell_at-ring_cells, RingCells.same_ptr-null}
+use Rattle.lhm_ring.proofs.memory.OneNodeChanged.{AreLinked-other, IsSpareList-other}
+use Rattle.lhm_ring.proofs.rings.{NodeOut.IsOut, NodeOut.IsRing-spared, RingCells.cell_at-ring_cells, RingCells.same_ptr-null}
 
 false_true : false ≡ true → ⊥
 false_true e = cc
@@ -55,35 +55,19 @@ module _ {B : Type 0} (e : Ends) (nodes : List (Cell Links B)) (p : Ptr) (l : Li
     abbrev P : Ptr → Type 0
     P q = same_ptr p q ≡ false
 
-    link_at-added : link_at ds p ≡ link_of (Some l)
-    link_at-added = ap (λ z. link_of (links_of z)) cell_at-added
-
-    pub IsRing-added : IsRing ds ps (Some p) (p ∷ ss)
-    IsRing-added = record {
-      linked = AreLinked-other cs ds p cell_at-other (null_ptr ∷ (ps ++ null_ptr ∷ [])) (
-        IsFresh-added.0,
-        AllByRecursion-append P ps (null_ptr ∷ [])
-            (AllByRecursion-left P ps ss IsFresh-added.1) (IsFresh-added.0, tt),
-      ) r.linked;
-      chained = (
-        refl,
-        IsSpareList-other cs ds p cell_at-other (link_at ds p) ss
-            (AllByRecursion-right P ps ss IsFresh-added.1) (subst (λ z. IsSpareList cs z ss)
-            (sym (link_at-added ∙ f)) r.chained),
-      );
+    IsOut-added : IsOut ds p ps spare ss
+    IsOut-added = record {
+      linked = AreLinked-other cs ds p cell_at-other (null_ptr ∷ (ps ++ null_ptr ∷ []))
+          (IsFresh-added.0, AllByRecursion-append P ps (null_ptr ∷ []) (AllByRecursion-left P ps ss IsFresh-added.1) (IsFresh-added.0, tt))
+          r.linked;
+      chained = IsSpareList-other cs ds p cell_at-other spare ss (AllByRecursion-right P ps ss IsFresh-added.1) r.chained;
       there = (
-        is_there-added null_ptr r.there.0,
-        AllByRecursion-append (IsThere ds) ps (p ∷ ss)
-            (AllByRecursion-map T (IsThere ds) is_there-added ps
-            (AllByRecursion-left T ps ss r.there.1)) (
-              ap (λ z. has_links (links_of z)) cell_at-added,
-              AllByRecursion-map T (IsThere ds)
-                  is_there-added ss (AllByRecursion-right T ps ss r.there.1),
-            ),
+        ap (λ z. has_links (links_of z)) cell_at-added,
+        AllByRecursion-map T (IsThere ds) is_there-added (null_ptr ∷ (ps ++ ss)) r.there,
       );
-      apart = IsApart-inserted (null_ptr ∷ ps) p ss IsFresh-added r.apart;
-      count = ap (λ n. suc n) r.count ∙ omega arith;
+      apart = IsApart-added p (null_ptr ∷ (ps ++ ss)) IsFresh-added r.apart;
+      count = ap suc r.count;
     }
 
-    pub listed-added : listed ds ps ≡ listed cs ps
-    listed-added = listed-other cs ds p cell_at-other ps (AllByRecursion-left P ps ss IsFresh-added.1)
+    pub IsRing-added : IsRing ds ps (Some p) (p ∷ ss)
+    IsRing-added = IsRing-spared IsOut-added (ap (λ z. link_of (links_of z)) cell_at-added ∙ f)

@@ -2,14 +2,13 @@
 --     Three, args          the rows of the links, of the keys and of the values, and what a call
 --     passes for them
 --     marker_made      a value of no bytes
---     value_known, forgotten      a value in memory is machine memory and what it owns, and
---     memory that holds nothing
+--     value_known, forgotten      a value in memory is machine memory and what it owns, and memory that holds nothing
 use Rattle.lhm_ring.proofs.Names.{List, None, Option, Some, [], ap, arith, refl, ℕ, ◌++◌, ◌+◌, ◌∙◌, ◌∷◌, ◌≡◌, Cell, body_owns, cell_owns}
 use Rattle.lhm_ring.proofs.Names.{cells_own, key_offset, land_owns, links_offset, value_offset, as_raw, Good, word, Fml, fat, froom}
-use Rattle.lhm_ring.proofs.Names.{full_share, emp, ent, ex, guard, sep, part_at, layout, layouts, param, RattleType, Valss, block_ptr}
-use Rattle.lhm_ring.proofs.Names.{makes_shadow, nothing, peeks, shape, Shape, Struct, within, Args, Ty, a_type, Val, of_list, vcons, vnil}
-use Rattle.lhm_ring.proofs.Names.{vstruct, Ura, !, Goal, Item, Seq, Step, check, done, drop, feq_i, fjoin, fpack, fsplit, given, learn}
-use Rattle.lhm_ring.proofs.Names.{move, pick, qed, show, some, split, step, use1, ‵, ◌$◌, ◌∵◌, ◌⊛◌, Logic, sem}
+use Rattle.lhm_ring.proofs.Names.{full_share, emp, ent, sep, part_at, layout, layouts, param, RattleType, Valss, block_ptr, makes_shadow}
+use Rattle.lhm_ring.proofs.Names.{nothing, peeks, shape, Shape, Struct, within, Args, Ty, a_type, Val, of_list, vcons, vnil, vstruct, Ura}
+use Rattle.lhm_ring.proofs.Names.{ !, Goal, Item, Seq, Step, done, drop, feq_i, fjoin, fpack, fsplit, move, pick, qed, some, split, step}
+use Rattle.lhm_ring.proofs.Names.{use1, ‵, ◌$◌, ◌∵◌, ◌⊛◌, Logic, sem}
 use borrow.Table.OneValue.{part_in, part_out}
 use denote.{Laws.Is, Laws.Typed, Laws.shows, Param.Laws.Laws, Param.Laws.param_laws}
 use mir.Raw.{raw as bare}
@@ -85,17 +84,6 @@ alone τ vs t = grind arith
 module _ (i : ℕ) (Y : RattleType) (L : Laws Y) {M : Type 1} {𝓤 : Ura M} (𝓛 : Logic 𝓤) where
   open 𝓛 use {H}
 
-  pub value_out : (x : Y.Denot) (b o : ℕ) → ent 𝓤 (sem 𝓛 (part_at (param i Y) full_share x b o))
-      (ex 𝓤 (λ (v : Val). guard 𝓤 (Good (layout Y) v) (sep 𝓤 (H.at full_share (layout Y) b o v)
-      (sem 𝓛 (Y.own_val x (v ∷ []))))))
-  value_out x b o = qed 𝓛 (‵ (part_at (param i Y) full_share x b o) ∷ []) ∵
-      use1 𝓛 (some (λ (v : Val). ‵ (fat full_share (layout Y) b o v) ⊛ ‵ (Y.own_val x (v ∷ []))))
-      (part_out 𝓛 (param i Y) refl full_share x b o) $ pick ! (λ v. split ! $ move ! (1 ∷ []) $
-      peeks ! (param i Y) (Is (param i Y)) (shows 𝓛 (param i Y)) x (v ∷ []) (λ p.
-      show ! (λ (w : Val). guard 𝓤 (Good (layout Y) w) (sep 𝓤 (H.at full_share (layout Y) b o w)
-      (sem 𝓛 (Y.own_val x (w ∷ []))))) v $ check ! (((param_laws i Y L).lawful 𝓛).typed x
-      (v ∷ []) p).0 $ move ! (1 ∷ 0 ∷ []) $ done !))
-
   pub value_in : (x : Y.Denot) (b o : ℕ) (v : Val)
       → ent 𝓤 (sep 𝓤 (H.at full_share (layout Y) b o v) (sem 𝓛 (Y.own_val x (v ∷ [])))) (sem 𝓛 (part_at (param i Y) full_share x b o))
   value_in x b o v = part_in 𝓛 (param i Y) refl full_share x b o v
@@ -105,10 +93,10 @@ module _ {M : Type 1} {𝓤 : Ura M} {𝓛 : Logic 𝓤} {K : Type 0} {Γ : List
     -- a value in memory is machine memory and what the value owns
     pub value_known : K → ((v : Val) → Good (layout Y) v → Seq K 𝓛 (‵ (fat full_share (layout Y) b o v) ∷ ‵ (Y.own_val x (v ∷ [])) ∷ Γ) G)
         → Seq K 𝓛 (‵ (part_at (param i Y) full_share x b o) ∷ Γ) G
-    value_known t k = use1 𝓛
-        (some (λ (v : Val). given (Good (layout Y) v) (‵ (fat full_share (layout Y) b o v) ⊛ ‵
-        (Y.own_val x (v ∷ []))))) (value_out i Y L 𝓛 x b o) $ pick t
-        (λ v. learn t (λ good. split t $ k v good))
+    value_known t k = use1 𝓛 (some (λ (v : Val). ‵ (fat full_share (layout Y) b o v) ⊛ ‵ (Y.own_val x (v ∷ []))))
+        (part_out 𝓛 (param i Y) refl full_share x b o) $ pick t (λ v. split t $ move t (1 ∷ []) $
+        peeks t (param i Y) (Is (param i Y)) (shows 𝓛 (param i Y)) x (v ∷ []) (λ p. move t (1 ∷ 0 ∷ []) $
+        k v (((param_laws i Y L).lawful 𝓛).typed x (v ∷ []) p).0))
 
   -- what lies in memory is forgotten
   pub forgotten : K → (τ : Ty) (b o : ℕ) (v : Val) → Step K 𝓛 (‵ (froom (bare τ) b o) ∷ Γ) G (‵ (fat full_share τ b o v) ∷ Γ) G
@@ -132,9 +120,8 @@ module _ {M : Type 1} {𝓤 : Ura M} (𝓛 : Logic 𝓤) (E : Three) (b o : ℕ)
       → ent 𝓤 (sem 𝓛 (body_owns (RL E) (RK E) (RV E) (block_ptr b o) x))
       (sep 𝓤 (sem 𝓛 (froom (layout E.key) b (o + ko E)))
       (sem 𝓛 (froom (layout E.value) b (o + vo E))))
-  body_uninit None = qed 𝓛 (‵ (body_owns (RL E) (RK E) (RV E) (block_ptr b o) None) ∷ []) ∵ fsplit !
-      $ use1 𝓛 (‵ (froom (layout E.key) b (o + ko E))) (𝓛.laws.raw-room (layout E.key) b (o + ko E))
-      $ move ! (1 ∷ []) $
+  body_uninit None = qed 𝓛 (‵ (body_owns (RL E) (RK E) (RV E) (block_ptr b o) None) ∷ []) ∵ fsplit ! $
+      use1 𝓛 (‵ (froom (layout E.key) b (o + ko E))) (𝓛.laws.raw-room (layout E.key) b (o + ko E)) $ move ! (1 ∷ []) $
       use1 𝓛 (‵ (froom (layout E.value) b (o + vo E))) (𝓛.laws.raw-room (layout E.value) b (o + vo E)) $ move ! (1 ∷ 0 ∷ []) $ done !
   body_uninit (Some x) = qed 𝓛 (‵ (body_owns (RL E) (RK E) (RV E) (block_ptr b o) (Some x)) ∷ []) ∵
       fsplit ! $ use1 𝓛 (‵ (froom (layout E.key) b (o + ko E)))

@@ -1,14 +1,13 @@
 -- A node is listed before another. Assumes `Logic`.
-use Rattle.lhm_ring.proofs.Names.{List, Some, [], ap, append-nil, arith, cond, count_by, false, inl, inr, refl, subst, sym, ◌++◌, ◌+◌}
-use Rattle.lhm_ring.proofs.Names.{◌∙◌, ◌∷◌, ◌≡◌, AreBlocks, AtCell, BeforeCell, Cell, IsApart, IsPlaceFor, IsRearranged, cell_at}
-use Rattle.lhm_ring.proofs.Names.{first_place, is_block, links_of, map-append, pointers, same_ptr, true, Nodes, places, Fml, ent, sep}
-use Rattle.lhm_ring.proofs.Names.{via, Ptr, Ura, Logic, sem}
-use Rattle.lhm_ring.proofs.memory.NodeFields.{Cells, Node, One, Three}
-use Rattle.lhm_ring.proofs.memory.{NodeTaken.cells_cut, NodeTaken.cells_glue}
+use Rattle.lhm_ring.proofs.Names.{AreBlocks, AtCell, BeforeCell, Cell, Fml, IsApart, IsPlaceFor, IsRearranged, List, Logic, Nodes, Ptr}
+use Rattle.lhm_ring.proofs.Names.{Some, Ura, [], ap, append-nil, arith, cell_at, cond, count_by, ent, false, first_place, inl, inr}
+use Rattle.lhm_ring.proofs.Names.{is_block, links_of, map-append, places, pointers, refl, same_ptr, sem, sep, subst, sym, true, via, ◌++◌}
 use Rattle.lhm_ring.proofs.lists.Apart.{IsApart-inserted, IsApart-removed, IsApart-tail, IsFresh, IsFresh-middle}
-use Rattle.lhm_ring.proofs.lists.{Cuts.cut_alone, Cuts.not_again, ForAll.AllByRecursion-inserted, ForAll.AllByRecursion-removed}
-use Rattle.lhm_ring.proofs.lists.{ForAll.AllByRecursion-right, RearrangedCounts.count_by-append, RearrangedCounts.count_by-cons}
-use Rattle.lhm_ring.proofs.rings.{Lookup.Cut, Lookup.Cut-links_at}
+use Rattle.lhm_ring.proofs.lists.ForAll.{AllByRecursion-inserted, AllByRecursion-removed, AllByRecursion-right}
+use Rattle.lhm_ring.proofs.lists.{Cuts.cut_alone, Cuts.not_again, RearrangedCounts.count_by-append, RearrangedCounts.count_by-cons}
+use Rattle.lhm_ring.proofs.memory.NodeFields.{Cells, Node, One, Three}
+use Rattle.lhm_ring.proofs.memory.NodeTaken.{cells_cut, cells_glue}
+use Rattle.lhm_ring.proofs.{Names.◌∙◌, Names.◌∷◌, Names.◌≡◌, rings.Lookup.Cut, rings.Lookup.Cut-links_at}
 
 module _ {L B : Type 0} where
   abbrev lies : Cell L B → Ptr
@@ -63,22 +62,9 @@ module _ {L B : Type 0} where
     pub IsRearranged-elsewhere : (un ps : List Ptr) → IsRearranged (un ++ pointers (xs ++ c ∷ ys)) ps
         → IsRearranged (un ++ pointers (us ++ c ∷ vs)) ps
     IsRearranged-elsewhere un ps r p =
-        let was = count_by-append p un (pointers (xs ++ c ∷ ys)) ∙ ap (λ ws. count_by p un + count_by p ws) (map-append lies xs (c ∷ ys)) in
-        let is = count_by-append p un (pointers (us ++ c ∷ vs)) ∙ ap (λ ws. count_by p un + count_by p ws) (map-append lies us (c ∷ vs)) in
         let same : count_by p (pointers xs ++ pointers ys) ≡ count_by p (pointers us ++ pointers vs) = ap (count_by p) others in
-        omega (
-          arith,
-          r p,
-          was,
-          is,
-          same,
-          count_by-append p (pointers xs) (c.at ∷ pointers ys),
-          count_by-append p (pointers us) (c.at ∷ pointers vs),
-          count_by-append p (pointers xs) (pointers ys),
-          count_by-append p (pointers us) (pointers vs),
-          count_by-cons p c.at (pointers ys),
-          count_by-cons p c.at (pointers vs),
-        )
+        let was = simp (map-append, count_by-append, count_by-cons) at (r p) in
+        simp (map-append, count_by-append, count_by-cons) (omega (arith, was, simp count_by-append at same))
 
   -- where nodes are cut right before the one at q, or behind all for null
   pub record Place (cs : List (Cell L B)) (q : Ptr) : Type 0 where
@@ -92,19 +78,12 @@ module _ {L B : Type 0} where
   rest k = k.split.before ++ k.split.after
 
   module _ {cs : List (Cell L B)} {p q : Ptr} (k : Cut cs p) where
-    Place-cut : Cut (rest k) q → Place (rest k) q
-    Place-cut j = record {
-      before = j.split.before;
-      after = j.split.node ∷ j.split.after;
-      is = j.split.is;
-      at_is = sym j.split.at_is;
-    }
-
     pub Place-for : IsPlaceFor cs p q → Place (rest k) q
     Place-for (inl null) = record { before = rest k; after = []; is = sym (append-nil (rest k)); at_is = null }
     Place-for (inr other) =
         let stay = cell_at-removed k.split.before k.split.node k.split.after q (ap (λ r. same_ptr r q) k.split.at_is ∙ other.1) in
-        Place-cut (Cut-links_at (rest k) q other.0.0 (sym (ap links_of (ap (λ ds. cell_at ds q) k.split.is ∙ stay)) ∙ other.0.1))
+        let j = Cut-links_at (rest k) q other.0.0 (sym (ap links_of (ap (λ ds. cell_at ds q) k.split.is ∙ stay)) ∙ other.0.1) in
+        record { before = j.split.before; after = j.split.node ∷ j.split.after; is = j.split.is; at_is = sym j.split.at_is }
 
     pub AtCell-moved : (j : Place (rest k) q) → IsApart (pointers cs) → AreBlocks (pointers cs) → AtCell cs p (λ xs c ys.
         BeforeCell (xs ++ ys) q (λ us vs. j.before ++ k.split.node ∷ j.after ≡ us ++ c ∷ vs))
@@ -130,15 +109,10 @@ module _ {L K V : Type 0} (n : Nodes L K V) {p q : Ptr} (k : Cut n.cells p) (j :
   listed_before =
       let xs = k.split.before in let c = k.split.node in let ys = k.split.after in
       let us = j.before in let vs = j.after in
-      record {
-        marker = n.marker;
+      record n {
         cells = moved;
         apart = IsApart-elsewhere xs c ys us vs j.is (subst (λ ds. IsApart (pointers ds)) k.split.is n.apart);
         blocks = AreBlocks-elsewhere xs c ys us vs j.is (subst (λ ds. AreBlocks (pointers ds)) k.split.is n.blocks);
-        node_bytes = n.node_bytes;
-        unused = n.unused;
-        chunks = n.chunks;
-        unused_blocks = n.unused_blocks;
         laid = IsRearranged-elsewhere xs c ys us vs j.is n.unused (places n.node_bytes n.chunks)
             (subst (λ ds. IsRearranged (n.unused ++ pointers ds) (places n.node_bytes n.chunks)) k.split.is n.laid);
       }

@@ -1,9 +1,9 @@
 -- Nodes with the bodies of a run in them.
-use Rattle.lhm_ring.proofs.Names.{List, None, Option, Some, [], arith, cond, false, refl, true, ◌∙◌, ◌∷◌, ◌≡◌, bodies_of, body_in}
-use Rattle.lhm_ring.proofs.Names.{with_bodies, without_body, Cell, IsApart, body_at, cell, change, subst, sym, links_at, pointers}
-use Rattle.lhm_ring.proofs.Names.{same_ptr, with_body, Ptr}
+use Rattle.lhm_ring.proofs.Names.{Cell, IsApart, List, None, Option, Ptr, Some, [], arith, bodies_of, body_at, body_in, cell, change, cond}
+use Rattle.lhm_ring.proofs.Names.{false, links_at, pointers, refl, same_ptr, subst, sym, true, with_bodies, with_body, without_body, ◌∙◌}
+use Rattle.lhm_ring.proofs.Names.{◌∷◌, ◌≡◌}
 use Rattle.lhm_ring.proofs.lists.Apart.{IsApart-tail, IsFresh, IsFresh-head, same_ptr-equal, same_ptr-reflexive, same_ptr-symmetric}
-use Rattle.lhm_ring.proofs.rings.{Rebodied.body_at-rebodied, Rebodied.links_at-rebodied, Rebodied.pointers-rebodied}
+use Rattle.lhm_ring.proofs.rings.Rebodied.{body_at-rebodied, keys-rebodied, links_at-keys, pointers-rebodied}
 
 module _ {B : Type 0} where
   body_in-without_body : (p : Ptr) (run : List (Ptr × Option B)) → body_in (without_body p run) p ≡ None
@@ -24,7 +24,7 @@ module _ {L B : Type 0} where
 
   pub links_at-with_bodies : (cs : List (Cell L B)) (run : List (Ptr × Option B)) (q : Ptr)
       → links_at (with_bodies cs run) q ≡ links_at cs q
-  links_at-with_bodies cs run = links_at-rebodied (λ p _. body_in run p) cs
+  links_at-with_bodies cs run = links_at-keys cs (with_bodies cs run) (keys-rebodied (λ p _. body_in run p) cs)
 
   pub body_at-with_bodies : (cs : List (Cell L B)) (run : List (Ptr × Option B)) (q : Ptr) (l : L) → links_at cs q ≡ Some l
       → body_at (with_bodies cs run) q ≡ body_in run q

@@ -1,6 +1,6 @@
 -- A part of each node is taken out of the nodes, and put back. Assumes `Logic`.
-use Rattle.lhm_ring.proofs.Names.{List, [], map, ◌∷◌, Cell, cell_owns, cells_own, Fml, fsep, emp, ent, RattleType, Ura, !, done, drop}
-use Rattle.lhm_ring.proofs.Names.{fjoin, fsplit, move, qed, split, use0, use1, use2, ‵, ◌$◌, ◌∵◌, ◌⊛◌, Logic, sem}
+use Rattle.lhm_ring.proofs.Names.{ !, Cell, Fml, List, Logic, RattleType, Ura, [], cell_owns, cells_own, done, drop, emp, ent, fjoin, fsep}
+use Rattle.lhm_ring.proofs.Names.{fsplit, map, move, qed, sem, split, use0, use1, use2, ‵, ◌$◌, ◌∵◌, ◌∷◌, ◌⊛◌}
 use Rattle.lhm_ring.proofs.memory.Sharing.{parts_own}
 
 module _ {M : Type 1} {𝓤 : Ura M} (𝓛 : Logic 𝓤) where
@@ -29,7 +29,7 @@ module _ (R S W : RattleType) {M : Type 1} {𝓤 : Ura M} (𝓛 : Logic 𝓤)
   pub parts_glue : (g : Node → Node) → ((c : Node) (cs : List Node) → Entails 𝓛 (A (c ∷ cs) ∗ f c) (A cs ∗ cell_owns R S W (g c)))
       → (Z : Fml) (cs : List Node) → Entails 𝓛 (A cs ∗ parts_own f Z cs) (cells_own R S W Z (map g cs))
   parts_glue g one Z [] = qed 𝓛 (‵ (A []) ∷ ‵ Z ∷ []) ∵ drop ! $ done !
-  parts_glue g one Z (c ∷ cs) = qed 𝓛 (‵ (A (c ∷ cs)) ∷ ‵ (parts_own f Z (c ∷ cs)) ∷ []) ∵ move !
-      (1 ∷ []) $ fsplit ! $ move ! (2 ∷ 0 ∷ []) $
+  parts_glue g one Z (c ∷ cs) = qed 𝓛 (‵ (A (c ∷ cs)) ∷ ‵ (parts_own f Z (c ∷ cs)) ∷ []) ∵ move ! (1 ∷ []) $ fsplit ! $
+      move ! (2 ∷ 0 ∷ []) $
       use2 𝓛 (‵ (A cs) ⊛ ‵ (cell_owns R S W (g c))) (one c cs) $ split ! $ move ! (0 ∷ 2 ∷ []) $
       use2 𝓛 (‵ (cells_own R S W Z (map g cs))) (parts_glue g one Z cs) $ move ! (1 ∷ 0 ∷ []) $ fjoin ! $ done !

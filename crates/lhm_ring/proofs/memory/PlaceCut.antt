@@ -1,8 +1,8 @@
 -- A place for a node is cut into its three fields, and made of them again. Assumes `Logic`.
-use Rattle.lhm_ring.proofs.Names.{[], ℕ, ◌+◌, ◌∷◌, fields_own, node_type, as_raw, as_written, Fml, froom, ftrue, fwand, SProp, apply∗, ent}
-use Rattle.lhm_ring.proofs.Names.{sep, wand, layout, Ptr, block_ptr, room_for, nothing, Sym, Ty, Tys, tcons, tnil, ty_struct, rooms_at, Ura}
-use Rattle.lhm_ring.proofs.Names.{assume, by, done, fjoin3, fsplit3, group, keep, move, qed, !, raw, split, split3, use1, use2, ‵, ◌$◌, ◌∵◌}
-use Rattle.lhm_ring.proofs.Names.{◌⊛◌, Logic, sem}
+use Rattle.lhm_ring.proofs.Names.{ !, Fml, Logic, Ptr, SProp, Sym, Ty, Tys, Ura, [], apply∗, as_raw, as_written, assume, block_ptr, by}
+use Rattle.lhm_ring.proofs.Names.{done, ent, fields_own, fjoin3, froom, fsplit3, ftrue, fwand, group, keep, layout, move, node_type}
+use Rattle.lhm_ring.proofs.Names.{nothing, qed, raw, room_for, rooms_at, sem, sep, split, split3, tcons, tnil, ty_struct, use1, use2, wand}
+use Rattle.lhm_ring.proofs.Names.{‵, ℕ, ◌$◌, ◌+◌, ◌∵◌, ◌∷◌, ◌⊛◌}
 use Rattle.lhm_ring.proofs.memory.NodeFields.{RK, RL, RV, Three, ko, lo, vo}
 use Rattle.lhm_ring.specs.contracts.nodes.Node as N-type
 

@@ -1,10 +1,10 @@
 -- Where the places of chunks lie.
-use Rattle.lhm_ring.proofs.Names.{List, None, [], ap, append_assoc, arith, false, length, length-append, lt→ltb, refl, subst, suc, sym}
-use Rattle.lhm_ring.proofs.Names.{true, zero, ℕ, ◌*◌, ◌++◌, ◌+◌, ◌-◌, ◌<◌, ◌^◌, ◌∙◌, ◌∷◌, ◌≡◌, nat_lt, IsLaid, place_count, AreBlocks}
-use Rattle.lhm_ring.proofs.Names.{Cell, Chunk, chunk, is_block, is_null, is_null_or_block, places, pointers, row, led_to, length-map}
-use Rattle.lhm_ring.proofs.Names.{next, one_more, InBlock, Ptr, block_ptr, null_ptr, ◌+ₚ◌, IsRearranged, count_by}
-use Rattle.lhm_ring.proofs.lists.{Rearranged.length-IsRearranged, RearrangedCounts.count_by-append}
-use Rattle.lhm_ring.{proofs.lists.ForAll.AllByRecursion-left, proofs.lists.ForAll.AllByRecursion-right, specs.Links.IsChain}
+use Rattle.lhm_ring.proofs.Names.{AreBlocks, Cell, Chunk, InBlock, IsLaid, IsRearranged, List, None, Ptr, [], ap, append_assoc, arith}
+use Rattle.lhm_ring.proofs.Names.{block_ptr, chunk, count_by, false, is_block, is_null, is_null_or_block, led_to, length, length-append}
+use Rattle.lhm_ring.proofs.Names.{length-map, lt→ltb, nat_lt, next, null_ptr, one_more, place_count, places, pointers, refl, row, subst}
+use Rattle.lhm_ring.proofs.Names.{suc, sym, true, zero, ℕ, ◌*◌, ◌++◌, ◌+ₚ◌, ◌+◌, ◌-◌, ◌<◌, ◌^◌, ◌∙◌, ◌∷◌, ◌≡◌}
+use Rattle.lhm_ring.proofs.lists.ForAll.{AllByRecursion-left, AllByRecursion-right}
+use Rattle.lhm_ring.{proofs.lists.Rearranged.length-IsRearranged, proofs.lists.RearrangedCounts.count_by-append, specs.Links.IsChain}
 use Rattle.std.proofs.Flags.{T_true}
 
 pub places-none : (s : ℕ) → IsRearranged [] (places s [])
@@ -110,7 +110,7 @@ unfolding place_count
 IsLaid-none e f n = record { none_unused = e; all_listed = IsChain-none f n; all_made = sym (ap place_count f) }
 
 pub row-less : (p : Ptr) (s n : ℕ) → 0 < n → row p s n ≡ row p s (n - 1 + 1)
-row-less p s n some = let same : n ≡ n - 1 + 1 = omega arith in ap (row p s) same
+row-less p s n some = ap (row p s) (omega arith)
 
 -- if no place is unused, there are as many nodes as places
 pub length-made : {L B : Type 0} (ns : List (Cell L B)) (us : List Ptr) (s : ℕ)
@@ -125,7 +125,7 @@ unfolding IsChain place_count
 IsLaid-grown {cs = cs} {p = p} {made = made} c l e f n b = record {
   none_unused = e;
   all_listed = subst (λ zs. IsChain zs c.at) (sym f) (refl, b, subst (IsChain cs) (sym n) l.all_listed);
-  all_made = let m = l.all_made in let one : made + c.count ≡ c.count + place_count cs = omega (arith, m) in one ∙ ap place_count (sym f);
+  all_made = rw f (omega (arith, l.all_made));
 }
 
 -- a chain from what is not null has a chunk
@@ -137,29 +137,19 @@ pub record FirstChunk (cs : List Chunk) (p : Ptr) : Type 0 where
 
 pub IsChain-comparable : (cs : List Chunk) (p : Ptr) → IsChain cs p → is_null_or_block p ≡ true
 unfolding IsChain
-IsChain-comparable [] p e = ap is_null_or_block e
-IsChain-comparable (c ∷ cs) p k = ap is_null_or_block k.0 ∙ is_block-comparable c.at k.1
-  where
-    is_block-comparable : (q : Ptr) → is_block q ≡ true → is_null_or_block q ≡ true
-    is_block-comparable (block_ptr b o) e = e
-    is_block-comparable null_ptr e = refl
+IsChain-comparable cs null_ptr k = refl
+IsChain-comparable [] (block_ptr b o) e = cc
+IsChain-comparable (c ∷ cs) (block_ptr b o) k = ap is_block k.0 ∙ k.1
 
 pub IsChain-null : (cs : List Chunk) (p : Ptr) → IsChain cs p → is_null p ≡ true → cs ≡ []
 unfolding IsChain
 IsChain-null [] p k e = refl
-IsChain-null (c ∷ cs) p k e = absurd (null-no_block c.at (ap is_null (sym k.0) ∙ e) k.1)
-  where
-    null-no_block : (q : Ptr) → is_null q ≡ true → is_block q ≡ true → ⊥
-    null-no_block (block_ptr b o) e f = cc
-    null-no_block null_ptr e f = cc
+IsChain-null (c ∷ cs) (block_ptr b o) k e = cc
+IsChain-null (c ∷ cs) null_ptr k e = let no : false ≡ true = ap is_block k.0 ∙ k.1 in cc
 
 pub IsChain-first : (cs : List Chunk) (p : Ptr) → IsChain cs p → is_null p ≡ false → FirstChunk cs p
 unfolding IsChain
-IsChain-first [] p k e = absurd (no_null p k e)
-  where
-    no_null : (q : Ptr) → q ≡ null_ptr → is_null q ≡ false → ⊥
-    no_null (block_ptr b o) n e = cc
-    no_null null_ptr n e = cc
+IsChain-first [] p k e = let no : true ≡ false = sym (ap is_null k) ∙ e in absurd cc
 IsChain-first (c ∷ cs) p k e = record {
   next = c.next;
   count = c.count;

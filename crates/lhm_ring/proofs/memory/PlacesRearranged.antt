@@ -1,9 +1,9 @@
 -- Places are the same memory in any order. Assumes `Logic`.
-use Rattle.lhm_ring.proofs.Names.{List, [], true, ◌++◌, ◌∷◌, ◌≡◌, AreBlocks, IsRearranged, is_block, same_ptr, ent, Ptr, Ura, nothing, ! }
-use Rattle.lhm_ring.proofs.Names.{done, drop, fjoin, fsplit, move, qed, split, use1, use2, ‵, ◌$◌, ◌∵◌, ◌⊛◌, Logic, sem}
-use Rattle.lhm_ring.proofs.lists.{Apart.same_ptr-equal, Apart.same_ptr-reflexive, Rearranged.AllByRecursion-IsRearranged}
-use Rattle.lhm_ring.proofs.lists.{Rearranged.IsRearranged-elim}
-use Rattle.lhm_ring.proofs.memory.{ChunkPlaces.Places, ChunkPlaces.places_cut, ChunkPlaces.places_glue, NodeFields.Three}
+use Rattle.lhm_ring.proofs.Names.{ !, AreBlocks, IsRearranged, List, Logic, Ptr, Ura, [], done, drop, ent, fjoin, fsplit, is_block, move}
+use Rattle.lhm_ring.proofs.Names.{nothing, qed, same_ptr, sem, split, true, use1, use2, ‵, ◌$◌, ◌++◌, ◌∵◌, ◌∷◌, ◌≡◌, ◌⊛◌}
+use Rattle.lhm_ring.proofs.lists.Rearranged.{AllByRecursion-IsRearranged, IsRearranged-elim}
+use Rattle.lhm_ring.proofs.memory.ChunkPlaces.{Places, places_cut, places_glue}
+use Rattle.lhm_ring.proofs.{lists.Apart.same_ptr-equal, lists.Apart.same_ptr-reflexive, memory.NodeFields.Three}
 
 pub AreBlocks-IsRearranged : (ps qs : List Ptr) → IsRearranged ps qs → AreBlocks ps → AreBlocks qs
 AreBlocks-IsRearranged = AllByRecursion-IsRearranged same_ptr same_ptr-equal same_ptr-reflexive (λ p. is_block p ≡ true)

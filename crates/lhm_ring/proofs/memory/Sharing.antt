@@ -3,8 +3,8 @@ use Rattle.lhm_ring.proofs.Names.{List, None, Option, Some, [], ◌++◌, ◌∷
 use Rattle.lhm_ring.proofs.Names.{cells_own, deed_owns, key_address, links_address, value_address, Nodes, Fml, Incl, Incl-trans, Lft, fbor}
 use Rattle.lhm_ring.proofs.Names.{fsep, full_share, ent, sep, meet_⊑_left, meet_⊑_right, copy_shared, RattleType, RowLaws, Ptr, RawPtr}
 use Rattle.lhm_ring.proofs.Names.{lies_at, Shares-less, ShrLaws, beside_shr_laws, nothing_shr_laws, Law, Lends, Lends-both, Lends-first}
-use Rattle.lhm_ring.proofs.Names.{Lends-lies, Lends-nothing, lent_at, lent_at_shr_laws, of_Lends, Ura, !, await, done, later, now, qed, raw}
-use Rattle.lhm_ring.proofs.Names.{split, updating, use1, use2, ‵, ◌$◌, ◌⊛◌, Logic, lfts, sem}
+use Rattle.lhm_ring.proofs.Names.{Lends-lies, Lends-nothing, lent_at, lent_at_shr_laws, of_Lends, Ura, !, await, done, later, now, qed}
+use Rattle.lhm_ring.proofs.Names.{raw, split, updating, use1, use2, ‵, ◌$◌, ◌⊛◌, Logic, lfts, sem}
 use denote.{Param.Laws.Laws, Struct.Laws.field_copy}
 use denote.Struct.Owning as owning
 use Rattle.std.specs.contracts.marker.PhantomData as marker
@@ -31,8 +31,8 @@ module _ {M : Type 1} {𝓤 : Ura M} (𝓛 : Logic 𝓤) (l : Lft) where
   -- what is lent shows less
   pub Lends-less : (P : Fml) (Q S : Lft → Fml) → Lends 𝓛 P Q l → ((κ : Lft) → ent 𝓤 (sem 𝓛 (Q κ)) (sem 𝓛 (S κ))) → Lends 𝓛 P S l
   Lends-less P Q S h less κ ts inc sp = qed 𝓛 (‵ (fbor κ P) ∷ raw (lfts 𝓛 ts) ∷ []) {P = 𝓛.H.⇛ (sep 𝓤 (sem 𝓛 (S κ)) (lfts 𝓛 ts))} (
-      updating ! $ use2 𝓛 (later (‵ (Q κ) ⊛ raw (lfts 𝓛 ts))) (h κ ts inc sp) $ await ! tt $ split !
-      $ use1 𝓛 (‵ (S κ)) (less κ) $ now ! $ done !)
+      updating ! $ use2 𝓛 (later (‵ (Q κ) ⊛ raw (lfts 𝓛 ts))) (h κ ts inc sp) $ await ! tt $ split ! $ use1 𝓛 (‵ (S κ)) (less κ) $ now ! $
+      done !)
 
   module _ (L K V : RattleType) where
     pub Lends-parts : (f : Cell L.Denot (K.Denot × V.Denot) → Fml)
@@ -61,9 +61,7 @@ module _ {M : Type 1} {𝓤 : Ura M} (𝓛 : Logic 𝓤) {l : Lft} {L K V : Ratt
       (Lends-first 𝓛 (body_owns L K V c.at c.body) (deed_owns L K V c.at) (body_lent L K V c.at c.body) l (Lends-body c.at c.body))
 
   pub Lends-cells : (Z : Fml) (cs : List (Cell L.Denot (K.Denot × V.Denot))) → Lends 𝓛 (cells_own L K V Z cs) (cells_lent L K V cs) l
-  Lends-cells Z [] = Lends-nothing 𝓛 Z l
-  Lends-cells Z (c ∷ cs) = Lends-both 𝓛 (cell_owns L K V c) (cells_own L K V Z cs)
-      (cell_lent L K V c) (cells_lent L K V cs) l (Lends-cell c) (Lends-cells Z cs)
+  Lends-cells = Lends-parts 𝓛 l L K V (cell_owns L K V) Lends-cell
 
 -- nodes that own `left`, as a type that is shared as nodes of R, A and B are
 module _ (R A B : RattleType) (left : Nodes R.Denot A.Denot B.Denot → Fml) where

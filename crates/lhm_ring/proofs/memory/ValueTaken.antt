@@ -1,9 +1,9 @@
 -- One value is taken from those that are lent. Assumes `Logic`.
-use Rattle.lhm_ring.proofs.Names.{List, Some, [], ap, cond, false, length, map, refl, sym, take, true, ℕ, ◌++◌, ◌∙◌, ◌∷◌, ◌≡◌, same_ptr}
-use Rattle.lhm_ring.proofs.Names.{spread, value_at, without_value, ffalse, fsep, full_share, emp, ent, never_e, sep, mem, RattleType, Ptr}
-use Rattle.lhm_ring.proofs.Names.{block_ptr, lies_at, Ura, !, by, done, fjoin, fsplit, keep, move, qed, raw, rewrite, split, use1, use3, ‵}
-use Rattle.lhm_ring.proofs.Names.{◌$◌, ◌∵◌, ◌⊛◌, Logic, sem}
-use Rattle.lhm_ring.proofs.lists.{Apart.same_ptr-equal, Splits.SplitAround, Options.Some-injective, Options.none_some}
+use Rattle.lhm_ring.proofs.Names.{ !, List, Logic, Ptr, RattleType, Some, Ura, [], ap, block_ptr, by, cond, done, emp, ent, false, ffalse}
+use Rattle.lhm_ring.proofs.Names.{fjoin, fsep, fsplit, full_share, keep, length, lies_at, map, mem, move, never_e, qed, raw, refl, rewrite}
+use Rattle.lhm_ring.proofs.Names.{same_ptr, sem, sep, split, spread, sym, take, true, use1, use3, value_at, without_value, ‵, ℕ, ◌$◌, ◌++◌}
+use Rattle.lhm_ring.proofs.Names.{◌∙◌, ◌∵◌, ◌∷◌, ◌≡◌, ◌⊛◌}
+use Rattle.lhm_ring.proofs.lists.{Apart.same_ptr-equal, Options.Some-injective, Options.none_some, Splits.SplitAround}
 use lib.ListN.{drop as drop_l}
 
 module _ {V : Type 0} where

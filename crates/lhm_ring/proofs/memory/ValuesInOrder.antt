@@ -1,10 +1,8 @@
 -- The values that nodes hold, in the order in which the nodes are listed: they are lent, and others are written in their places.
-use Rattle.lhm_ring.proofs.Names.{List, None, Option, Some, [], ap, arith, cond, false, length, map, refl, subst, suc, sym, true, ℕ, ◌++◌}
-use Rattle.lhm_ring.proofs.Names.{◌∙◌, ◌∷◌, ◌≡◌, IsOwned, content_of, contents, ends_links, holders, one_of, ring_cells, Cell, IsApart}
-use Rattle.lhm_ring.proofs.Names.{cell, cell_at, links_at, links_of, pointers, same_ptr, AtHeld, Held, IsHeld, SplitAt, pair}
-use Rattle.lhm_ring.proofs.Names.{set_held_values, unvalued, AreLent, value_at, Link, Ends, Links, AllByRecursion, Ptr, null_ptr}
-use Rattle.lhm_ring.proofs.lists.Apart.{IsApart-tail, IsFresh, IsFresh-head, same_ptr-reflexive}
-use Rattle.lhm_ring.{proofs.rings.HeldPointers.pointers_of, specs.SameNodes.IsOwned-alike}
+use Rattle.lhm_ring.proofs.Names.{AtHeld, Cell, Ends, Held, IsHeld, IsOwned, Link, Links, List, None, Option, Ptr, Some, SplitAt, [], ap}
+use Rattle.lhm_ring.proofs.Names.{arith, cell, content_of, contents, holders, map, one_of, pair, pointers, refl, ring_cells}
+use Rattle.lhm_ring.proofs.Names.{set_held_values, subst, sym, unvalued, ℕ, ◌++◌, ◌∙◌, ◌∷◌, ◌≡◌}
+use Rattle.lhm_ring.proofs.rings.{Contents.pointers_of, Rebodied.IsOwned-keys, Rebodied.keys}
 
 module _ {K V : Type 0} where
   pub unvalued-set_held_values : (hs : List (Held (K × V))) (vs : List V) → map unvalued (set_held_values hs vs) ≡ map unvalued hs
@@ -45,28 +43,6 @@ module _ {K V : Type 0} where
   abbrev pub run_of : List (Held (K × V)) → List (Ptr × V)
   run_of = map (λ t. (t.at, t.pair.1))
 
-  abbrev HasValue : List (Ptr × V) → Held (K × V) → Type 0
-  HasValue run t = value_at run t.at ≡ Some t.pair.1
-
-  HasValue-later : (u : Held (K × V)) (hs ts : List (Held (K × V))) → IsFresh u.at (pointers_of ts)
-      → AllByRecursion (HasValue (run_of hs)) ts → AllByRecursion (HasValue (run_of (u ∷ hs))) ts
-  unfolding value_at
-  HasValue-later u hs [] f a = tt
-  HasValue-later u hs (t ∷ ts) f a =
-      (ap (λ y. cond y (Some u.pair.1) (value_at (run_of hs) t.at)) f.0 ∙ a.0, HasValue-later u hs ts f.1 a.1)
-
-  HasValue-own : (hs : List (Held (K × V))) → IsApart (pointers_of hs) → AllByRecursion (HasValue (run_of hs)) hs
-  unfolding value_at
-  HasValue-own [] d = tt
-  HasValue-own (t ∷ hs) d = (
-    ap (λ y. cond y (Some t.pair.1) (value_at (run_of hs) t.at)) (same_ptr-reflexive t.at),
-    HasValue-later t hs hs (IsFresh-head t.at (pointers_of hs) d) (HasValue-own hs (IsApart-tail t.at (pointers_of hs) d)),
-  )
-
-  -- they are all lent at first
-  pub AreLent-own : (hs : List (Held (K × V))) → IsApart (pointers_of hs) → AreLent (run_of hs) hs
-  AreLent-own hs d = record { lent = HasValue-own hs d; apart = d }
-
   -- what a node holds once the values are written, and those that are left for the nodes behind it
   abbrev pub new_body : Option (K × V) → List V → Option (K × V)
   new_body None vs = None
@@ -100,32 +76,11 @@ module _ {K V : Type 0} where
   holders-written : (cs : List (Cell Links (K × V))) (vs : List V) → holders (written cs vs) ≡ holders cs
   holders-written cs vs = ap pointers_of (contents-written cs vs) ∙ pointers_of-set_held_values (contents cs) vs
 
-  -- their links stay
-  links_at-written : (cs : List (Cell Links (K × V))) (vs : List V) (q : Ptr) → links_at (written cs vs) q ≡ links_at cs q
-  unfolding cell_at
-  links_at-written [] vs q = refl
-  links_at-written (c ∷ cs) vs q =
-      elim (same_ptr c.at q) as (λ y. links_of (cond y (Some (cell c.at c.links (new_body c.body vs)))
-      (cell_at (written cs (left_over c.body vs)) q)) ≡ links_of (cond y (Some c) (cell_at cs q))) [
-        | true ↦ refl
-        | false ↦ links_at-written cs (left_over c.body vs) q
-      ]
-
-  length-written : (cs : List (Cell Links (K × V))) (vs : List V) → length (written cs vs) ≡ length cs
-  length-written [] vs = refl
-  length-written (c ∷ cs) vs = ap suc (length-written cs (left_over c.body vs))
-
-  links_at-in_ring : (a : Ends) (cs : List (Cell Links (K × V))) (vs : List V) (q : Ptr)
-      → links_at (ring_cells a (written cs vs)) q ≡ links_at (ring_cells a cs) q
-  unfolding cell_at
-  links_at-in_ring a cs vs q =
-      elim (same_ptr null_ptr q) as (λ y. links_of (cond y (Some (cell null_ptr (ends_links a) None)) (cell_at (written cs vs) q))
-      ≡ links_of (cond y (Some (cell null_ptr (ends_links a) None)) (cell_at cs q))) [
-        | true ↦ refl
-        | false ↦ links_at-written cs vs q
-      ]
+  keys-written : (cs : List (Cell Links (K × V))) (vs : List V) → keys (written cs vs) ≡ keys cs
+  keys-written [] vs = refl
+  keys-written (c ∷ cs) vs = ap (λ ks. (c.at, c.links) ∷ ks) (keys-written cs (left_over c.body vs))
 
   pub IsOwned-written : (a : Ends) (cs : List (Cell Links (K × V))) (vs : List V) {s : Link} {n m : ℕ}
       → IsOwned (ring_cells a cs) (holders cs) s n m → IsOwned (ring_cells a (written cs vs)) (holders (written cs vs)) s n m
   IsOwned-written a cs vs {s} {n} {m} ok = subst (λ ps. IsOwned (ring_cells a (written cs vs)) ps s n m) (sym (holders-written cs vs))
-      (IsOwned-alike (ring_cells a cs) (ring_cells a (written cs vs)) (links_at-in_ring a cs vs) (ap suc (length-written cs vs)) ok)
+      (IsOwned-keys a cs (written cs vs) (keys-written cs vs) ok)

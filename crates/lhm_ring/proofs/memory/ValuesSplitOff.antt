@@ -14,10 +14,9 @@ use Rattle.lhm_ring.proofs.Names.{nothing as empty, Lends, Lends-both, Lends-fir
 use Rattle.lhm_ring.proofs.Names.{Shape, Struct, within, Val, vnil, vstruct, Ura, !, by, done, drop, fjoin, fjoin3, fpack, fpick, fsplit}
 use Rattle.lhm_ring.proofs.Names.{fsplit3, keep, move, qed, raw, split, use1, use2, ‵, ◌$◌, ◌∵◌, ◌⊛◌, Logic, sem, SemTy}
 use Rattle.lhm_ring.proofs.memory.Sharing.{Law-thin, Lends-less, Lends-parts, Thin, parts_own}
-use Rattle.lhm_ring.proofs.memory.ValuesInOrder.{AreLent-own, IsOwned-written, contents-written, left_over, new_body, pointers-written}
-use Rattle.lhm_ring.proofs.memory.ValuesInOrder.{run_of, written}
-use Rattle.lhm_ring.proofs.memory.{NodeFields.marker, NodeTaken.with_cells, PartsTaken.Entails, PartsTaken.parts_cut, PartsTaken.◌∗◌}
-use Rattle.lhm_ring.proofs.rings.{HeldPointers.IsApart-owned}
+use Rattle.lhm_ring.proofs.memory.ValuesInOrder.{IsOwned-written, contents-written, left_over, new_body, pointers-written, run_of, written}
+use Rattle.lhm_ring.proofs.memory.PartsTaken.{Entails, parts_cut, ◌∗◌}
+use Rattle.lhm_ring.proofs.{memory.NodeFields.marker, memory.NodeTaken.with_cells, rings.HeldPointers.IsApart-owned}
 use denote.{Param.Laws.Laws, Sharing.nothing, Struct.Field.Field, Struct.Field.rows, Struct.Values.intos}
 use denote.Struct.Declared as declared
 use denote.Struct.Owning as owning
@@ -229,7 +228,7 @@ module _ (S W : RattleType) where
 
     module _ {d : Seen} (seen : view a ≡ d) (ok : good a) where
       pub AreLent-held : AreLent (run_of (held_by a)) d.held
-      AreLent-held = subst (λ (s : Seen). AreLent (run_of (held_by a)) s.held) seen (AreLent-own (held_by a) (IsApart-owned ok.ring))
+      AreLent-held = subst (λ (s : Seen). AreLent (run_of (held_by a)) s.held) seen (record { lent = refl; apart = IsApart-owned ok.ring })
 
       -- the values ws come back, in order
       pub back : (ws : List W.Denot)

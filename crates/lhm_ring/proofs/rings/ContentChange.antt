@@ -1,15 +1,14 @@
 -- What is held at one pointer changes, and nothing else.
-use Rattle.lhm_ring.proofs.Names.{List, Option, [], ap, arith, cond, false, length, refl, subst, sym, ℕ, ◌++◌, ◌∙◌, ◌∷◌, ◌≡◌, IsOwned}
-use Rattle.lhm_ring.proofs.Names.{chaining_to, contents, has_links, holders, link_at, link_of, links_of, next_of, prev_of, Cell, IsApart}
-use Rattle.lhm_ring.proofs.Names.{IsAt, cell, change, is_there, links_at, next_at, prev_at, same_ptr, with_body, with_links, ChangesOnly}
-use Rattle.lhm_ring.proofs.Names.{Held, State, change_at, Link, Links, Ptr}
+use Rattle.lhm_ring.proofs.Names.{Cell, ChangesOnly, Ends, Held, IsApart, IsAt, IsOwned, Link, Links, List, None, Option, Ptr, Some, []}
+use Rattle.lhm_ring.proofs.Names.{ap, arith, cell, chaining_to, change_at, cond, content_of, false, has_links, held, is_there, length}
+use Rattle.lhm_ring.proofs.Names.{link_at, link_of, linked_to, links_of, next_at, next_of, one_of, prev_at, prev_of, refl, ring_cells}
+use Rattle.lhm_ring.proofs.Names.{same_ptr, subst, sym, target, with_body, with_links, ℕ, ◌++◌, ◌∙◌, ◌∷◌, ◌≡◌}
 use Rattle.lhm_ring.proofs.lists.Apart.{IsApart-tail, IsFresh, IsFresh-head, same_ptr-reflexive, same_ptr-symmetric}
 use Rattle.lhm_ring.proofs.lists.{Cuts.same_ptr-fresh, ForAll.AllByRecursion-map}
-use Rattle.lhm_ring.proofs.memory.{OneNodeChanged.links_at-with_body}
-use Rattle.lhm_ring.proofs.rings.{HeldPointers.IsApart-listed, HeldPointers.pointers_of, Holders.content, Holders.contents-append}
-use Rattle.lhm_ring.proofs.rings.{Lookup.Cut, RingNodes.Seen, Writes.cell_at-change_other, Writes.length-change}
-use Rattle.lhm_ring.proofs.rings.{Writes.reader-with_links_same}
-use Rattle.lhm_ring.specs.SameNodes.{IsOwned-alike, IsOwned-same, SameLink}
+use Rattle.lhm_ring.proofs.rings.Contents.{content, pointers_of, pointers_of-append}
+use Rattle.lhm_ring.proofs.rings.Rebodied.{IsOwned-keys, keys, keys-with_body}
+use Rattle.lhm_ring.proofs.rings.Writes.{cell_at-change_other, length-change, reader-with_links_same}
+use Rattle.lhm_ring.specs.SameNodes.{IsOwned-same, SameLink}
 
 -- what is held lies at pointers that are apart, so that a change of one is a change of no other
 module _ {B : Type 0} where
@@ -25,33 +24,33 @@ module _ {B : Type 0} where
       λ i. cond ((ap (same_ptr x.at) (sym at) ∙ same_ptr-fresh (λ t. t.at) x.at xs t ys far) i)
       (f x) x ∷ change_at-split p f xs t ys at (IsApart-tail x.at (pointers_of (xs ++ t ∷ ys)) d) i
 
-  pub ChangesOnly-held : {cs : List (Cell Links B)} {ps : List Ptr} {spare : Link} {n m : ℕ} {v : State B} {total : ℕ}
-      → IsOwned cs ps spare n m
-      → Seen cs ps m total v → (p : Ptr) → ChangesOnly v.held p
-  ChangesOnly-held ok w p xs t ys e at f =
-      ap (change_at p f) e
-      ∙ change_at-split p f xs t ys at (subst (λ hs. IsApart (pointers_of hs)) (w.list ∙ e) (IsApart-listed ok w.held))
+  pub ChangesOnly-apart : {hs : List (Held B)} → IsApart (pointers_of hs) → (p : Ptr) → ChangesOnly hs p
+  ChangesOnly-apart d p xs t ys e at f =
+      ap (change_at p f) e ∙ change_at-split p f xs t ys at (subst (λ hs. IsApart (pointers_of hs)) e d)
 
-  -- a node that holds t is changed, and holds g t
-  pub contents-changed : {cs : List (Cell Links B)} {p : Ptr} (k : Cut cs p) (f : Cell Links B → Cell Links B) (t : Held B)
-      (g : Held B → Held B) → t.at ≡ p → content k.split.node ≡ t ∷ [] → content (f k.split.node) ≡ g t ∷ [] → IsApart (holders cs)
-      → contents (change p f cs) ≡ change_at p g (contents cs)
-  unfolding contents
-  contents-changed {cs} {p} k f t g at was is d =
-      let xs = k.split.before in let c = k.split.node in let ys = k.split.after in
-      let old : contents cs ≡ contents xs ++ t ∷ contents ys =
-      ap contents k.split.is ∙ contents-append xs (c ∷ ys) ∙ (λ i. contents xs ++ (was i ++ contents ys)) in
-      ap contents (k.changed f) ∙ contents-append xs (f c ∷ ys) ∙ (λ i. contents xs ++ (is i ++ contents ys))
-      ∙ sym (ap (change_at p g) old
-      ∙ change_at-split p g (contents xs) t (contents ys) at (subst (λ hs. IsApart (pointers_of hs)) old d))
+  -- the same pointers, if another triple lies at one of them
+  pub pointers_of-changed : (us : List (Held B)) (t w : Held B) (vs : List (Held B)) → w.at ≡ t.at
+      → pointers_of (us ++ w ∷ vs) ≡ pointers_of (us ++ t ∷ vs)
+  pointers_of-changed us t w vs at =
+      pointers_of-append us (w ∷ vs) ∙ ap (λ q. pointers_of us ++ q ∷ pointers_of vs) at ∙ sym (pointers_of-append us (t ∷ vs))
+
+  pub content-linked : (c : Cell Links B) {t : Held B} (o : Link) → content c ≡ t ∷ []
+      → content (cell c.at (chaining_to o c.links) c.body) ≡ linked_to (target o) t ∷ []
+  content-linked c {t} o e = by c.body e
+    where
+      by : (b : Option B) → one_of (content_of c.at (Some c.links) b) ≡ t ∷ []
+          → one_of (content_of c.at (Some (chaining_to o c.links)) b) ≡ linked_to (target o) t ∷ []
+      by None e = absurd cc
+      by (Some x) e = let same : held c.at c.links.hash (link_of (Some c.links)) x ≡ t = cc in ap (λ u. linked_to (target o) u ∷ []) same
 
   -- the body of a node is written, or its chain link
+  pub IsOwned-with_body : (e : Ends) (nodes : List (Cell Links B)) {ds : List (Cell Links B)} {ps : List Ptr} {spare : Link} {n m : ℕ}
+      → IsOwned (ring_cells e nodes) ps spare n m → (p : Ptr) (b : Option B) → ds ≡ with_body p b nodes
+      → IsOwned (ring_cells e ds) ps spare n m
+  IsOwned-with_body e nodes {ds} ok p b is = IsOwned-keys e nodes ds (ap keys is ∙ keys-with_body p b nodes) ok
+
   module _ {cs ds : List (Cell Links B)} {ps : List Ptr} {spare : Link} {n m : ℕ} (ok : IsOwned cs ps spare n m) (p : Ptr)
       (at : IsAt cs p) where
-    pub IsOwned-with_body : (b : Option B) → ds ≡ with_body p b cs → IsOwned ds ps spare n m
-    IsOwned-with_body b is = IsOwned-alike cs ds (λ q. ap (λ zs. links_at zs q) is ∙ links_at-with_body p b cs at.0 at.1 q)
-        (ap length is ∙ length-change p (λ c. cell c.at c.links b) cs) ok
-
     pub IsOwned-chained : (o : Link) → IsFresh p ok.spare_pointers → ds ≡ with_links p (chaining_to o at.0) cs → IsOwned ds ps spare n m
     IsOwned-chained o fresh is =
         let k : Links = chaining_to o at.0 in

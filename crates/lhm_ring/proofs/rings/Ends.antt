@@ -1,7 +1,7 @@
 -- The node at an end of what a ring holds.
-use Rattle.lhm_ring.proofs.Names.{List, None, Option, Some, [], ap, append-nil, arith, length, length-append, refl, suc, sym, ℕ, ◌++◌, ◌∙◌}
-use Rattle.lhm_ring.proofs.Names.{◌∷◌, ◌≡◌, ◌≤◌, Held, IsHeld, SplitLast, first_at, last_at, last_of, triples, map-append, AllZip, Ptr}
-use Rattle.lhm_ring.proofs.lists.{Options.Some-injective, Splits.SplitFirst}
+use Rattle.lhm_ring.proofs.Names.{AllZip, Held, IsHeld, List, None, Option, Ptr, R, Some, SplitLast, [], ap, append-nil, arith, first_at}
+use Rattle.lhm_ring.proofs.Names.{last_at, last_of, length, length-append, map-append, refl, suc, sym, triples, ℕ, ◌++◌, ◌∙◌, ◌∷◌, ◌≡◌}
+use Rattle.lhm_ring.proofs.{Names.◌≤◌, lists.Options.Some-injective, lists.Splits.SplitFirst}
 
 -- a node at p comes first, or last
 abbrev pub First : {B : Type 0} → List (Held B) → Ptr → Type 0

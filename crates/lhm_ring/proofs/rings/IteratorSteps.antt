@@ -1,54 +1,48 @@
 -- The values of what an iterator has left are lent, the first or the last in turn.
-use Rattle.lhm_ring.proofs.Names.{List, Option, Some, [], ap, arith, false, map, refl, subst, sym, ◌++◌, ◌∙◌, ◌∷◌, ◌≡◌, IsApart, same_ptr}
-use Rattle.lhm_ring.proofs.Names.{Held, AreLent, value_at, without_value, AllByRecursion, Ptr}
-use Rattle.lhm_ring.proofs.lists.Apart.{AllByRecursion-fresh_across, IsApart-left, IsApart-tail, IsFresh, IsFresh-head, same_ptr-equal}
-use Rattle.lhm_ring.proofs.lists.{Apart.same_ptr-symmetric, Options.Some-injective, ForAll.AllByRecursion-left, ForAll.AllByRecursion-right}
+use Rattle.lhm_ring.proofs.Names.{AreLent, Held, IsApart, List, None, Option, Ptr, Some, [], ap, cond, subst, sym, value_at, without_value}
+use Rattle.lhm_ring.proofs.lists.Apart.{IsApart-left, IsApart-tail, IsFresh-head, same_ptr-reflexive}
+use Rattle.lhm_ring.proofs.{Names.◌++◌, Names.◌∙◌, Names.◌∷◌, Names.◌≡◌, rings.Contents.pointers_of, rings.Contents.pointers_of-append}
+use Rattle.lhm_ring.proofs.{lists.Cuts.same_ptr-fresh, lists.Options.Some-injective, memory.ValuesInOrder.run_of}
 
 -- a key and a value that are read apart
 pub Some-both : {K V : Type 0} (o : Option (K × V)) (k k' : K) (v v' : V) → o ≡ Some (k, v) → o ≡ Some (k', v') → o ≡ Some (k, v')
 Some-both o k k' v v' e f = e ∙ ap (λ (z : _ × _). Some (k, z.1)) (Some-injective (k, v) (k', v') (sym e ∙ f))
 
-module _ {V : Type 0} where
-  value_at-other : (p : Ptr) (q : Ptr) → same_ptr p q ≡ false → (run : List (Ptr × V)) → value_at (without_value p run) q ≡ value_at run q
-  unfolding value_at without_value
-  value_at-other p q n [] = refl
-  value_at-other p q n (c ∷ cs) = grind (arith, same_ptr-equal, value_at-other p q n cs)
-
-  pub Some-unique : (o : Option V) (v w : V) → o ≡ Some v → o ≡ Some w → v ≡ w
-  Some-unique o v w e f = Some-injective v w (sym e ∙ f)
-
-IsFresh-turned : (p : Ptr) (ps : List Ptr) → AllByRecursion (λ x. IsFresh x (p ∷ [])) ps → IsFresh p ps
-IsFresh-turned p [] a = tt
-IsFresh-turned p (q ∷ qs) a = (same_ptr-symmetric p q ∙ a.0.0, IsFresh-turned p qs a.1)
+pub Some-unique : {V : Type 0} (o : Option V) (v w : V) → o ≡ Some v → o ≡ Some w → v ≡ w
+Some-unique o v w e f = Some-injective v w (sym e ∙ f)
 
 module _ {K V : Type 0} where
-  abbrev At : Held (K × V) → Ptr
-  At t = t.at
-
-  AllByRecursion-value_kept : (p : Ptr) (run : List (Ptr × V)) (ts : List (Held (K × V)))
-      → IsFresh p (map At ts) → AllByRecursion (λ t. value_at run t.at ≡ Some t.pair.1) ts
-      → AllByRecursion (λ t. value_at (without_value p run) t.at ≡ Some t.pair.1) ts
-  AllByRecursion-value_kept p run [] f a = tt
-  AllByRecursion-value_kept p run (t ∷ ts) f a = (value_at-other p t.at f.0 run ∙ a.0, AllByRecursion-value_kept p run ts f.1 a.1)
+  value_at-last : (ts : List (Held (K × V))) (t : Held (K × V)) → IsApart (pointers_of (ts ++ t ∷ []))
+      → (value_at (run_of (ts ++ t ∷ [])) t.at ≡ Some t.pair.1) × (without_value t.at (run_of (ts ++ t ∷ [])) ≡ run_of ts)
+  unfolding value_at without_value
+  value_at-last [] t d = let own = same_ptr-reflexive t.at in
+      (ap (λ y. cond y (Some t.pair.1) None) own, ap (λ y. cond y [] ((t.at, t.pair.1) ∷ [])) own)
+  value_at-last (u ∷ us) t d =
+      let on = value_at-last us t (IsApart-tail u.at (pointers_of (us ++ t ∷ [])) d) in let run = run_of (us ++ t ∷ []) in
+      let away = same_ptr-fresh (λ (t : Held (K × V)). t.at) u.at us t [] (IsFresh-head u.at (pointers_of (us ++ t ∷ [])) d) in (
+        ap (λ y. cond y (Some u.pair.1) (value_at run t.at)) away ∙ on.0,
+        ap (λ y. cond y run ((u.at, u.pair.1) ∷ without_value t.at run)) away ∙ ap (λ r. (u.at, u.pair.1) ∷ r) on.1,
+      )
 
   pub value_at-first_lent : {run : List (Ptr × V)} {s : List (Held (K × V))} {t : Held (K × V)} {ts : List (Held (K × V))} → s ≡ t ∷ ts
       → AreLent run s → (value_at run t.at ≡ Some t.pair.1) × AreLent (without_value t.at run) ts
-  value_at-first_lent e a = grind (arith, AllByRecursion-value_kept, IsFresh-head, IsApart-tail)
-
-  map-push : (ts : List (Held (K × V))) (t : Held (K × V)) → map At (ts ++ t ∷ []) ≡ map At ts ++ t.at ∷ []
-  map-push [] t = refl
-  map-push (u ∷ us) t = ap (λ r. u.at ∷ r) (map-push us t)
+  unfolding value_at without_value
+  value_at-first_lent {t = t} {ts = ts} e a =
+      let is = a.lent ∙ ap run_of e in let own = same_ptr-reflexive t.at in (
+        ap (λ r. value_at r t.at) is ∙ ap (λ y. cond y (Some t.pair.1) (value_at (run_of ts) t.at)) own,
+        record {
+          lent = ap (without_value t.at) is ∙ ap (λ y. cond y (run_of ts) ((t.at, t.pair.1) ∷ without_value t.at (run_of ts))) own;
+          apart = IsApart-tail t.at (pointers_of ts) (subst (λ hs. IsApart (pointers_of hs)) e a.apart);
+        },
+      )
 
   pub value_at-last_lent : {run : List (Ptr × V)} {s : List (Held (K × V))} (t : Held (K × V)) (ts : List (Held (K × V))) → s ≡ ts ++ t ∷ []
       → AreLent run s → (value_at run t.at ≡ Some t.pair.1) × AreLent (without_value t.at run) ts
-  value_at-last_lent {run} {s} t ts e a =
-      let P = λ (u : Held (K × V)). value_at run u.at ≡ Some u.pair.1 in
-      let b = subst (AreLent run) e a in let d = subst IsApart (map-push ts t) b.apart in (
-        (AllByRecursion-right P ts (t ∷ []) b.lent).0,
+  value_at-last_lent t ts e a =
+      let is = a.lent ∙ ap run_of e in let d = subst (λ hs. IsApart (pointers_of hs)) e a.apart in let last = value_at-last ts t d in (
+        ap (λ r. value_at r t.at) is ∙ last.0,
         record {
-          lent = AllByRecursion-value_kept t.at run ts
-              (IsFresh-turned t.at (map At ts) (AllByRecursion-fresh_across (map At ts) (t.at ∷ [])
-              d)) (AllByRecursion-left P ts (t ∷ []) b.lent);
-          apart = IsApart-left (map At ts) (t.at ∷ []) d;
+          lent = ap (without_value t.at) is ∙ last.1;
+          apart = IsApart-left (pointers_of ts) (t.at ∷ []) (subst IsApart (pointers_of-append ts (t ∷ [])) d);
         },
       )

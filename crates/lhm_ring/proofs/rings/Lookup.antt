@@ -1,7 +1,6 @@
 -- A node that is found at a pointer cuts the list in two there.
-use Rattle.lhm_ring.proofs.Names.{List, None, Option, Some, [], ap, cond, false, refl, subst, sym, true, ◌++◌, ◌∙◌, ◌∷◌, ◌≡◌, Cell, Holds}
-use Rattle.lhm_ring.proofs.Names.{IsAt, body_at, body_of, cell_at, change, links_at, links_of, pointers, same_ptr, SplitAt}
-use Rattle.lhm_ring.proofs.Names.{AllByRecursion, Ptr}
+use Rattle.lhm_ring.proofs.Names.{AllByRecursion, Cell, List, None, Option, Ptr, Some, SplitAt, [], ap, body_at, body_of, cell_at, change}
+use Rattle.lhm_ring.proofs.Names.{cond, false, links_at, links_of, pointers, refl, same_ptr, subst, sym, true, ◌++◌, ◌∙◌, ◌∷◌, ◌≡◌}
 use Rattle.lhm_ring.proofs.lists.{Apart.same_ptr-equal, Options.none_some}
 
 module _ {L B : Type 0} where
@@ -41,9 +40,6 @@ module _ {L B : Type 0} where
   -- where something is held
   pub Cut-held : (cs : List (Cell L B)) (p : Ptr) (b : B) → body_at cs p ≡ Some b → Cut cs p
   Cut-held cs p b e = let h = holds_at (cell_at cs p) b e in Cut-links_at cs p h.0.links (ap links_of h.1)
-
-  pub IsAt-holds : (cs : List (Cell L B)) (p : Ptr) → Holds cs p → IsAt cs p
-  IsAt-holds cs p h = let c = holds_at (cell_at cs p) h.0 h.1 in (c.0.links, ap links_of c.1)
 
   pub held_here : {cs : List (Cell L B)} {p : Ptr} {b : B} (k : Cut cs p) → body_at cs p ≡ Some b → k.split.node.body ≡ Some b
   held_here k e = sym (ap body_of k.here) ∙ e

@@ -1,5 +1,5 @@
 -- How many nodes there are after a growth.
-use Rattle.lhm_ring.proofs.Names.{arith, max, ℕ, ◌+◌, ◌<◌, ◌≡◌, ◌≤◌, least_more, nodes_grown}
+use Rattle.lhm_ring.proofs.Names.{arith, least_more, max, nodes_grown, ℕ, ◌+◌, ◌<◌, ◌≡◌, ◌≤◌}
 
 -- as many as are needed were there
 pub nodes_grown-enough : (nodes needed least : ℕ) → needed ≤ nodes → nodes_grown nodes needed least ≡ nodes

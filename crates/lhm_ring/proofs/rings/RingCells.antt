@@ -1,12 +1,11 @@
 -- The nodes of a ring, and the one at null that stands for its ends.
-use Rattle.lhm_ring.proofs.Names.{List, None, Option, Some, [], ap, arith, cond, false, refl, subst, sym, true, ◌∙◌, ◌∷◌, ◌≡◌, AreLinked}
-use Rattle.lhm_ring.proofs.Names.{ChainsTo, HasContent, IsJoined, IsOwned, IsRing, IsSpareList, IsThere, chaining_to, contents}
-use Rattle.lhm_ring.proofs.Names.{ends_links, has_links, holders, link_of, next_at, prev_at, ring_cells, AreBlocks, Cell, Holds, IsAt}
-use Rattle.lhm_ring.proofs.Names.{body_at, body_of, cell, cell_at, change, is_block, links_at, links_of, pointers, same_ptr, with_body}
-use Rattle.lhm_ring.proofs.Names.{with_links, led_to, target, Link, Ends, Links, AllByRecursion, Ptr, block_ptr, null_ptr}
-use Rattle.lhm_ring.proofs.lists.{Apart.IsApart-added, Apart.IsApart-none, ForAll.AllByRecursion-map, Options.Some-injective}
-use Rattle.lhm_ring.proofs.lists.{Options.none_some}
-use Rattle.lhm_ring.proofs.rings.{Lookup.AllByRecursion-at, Writes.IsAt-there}
+use Rattle.lhm_ring.proofs.Names.{AllByRecursion, AreBlocks, AreLinked, Cell, ChainsTo, Ends, IsAt, IsJoined, IsOwned, IsRing, IsSpareList}
+use Rattle.lhm_ring.proofs.Names.{IsThere, Link, Links, List, None, Option, Ptr, Some, [], ap, arith, block_ptr, cell, cell_at}
+use Rattle.lhm_ring.proofs.Names.{chaining_to, change, cond, contents, ends_links, false, has_links, holders, is_block, led_to, link_of}
+use Rattle.lhm_ring.proofs.Names.{links_at, links_of, next_at, null_ptr, pointers, prev_at, refl, ring_cells, same_ptr, subst, sym, target}
+use Rattle.lhm_ring.proofs.Names.{true, with_links, ◌∙◌, ◌∷◌, ◌≡◌}
+use Rattle.lhm_ring.proofs.lists.{Apart.IsApart-added, Apart.IsApart-none, ForAll.AllByRecursion-map}
+use Rattle.lhm_ring.proofs.{lists.Options.Some-injective, lists.Options.none_some, rings.Lookup.AllByRecursion-at, rings.Writes.IsAt-there}
 use Rattle.lhm_ring.specs.SameNodes.{IsSpareList-same, SameLink}
 
 -- where a link leads
@@ -52,11 +51,6 @@ module _ {B : Type 0} (e : Ends) (cs : List (Cell Links B)) where
   unfolding cell_at
   prev_at-null = refl
 
-  pub same_ptr-content : (p : Ptr) → HasContent (ring_cells e cs) p → same_ptr null_ptr p ≡ false
-  unfolding cell_at
-  same_ptr-content (block_ptr b o) h = refl
-  same_ptr-content null_ptr h = absurd (none_some h.0 h.1)
-
   -- the ends are written
   pub with_links-end : (f : Links → Links) {d : Ends} → ends_links d ≡ f (ends_links e) → {p : Ptr} → p ≡ null_ptr
       → (l : Links) → links_at (ring_cells e cs) p ≡ Some l → ring_cells d cs ≡ with_links p (f l) (ring_cells e cs)
@@ -72,9 +66,6 @@ module _ {B : Type 0} (e : Ends) (cs : List (Cell Links B)) (p : Ptr) (b : is_bl
   pub links_at-ring_cells : links_at (ring_cells e cs) p ≡ links_at cs p
   links_at-ring_cells = ap links_of cell_at-ring_cells
 
-  pub body_at-ring_cells : body_at (ring_cells e cs) p ≡ body_at cs p
-  body_at-ring_cells = ap body_of cell_at-ring_cells
-
   pub ring_cells-change : (f : Cell Links B → Cell Links B) → ring_cells e (change p f cs) ≡ change p f (ring_cells e cs)
   unfolding change
   ring_cells-change f = grind (arith, same_ptr-null)
@@ -83,15 +74,8 @@ module _ {B : Type 0} (e : Ends) (cs : List (Cell Links B)) (p : Ptr) (b : is_bl
       → ring_cells e ds ≡ with_links p l (ring_cells e cs)
   ring_cells-with_links l ds is = ap (ring_cells e) is ∙ ring_cells-change (λ c. cell c.at l c.body)
 
-  pub ring_cells-with_body : (x : Option B) (ds : List (Cell Links B)) → ds ≡ with_body p x cs
-      → ring_cells e ds ≡ with_body p x (ring_cells e cs)
-  ring_cells-with_body x ds is = ap (ring_cells e) is ∙ ring_cells-change (λ c. cell c.at c.links x)
-
   pub IsAt-in_nodes : IsAt (ring_cells e cs) p → IsAt cs p
   IsAt-in_nodes h = (h.0, sym links_at-ring_cells ∙ h.1)
-
-  pub Holds-in_nodes : Holds (ring_cells e cs) p → Holds cs p
-  Holds-in_nodes h = (h.0, sym body_at-ring_cells ∙ h.1)
 
   pub ChainsTo-ring_cells : (o : Link) (ds : List (Cell Links B)) → ChainsTo cs p o ds → ChainsTo (ring_cells e cs) p o (ring_cells e ds)
   ChainsTo-ring_cells o ds k l h = ring_cells-with_links (chaining_to o l) ds (k l (sym links_at-ring_cells ∙ h))

@@ -1,10 +1,9 @@
 -- What a ring holds is a span, from its front to its back.
-use Rattle.lhm_ring.proofs.Names.{List, [], ap, false, refl, subst, sym, ℕ, ◌++◌, ◌∙◌, ◌∷◌, ◌≡◌, AreLinked, HasEnds, IsOwned, IsSpan}
-use Rattle.lhm_ring.proofs.Names.{contents, holders, prev_at, ring_cells, Cell, same_ptr, Held, Link, Ends, Links, length, length-map}
-use Rattle.lhm_ring.proofs.Names.{Ptr, null_ptr}
-use Rattle.lhm_ring.proofs.lists.{Apart.IsFresh, Apart.IsFresh-head, ForAll.AllByRecursion-left, Last.last_from, LinkRows.RowCut-linked}
-use Rattle.lhm_ring.proofs.rings.{HeldPointers.pointers_of, RingCells.AreLinked-in_nodes, RingCells.next_at-null, RingCells.prev_at-null}
-use Rattle.lhm_ring.proofs.rings.{Spans.AreLinked-tail, Spans.HasEnds-behind}
+use Rattle.lhm_ring.proofs.Names.{AreLinked, Cell, Ends, HasEnds, Held, IsOwned, IsSpan, Link, Links, List, Ptr, [], ap, contents, holders}
+use Rattle.lhm_ring.proofs.Names.{length, length-map, null_ptr, prev_at, refl, ring_cells, subst, sym, ℕ, ◌∙◌, ◌∷◌, ◌≡◌}
+use Rattle.lhm_ring.proofs.lists.{Last.last_from, LinkRows.AreLinked-cut, LinkRows.AreNeighbours-cut}
+use Rattle.lhm_ring.proofs.rings.RingCells.{AreLinked-in_nodes, next_at-null, prev_at-null}
+use Rattle.lhm_ring.proofs.rings.{Contents.pointers_of, HeldPointers.IsFresh-owned, Spans.AreLinked-tail, Spans.HasEnds-behind}
 
 module _ {B : Type 0} (e : Ends) (nodes : List (Cell Links B)) {ps : List Ptr} {spare : Link} {n m : ℕ}
     (o : IsOwned (ring_cells e nodes) ps spare n m) where
@@ -12,14 +11,13 @@ module _ {B : Type 0} (e : Ends) (nodes : List (Cell Links B)) {ps : List Ptr} {
   cs = ring_cells e nodes
 
   pub held_row : AreLinked cs (null_ptr ∷ ps) × (prev_at cs null_ptr ≡ last_from null_ptr ps)
-  held_row = let k = RowCut-linked cs null_ptr ps null_ptr [] o.ring.linked in (k.before, k.edge.1)
-
-  pub IsFresh-held : IsFresh null_ptr ps
-  IsFresh-held = AllByRecursion-left (λ q. same_ptr null_ptr q ≡ false) ps o.spare_pointers
-      (IsFresh-head null_ptr (ps ++ o.spare_pointers) o.ring.apart)
+  held_row = (
+    (AreLinked-cut cs null_ptr ps (null_ptr ∷ []) o.ring.linked).0,
+    (AreNeighbours-cut cs null_ptr ps null_ptr [] o.ring.linked).1,
+  )
 
   pub AreLinked-held : AreLinked nodes ps
-  AreLinked-held = AreLinked-in_nodes e nodes ps IsFresh-held (AreLinked-tail cs null_ptr ps held_row.0)
+  AreLinked-held = AreLinked-in_nodes e nodes ps (IsFresh-owned o) (AreLinked-tail cs null_ptr ps held_row.0)
 
   -- whatever nodes hold it now
   pub IsSpan-row : {ds : List (Cell Links B)} → AreLinked ds ps → (hs : List (Held B)) → pointers_of hs ≡ ps → {f b : Ptr}

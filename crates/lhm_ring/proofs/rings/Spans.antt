@@ -1,22 +1,14 @@
 -- A part of what nodes hold, each right after the one before: its first and its last, and what is left without them.
-use Rattle.lhm_ring.proofs.Names.{List, None, Some, [], ap, append-nil, append_assoc, arith, cond, length, length-append, map-append}
-use Rattle.lhm_ring.proofs.Names.{refl, subst, sym, take, ℕ, ◌++◌, ◌-◌, ◌∙◌, ◌∷◌, ◌≡◌, AreLinked, HasEnds, HasSpan, IsSpan, contents}
-use Rattle.lhm_ring.proofs.Names.{content_at, from_at, holders, last_of, link_of, listed, next_at, next_of, prev_at, prev_of, span}
-use Rattle.lhm_ring.proofs.Names.{take-length, Cell, Holds, IsApart, IsAt, body_at, cell, links_at, pointers, pointers-change, with_body}
-use Rattle.lhm_ring.proofs.Names.{Held, held, triples, Links, Ptr}
-use Rattle.lhm_ring.proofs.lists.Apart.{IsApart-tail, IsFresh-head, IsFresh-middle, same_ptr-reflexive}
-use Rattle.lhm_ring.proofs.lists.{Cuts.same_ptr-fresh, Last.last_from, LinkRows.listed-append}
-use Rattle.lhm_ring.proofs.memory.{OneNodeChanged.OnlyAt-with_body, OneNodeChanged.links_at-with_body, OneNodeChanged.listed-other}
-use Rattle.lhm_ring.proofs.rings.Holders.{AllByRecursion-holders, IsApart-holders, contents-listed, holders-emptied}
-use Rattle.lhm_ring.proofs.rings.{Contents.Holds-content, Contents.IsAt-content, Contents.held-content, Ends.First, Ends.Last}
-use Rattle.lhm_ring.proofs.rings.{Ends.Last-last_at, HeldPointers.pointers_of, Lookup.Cut-held, Lookup.held_here, RingNodes.CutAt}
-use Rattle.lhm_ring.proofs.rings.{RingNodes.CutAt-listed}
-use Rattle.lhm_ring.specs.SameNodes.{AreLinked-same}
+use Rattle.lhm_ring.proofs.Names.{AreLinked, Cell, HasEnds, HasSpan, Held, Holds, IsApart, IsAt, IsHeld, IsSpan, Links, List, None, Ptr}
+use Rattle.lhm_ring.proofs.Names.{Some, [], ap, append-nil, append_assoc, arith, body_at, cond, contents, from_at, held, last_of, left}
+use Rattle.lhm_ring.proofs.Names.{length, length-append, link_of, links_at, map-append, next_at, next_of, pointers, prev_at, prev_of, refl}
+use Rattle.lhm_ring.proofs.Names.{span, subst, sym, take, take-length, triples, with_body, ℕ, ◌++◌, ◌-◌, ◌∙◌, ◌∷◌, ◌≡◌}
+use Rattle.lhm_ring.proofs.lists.{Apart.IsApart-tail, Apart.IsFresh-head, Apart.same_ptr-reflexive, Cuts.same_ptr-fresh, Last.last_from}
+use Rattle.lhm_ring.proofs.rings.Contents.{HeldCut-contents, Holds-content, IsAt-content, content_at, content_at-held, contents-emptied}
+use Rattle.lhm_ring.proofs.rings.Ends.{First, Last, Last-last_at, first_held, last_held}
+use Rattle.lhm_ring.proofs.rings.{FirstAndLast.last_from-last_of, Holders.IsApart-holders, Rebodied.links_at-with_body}
+use Rattle.lhm_ring.{proofs.rings.Contents.held-content, proofs.rings.Contents.pointers_of, specs.SameNodes.AreLinked-same}
 use Rattle.std.proofs.lemmas.List.{take-append-le}
-
-last_from-last_of : {B : Type 0} (t : Held B) (hs : List (Held B)) → last_from t.at (pointers_of hs) ≡ last_of t hs
-last_from-last_of t [] = refl
-last_from-last_of t (u ∷ hs) = last_from-last_of u hs
 
 module _ {B : Type 0} (cs : List (Cell Links B)) where
   pub AreLinked-tail : (x : Ptr) (xs : List Ptr) → AreLinked cs (x ∷ xs) → AreLinked cs xs
@@ -76,26 +68,6 @@ module _ {B : Type 0} where
       ap (λ y. cond y (u ∷ hs) (from_at t.at hs)) (same_ptr-fresh (λ t. t.at) u.at us t vs (IsFresh-head u.at (pointers_of hs) d))
       ∙ from_at-past us t vs (IsApart-tail u.at (pointers_of hs) d)
 
--- what is held at one place among what nodes hold
-module _ {B : Type 0} (cs : List (Cell Links B)) (d : IsApart (pointers cs)) (us : List (Held B)) (t : Held B) (vs : List (Held B))
-    (e : contents cs ≡ us ++ t ∷ vs) {p : Ptr} (at : t.at ≡ p) where
-  cut : CutAt cs (holders cs) us t vs p
-  cut = subst (CutAt cs (holders cs) us t vs) at
-      (CutAt-listed cs (holders cs) (AllByRecursion-holders cs d) us t vs (sym (contents-listed cs d) ∙ e))
-
-  pub content_at-contents : content_at cs p ≡ Some t
-  content_at-contents = cut.here
-
-  -- it is moved out
-  pub contents-emptied : {ds : List (Cell Links B)} → ds ≡ with_body p None cs → contents ds ≡ us ++ vs
-  contents-emptied is =
-      let zs = with_body p None cs in let s = cut.split in let b = Holds-content cs p cut.here in let l = IsAt-content cs p cut.here in
-      let k = Cut-held cs p b.0 b.1 in let apart = subst IsApart s.is (IsApart-holders cs d) in
-      ap contents is ∙ contents-listed zs (subst IsApart (sym (pointers-change p (λ c. cell c.at c.links None) (λ c. refl) cs)) d)
-      ∙ ap (listed zs) (holders-emptied k (held_here k b.1) s.before s.after s.is apart)
-      ∙ listed-other cs zs p (OnlyAt-with_body p None cs l.0 l.1).other (s.before ++ s.after) (IsFresh-middle s.before p s.after apart)
-      ∙ listed-append cs s.before s.after ∙ (λ i. cut.listed_before i ++ cut.listed_after i)
-
 -- a part of what nodes hold
 module _ {B : Type 0} {cs : List (Cell Links B)} (d : IsApart (pointers cs)) where
   take-span : (us hs vs : List (Held B)) → contents cs ≡ us ++ (hs ++ vs) → {f b : Ptr} {n : ℕ} → IsSpan cs hs f b n → span cs n f ≡ hs
@@ -112,16 +84,30 @@ module _ {B : Type 0} {cs : List (Cell Links B)} (d : IsApart (pointers cs)) whe
     pub length-span : n ≡ length (span cs n f)
     length-span = sym s.span.count ∙ ap length (sym span-part)
 
+    -- what is read where a triple of it lies
+    content_at-part : {p : Ptr} (h : IsHeld s.part p) → content_at cs p ≡ Some h.node
+    content_at-part h = content_at-held (HeldCut-contents cs (s.before ++ h.before) h.node (h.after ++ s.after)
+        (s.is ∙ ap (λ hs. s.before ++ (hs ++ s.after)) h.is ∙ ap (λ hs. s.before ++ hs) (append_assoc h.before (h.node ∷ h.after) s.after)
+        ∙ sym (append_assoc s.before h.before (h.node ∷ (h.after ++ s.after))))) h.at_is d
+
     module _ (some : n ≡ 0 → ⊥) where
       content-first : content_at cs f ≡ Some (first cs s.part s.span some).0.node
-      content-first = let t = (first cs s.part s.span some).0 in
-          content_at-contents cs d s.before t.node (t.after ++ s.after) (s.is ∙ ap (λ hs. s.before ++ (hs ++ s.after)) t.is) t.at_is
+      content-first = content_at-part (first_held (first cs s.part s.span some).0)
+
+      content-last : content_at cs b ≡ Some (last cs s.part s.span some).0.node
+      content-last = content_at-part (last_held (last cs s.part s.span some).0)
 
       pub IsAt-first : IsAt cs f
       IsAt-first = IsAt-content cs f content-first
 
       pub Holds-first : Holds cs f
       Holds-first = Holds-content cs f content-first
+
+      pub IsAt-last : IsAt cs b
+      IsAt-last = IsAt-content cs b content-last
+
+      pub Holds-last : Holds cs b
+      Holds-last = Holds-content cs b content-last
 
       abbrev pub HasSpan-behind_first : {l : Links} → links_at cs f ≡ Some l → {q : Ptr} → q ≡ l.next.ptr → HasSpan cs q b (n - 1)
       HasSpan-behind_first e is = let r = first cs s.part s.span some in let t = r.0 in record {
@@ -132,27 +118,12 @@ module _ {B : Type 0} {cs : List (Cell Links B)} (d : IsApart (pointers cs)) whe
         span = subst (λ p. IsSpan cs t.after p b (n - 1)) (ap next_of e ∙ sym is) r.1;
       }
 
-      pub at_last : contents cs ≡ s.before ++ ((last cs s.part s.span some).0.before ++ (last cs s.part s.span some).0.node ∷ s.after)
-      at_last = let t = (last cs s.part s.span some).0 in
-          s.is ∙ ap (λ hs. s.before ++ (hs ++ s.after)) t.is ∙ ap (λ hs. s.before ++ hs) (append_assoc t.before (t.node ∷ []) s.after)
-
-      content-last : content_at cs b ≡ Some (last cs s.part s.span some).0.node
-      content-last = let t = (last cs s.part s.span some).0 in
-          content_at-contents cs d (s.before ++ t.before) t.node s.after
-          (at_last ∙ sym (append_assoc s.before t.before (t.node ∷ s.after))) t.at_is
-
-      pub IsAt-last : IsAt cs b
-      IsAt-last = IsAt-content cs b content-last
-
-      pub Holds-last : Holds cs b
-      Holds-last = Holds-content cs b content-last
-
       abbrev pub HasSpan-ahead_of_last : {l : Links} → links_at cs b ≡ Some l → {q : Ptr} → q ≡ l.prev.ptr → HasSpan cs f q (n - 1)
       HasSpan-ahead_of_last e is = let r = last cs s.part s.span some in let t = r.0 in record {
         before = s.before;
         part = t.before;
         after = t.node ∷ s.after;
-        is = at_last;
+        is = s.is ∙ ap (λ hs. s.before ++ (hs ++ s.after)) t.is ∙ ap (λ hs. s.before ++ hs) (append_assoc t.before (t.node ∷ []) s.after);
         span = subst (λ p. IsSpan cs t.before f p (n - 1)) (ap prev_of e ∙ sym is) r.1;
       }
 
@@ -177,7 +148,7 @@ module _ {B : Type 0} {cs ds : List (Cell Links B)} (d : IsApart (pointers cs)) 
   stays : (p : Ptr) {l : Links} → links_at cs p ≡ Some l → ds ≡ with_body p None cs → {hs : List (Held B)} → contents ds ≡ hs → {g c : Ptr}
       → IsSpan cs hs g c (n - 1) → IsSpan ds (contents ds) g c (n - 1)
   stays p e is left {g} {c} r =
-      let same : (q : Ptr) → links_at ds q ≡ links_at cs q = λ q. ap (λ zs. links_at zs q) is ∙ links_at-with_body p None cs _ e q in
+      let same : (q : Ptr) → links_at ds q ≡ links_at cs q = λ q. ap (λ zs. links_at zs q) is ∙ links_at-with_body p None cs q in
       subst (λ hs. IsSpan ds hs g c (n - 1)) (sym left) (record {
         count = r.count;
         linked = AreLinked-same cs ds (λ q. ap next_of (same q)) (λ q. ap prev_of (same q)) _ r.linked;
@@ -185,7 +156,8 @@ module _ {B : Type 0} {cs ds : List (Cell Links B)} (d : IsApart (pointers cs)) 
       })
 
   rest_of_first : ds ≡ with_body f None cs → contents ds ≡ (first cs (contents cs) s some).0.after
-  rest_of_first = let t = (first cs (contents cs) s some).0 in contents-emptied cs d [] t.node t.after t.is t.at_is
+  rest_of_first = let t = (first cs (contents cs) s some).0 in
+      contents-emptied (HeldCut-contents cs [] t.node t.after t.is) t.at_is d
 
   pub IsSpan-rest_of_first : {l : Links} → links_at cs f ≡ Some l → {q : Ptr} → q ≡ l.next.ptr → ds ≡ with_body f None cs
       → IsSpan ds (contents ds) q b (n - 1)
@@ -198,7 +170,7 @@ module _ {B : Type 0} {cs ds : List (Cell Links B)} (d : IsApart (pointers cs)) 
 
   rest_of_last : ds ≡ with_body b None cs → contents ds ≡ (last cs (contents cs) s some).0.before
   rest_of_last is = let t = (last cs (contents cs) s some).0 in
-      contents-emptied cs d t.before t.node [] t.is t.at_is is ∙ append-nil t.before
+      contents-emptied (HeldCut-contents cs t.before t.node [] t.is) t.at_is d is ∙ append-nil t.before
 
   pub IsSpan-rest_of_last : {l : Links} → links_at cs b ≡ Some l → {q : Ptr} → q ≡ l.prev.ptr → ds ≡ with_body b None cs
       → IsSpan ds (contents ds) f q (n - 1)

@@ -1,14 +1,13 @@
 -- Rows of nodes that become spare, and what a change of chain links alone keeps.
-use Rattle.lhm_ring.proofs.Names.{List, Option, Some, [], ap, arith, false, length, refl, subst, suc, sym, ℕ, ◌++◌, ◌+◌, ◌-◌, ◌<◌, ◌∙◌}
-use Rattle.lhm_ring.proofs.Names.{◌∷◌, ◌≡◌, HasRow, IsRow, SameButLinks, SparesRow, StartsAt, onto, AreLinked, IsSpareList, IsThere}
-use Rattle.lhm_ring.proofs.Names.{chaining_to, contents, has_links, link_at, next_at, next_of, prev_of, ring_cells, Cell, IsApart, cell}
-use Rattle.lhm_ring.proofs.Names.{cell_at, links_at, links_of, same_ptr, with_links, target, Link, Ends, Links, AllByRecursion, Ptr}
+use Rattle.lhm_ring.proofs.Names.{AllByRecursion, AreLinked, Cell, Ends, HasRow, IsApart, IsRow, IsSpareList, IsThere, Link, Links, List}
+use Rattle.lhm_ring.proofs.Names.{Option, P, Ptr, SameButLinks, Some, SparesRow, StartsAt, [], ap, arith, cell, cell_at, chaining_to}
+use Rattle.lhm_ring.proofs.Names.{contents, false, has_links, length, link_at, links_at, links_of, next_at, next_of, onto, prev_of, refl}
+use Rattle.lhm_ring.proofs.Names.{ring_cells, same_ptr, subst, suc, sym, target, with_links, ℕ, ◌++◌, ◌+◌, ◌-◌, ◌<◌, ◌∙◌, ◌∷◌, ◌≡◌}
 use Rattle.lhm_ring.proofs.lists.Apart.{IsApart-inserted, IsApart-removed, IsApart-tail, IsFresh-head, IsFresh-middle, same_ptr-reflexive}
-use Rattle.lhm_ring.proofs.lists.{ForAll.AllByRecursion-map, ForAll.AllByRecursion-right}
-use Rattle.lhm_ring.proofs.memory.{OneNodeChanged.IsSpareList-other}
+use Rattle.lhm_ring.proofs.lists.ForAll.{AllByRecursion-map, AllByRecursion-right}
+use Rattle.lhm_ring.proofs.rings.Holders.{holders-with_links, triples-chained}
 use Rattle.lhm_ring.proofs.rings.Writes.{cell_at-change_other, length-change, links_at-with_links, reader-with_links_same}
-use Rattle.lhm_ring.proofs.rings.{Holders.holders-with_links, Holders.triples-chained, Spans.AreLinked-tail}
-use Rattle.lhm_ring.specs.SameNodes.{AreLinked-same}
+use Rattle.lhm_ring.{proofs.memory.OneNodeChanged.IsSpareList-other, proofs.rings.Spans.AreLinked-tail, specs.SameNodes.AreLinked-same}
 
 -- the pointers of a row go onto others
 pub AllByRecursion-onto : (P : Ptr → Type 0) (ps ss : List Ptr) → AllByRecursion P ps → AllByRecursion P ss → AllByRecursion P (onto ps ss)

@@ -1,18 +1,17 @@
 -- All that a ring holds becomes spare.
-use Rattle.lhm_ring.proofs.Names.{List, [], ap, arith, false, subst, sym, ℕ, ◌++◌, ◌+◌, ◌∙◌, ◌∷◌, ◌≡◌, HasRow, IsRow, Nodes, SameButLinks}
-use Rattle.lhm_ring.proofs.Names.{SparesRow, StartsAt, onto, IsJoined, IsOwned, IsRing, IsSpan, contents, holders, listed, IsSpareList}
-use Rattle.lhm_ring.proofs.Names.{IsThere, ring_cells, Cell, None, cleared, has_links, length, link_of, links_at, next_of, prev_of, suc}
-use Rattle.lhm_ring.proofs.Names.{same_ptr, target, Held, Link, Ends, Links, AllByRecursion, Ptr, null_ptr}
+use Rattle.lhm_ring.proofs.Names.{AllByRecursion, Cell, Ends, HasRow, Held, IsJoined, IsOwned, IsRing, IsRow, IsSpan, IsSpareList, IsThere}
+use Rattle.lhm_ring.proofs.Names.{Link, Links, List, Nodes, None, Ptr, SameButLinks, SparesRow, StartsAt, [], ap, arith, cleared, contents}
+use Rattle.lhm_ring.proofs.Names.{false, has_links, length, link_of, links_at, next_of, null_ptr, onto, prev_of, ring_cells, same_ptr}
+use Rattle.lhm_ring.proofs.Names.{subst, suc, sym, target, ℕ, ◌++◌, ◌+◌, ◌∙◌, ◌∷◌, ◌≡◌}
+use Rattle.lhm_ring.proofs.lists.Apart.{IsApart-tail, IsFresh, IsFresh-head}
 use Rattle.lhm_ring.proofs.lists.ForAll.{AllByRecursion-always, AllByRecursion-left, AllByRecursion-map, AllByRecursion-right}
-use Rattle.lhm_ring.proofs.lists.{Apart.IsApart-tail, Apart.IsFresh, Apart.IsFresh-head}
 use Rattle.lhm_ring.proofs.rings.Joins.{AreLinked-unchanged, AreNeighbours-made, AvoidsSource-fresh, AvoidsTarget-fresh}
-use Rattle.lhm_ring.proofs.rings.Joins.{IsSpareList-unchanged, listed-unchanged}
+use Rattle.lhm_ring.proofs.rings.Rebodied.{keys-rebodied, length-keys, links_at-keys}
 use Rattle.lhm_ring.proofs.rings.RingCells.{AllByRecursion-there_in_nodes, AreLinked-in_nodes, IsSpareList-in_nodes, IsSpareList-in_ring}
 use Rattle.lhm_ring.proofs.rings.RingCells.{is_there-null, next_at-null}
-use Rattle.lhm_ring.proofs.rings.RingSpans.{AreLinked-held, IsFresh-held, IsSpan-row, held_row}
+use Rattle.lhm_ring.proofs.rings.RingSpans.{AreLinked-held, IsSpan-row, held_row}
 use Rattle.lhm_ring.proofs.rings.SpareRows.{AllByRecursion-onto, IsApart-onto, SameButLinks-in_ring, StartsAt-next, length-onto}
-use Rattle.lhm_ring.proofs.rings.{HeldPointers.pointers_of, Holders.holders-joined, Order.contents-now, Rebodied.length-rebodied}
-use Rattle.lhm_ring.proofs.rings.{Rebodied.links_at-rebodied, Spans.AreLinked-tail}
+use Rattle.lhm_ring.proofs.rings.{Contents.pointers_of, HeldPointers.IsFresh-owned, Joins.IsSpareList-unchanged, Spans.AreLinked-tail}
 use Rattle.lhm_ring.specs.SameNodes.{AreLinked-same, IsSpareList-same, SameLink}
 
 -- all that a ring holds becomes spare
@@ -25,7 +24,7 @@ module _ {B : Type 0} (e : Ends) (nodes : List (Cell Links B)) {ps : List Ptr} {
   ss = o.spare_pointers
 
   abbrev IsFresh-row : IsFresh null_ptr ps
-  IsFresh-row = IsFresh-held e nodes o
+  IsFresh-row = IsFresh-owned o
 
   IsFresh-spares : IsFresh null_ptr ss
   IsFresh-spares = AllByRecursion-right (λ q. same_ptr null_ptr q ≡ false) ps ss (IsFresh-head null_ptr (ps ++ ss) o.ring.apart)
@@ -67,7 +66,7 @@ module _ {B : Type 0} (e : Ends) (nodes : List (Cell Links B)) {ps : List Ptr} {
           )
 
       links-cleared : (q : Ptr) → links_at (cleared es) q ≡ links_at es q
-      links-cleared = links_at-rebodied (λ _ _. None) es
+      links-cleared = links_at-keys es (cleared es) (keys-rebodied (λ _ _. None) es)
 
       IsRing-empty : IsRing (cleared es) [] (target h) (onto ps ss)
       IsRing-empty = record {
@@ -83,7 +82,7 @@ module _ {B : Type 0} (e : Ends) (nodes : List (Cell Links B)) {ps : List Ptr} {
         apart = IsApart-onto null_ptr ps ss o.ring.apart;
         count = let long = length-onto ps ss in
             let all : length (cleared es) ≡ suc (length ps + length ss) =
-            length-rebodied (λ _ _. None) es ∙ j.count ∙ same.count ∙ o.ring.count in
+            length-keys es (cleared es) (keys-rebodied (λ _ _. None) es) ∙ j.count ∙ same.count ∙ o.ring.count in
             omega arith;
       }
 
@@ -99,5 +98,5 @@ module _ {B : Type 0} (e : Ends) (nodes : List (Cell Links B)) {ps : List Ptr} {
 -- what is held stays, if nodes are joined
 pub contents-joined : {K V : Type 0} (ns ds : Nodes Links K V) {e d : Ends} {a b : Ptr}
     → IsJoined (ring_cells e ns.cells) (ring_cells d ds.cells) a b → contents ds.cells ≡ contents ns.cells
-contents-joined ns ds {e} {d} j = contents-now ds d ∙ ap (listed (ring_cells d ds.cells)) (holders-joined j)
-    ∙ listed-unchanged j (holders ns.cells) ∙ sym (contents-now ns e)
+unfolding contents
+contents-joined _ _ j = j.held

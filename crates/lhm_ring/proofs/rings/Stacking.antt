@@ -1,9 +1,8 @@
 -- Nodes are made on top of others.
-use Rattle.lhm_ring.proofs.Names.{List, None, Option, Some, ap, arith, length, refl, subst, suc, sym, zero, ℕ, ◌+◌, ◌^◌, ◌∙◌, ◌∷◌, ◌≡◌}
-use Rattle.lhm_ring.proofs.Names.{◌≤◌, IsOwned, IsRing, IsStacked, contents, listed, ring_cells, AreBlocks, Cell, IsApart, cell, pointers}
-use Rattle.lhm_ring.proofs.Names.{target, Link, Ends, Links, Ptr}
-use Rattle.lhm_ring.{proofs.lists.Apart.IsApart-tail, proofs.memory.NodeAdded.IsRing-added}
-use Rattle.lhm_ring.{proofs.memory.NodeAdded.listed-added, specs.declared.pointer.NodePointer.NodePointer}
+use Rattle.lhm_ring.proofs.Names.{AreBlocks, Cell, Ends, IsApart, IsOwned, IsRing, IsStacked, Link, Links, List, None, Option, Ptr, Some}
+use Rattle.lhm_ring.proofs.Names.{ap, arith, cell, contents, length, pointers, refl, ring_cells, subst, suc, sym, target, zero, ℕ, ◌+◌}
+use Rattle.lhm_ring.proofs.Names.{◌^◌, ◌∙◌, ◌∷◌, ◌≡◌, ◌≤◌}
+use Rattle.lhm_ring.{proofs.lists.Apart.IsApart-tail, proofs.memory.NodeAdded.IsRing-added, specs.declared.pointer.NodePointer.NodePointer}
 
 module _ {B : Type 0} where
   pub IsStacked-none : (cs : List (Cell Links B)) (s : Link) → IsStacked cs s 0 cs s
@@ -18,12 +17,11 @@ module _ {B : Type 0} where
       subst (λ m. IsStacked cs s m es top) count
       (record { pointer = p.ptr; below = ds; links = l; top_is = et; nodes_are = e; stacked = k })
 
--- the nodes ds are a ring with n spare ones more than cs, which holds the same at ps
-pub record RingStacked {B : Type 0} (e : Ends) (cs ds : List (Cell Links B)) (ps ss : List Ptr) (spare : Option Ptr) (n : ℕ) : Type 0 where
+-- the nodes ds are a ring with n spare ones more
+pub record RingStacked {B : Type 0} (e : Ends) (ds : List (Cell Links B)) (ps ss : List Ptr) (spare : Option Ptr) (n : ℕ) : Type 0 where
   pub spare_pointers : List Ptr
   pub ring : IsRing (ring_cells e ds) ps spare spare_pointers
   pub count : length spare_pointers ≡ n + length ss
-  pub same_list : listed (ring_cells e ds) ps ≡ listed (ring_cells e cs) ps
 
 -- more of the spare nodes are counted
 pub IsOwned-raised : {B : Type 0} {cs : List (Cell Links B)} {ps : List Ptr} {spare : Link} {n m : ℕ} → IsOwned cs ps spare n m → (k : ℕ)
@@ -34,13 +32,12 @@ module _ {B : Type 0} (e : Ends) where
   -- a ring with spare nodes more
   RingStacked-ring : (n : ℕ) (cs : List (Cell Links B)) (s : Link) (ds : List (Cell Links B)) (f : Link) {ps ss : List Ptr}
       → IsStacked cs s n ds f → IsApart (pointers ds) → AreBlocks (pointers ds) → IsRing (ring_cells e cs) ps (target s) ss
-      → RingStacked e cs ds ps ss (target f) n
+      → RingStacked e ds ps ss (target f) n
   unfolding IsStacked
   RingStacked-ring zero cs s ds f {ps} {ss} k d b r = record {
     spare_pointers = ss;
     ring = subst (λ (z : List (Cell Links B) × Link). IsRing (ring_cells e z.0) ps (target z.1) ss) (λ i. (sym k.0 i, sym k.1 i)) r;
     count = omega arith;
-    same_list = ap (λ zs. listed (ring_cells e zs) ps) k.0;
   }
   RingStacked-ring (suc n) cs s ds f {ps} {ss} k d b r =
       let p = k.pointer in let es = k.below in let l = k.links in
@@ -55,16 +52,13 @@ module _ {B : Type 0} (e : Ends) where
         ring = subst (λ (z : List (Cell Links B) × Option Ptr). IsRing (ring_cells e z.0) ps z.1
             (p ∷ on.spare_pointers)) (λ i. (sym k.nodes_are i, sym k.top_is i)) ring;
         count = omega arith;
-        same_list = ap (λ zs. listed (ring_cells e zs) ps) k.nodes_are
-            ∙ listed-added e es p l b'.0 d' on.ring refl
-            ∙ on.same_list;
       }
 
   -- more nodes are stacked on the spare ones
   module _ (cs ds : List (Cell Links B)) {ps : List Ptr} {spare : Link} (f : Link) {n m : ℕ} (k : ℕ)
       (ok : IsOwned (ring_cells e cs) ps spare n m) (s : IsStacked cs spare k ds f)
       (d : IsApart (pointers ds)) (b : AreBlocks (pointers ds)) where
-    RingStacked-held : RingStacked e cs ds ps ok.spare_pointers (target f) k
+    RingStacked-held : RingStacked e ds ps ok.spare_pointers (target f) k
     RingStacked-held = RingStacked-ring k cs spare ds f s d b ok.ring
 
     pub IsOwned-stacked : IsOwned (ring_cells e ds) ps f n m

@@ -1,10 +1,9 @@
 -- What a write of links changes, and what it leaves.
-use Rattle.lhm_ring.proofs.Names.{Bool, List, None, Option, Some, [], ap, arith, cond, false, length, refl, subst, sym, true, ◌∙◌, ◌∷◌}
-use Rattle.lhm_ring.proofs.Names.{◌≡◌, IsJoined, IsThere, LeadsBack, LeadsOn, content_at, content_of, has_links, is_there, leading_back}
-use Rattle.lhm_ring.proofs.Names.{leading_on, link_of, next_of, prev_of, Cell, IsAt, body_at, body_of, cell, cell_at, change, links_at}
-use Rattle.lhm_ring.proofs.Names.{links_of, same_ptr, with_links, Link, Links, Ptr}
-use Rattle.lhm_ring.proofs.lists.{Apart.same_ptr-equal, Options.Some-injective, Options.none_some}
-use Rattle.lhm_ring.proofs.rings.{Holders.holders-with_links}
+use Rattle.lhm_ring.proofs.Names.{Bool, Cell, IsAt, IsJoined, IsThere, LeadsBack, LeadsOn, Link, Links, List, None, Option, Ptr, Some, []}
+use Rattle.lhm_ring.proofs.Names.{ap, arith, cell, cell_at, change, cond, content_of, false, has_links, is_there, leading_back, leading_on}
+use Rattle.lhm_ring.proofs.Names.{length, link_of, links_at, links_of, next_of, prev_of, refl, same_ptr, subst, sym, true, with_body}
+use Rattle.lhm_ring.proofs.{Names.with_links, Names.◌∙◌, Names.◌∷◌, Names.◌≡◌, lists.Apart.same_ptr-equal}
+use Rattle.lhm_ring.proofs.{lists.Options.Some-injective, lists.Options.none_some, rings.Holders.contents-with_links}
 
 pub cond-ap : {X Y : Type 0} (f : X → Y) (y : Bool) (u v : X) → f (cond y u v) ≡ cond y (f u) (f v)
 cond-ap f y u v = grind arith
@@ -41,6 +40,17 @@ unfolding change
 length-change p f [] = refl
 length-change p f (d ∷ cs) = grind (arith, length-change p f cs)
 
+-- a node is changed twice
+module _ {L B : Type 0} where
+  pub change-twice : (p : Ptr) (f g : Cell L B → Cell L B) → ((c : Cell L B) → (f c).at ≡ c.at) → (cs : List (Cell L B))
+      → change p g (change p f cs) ≡ change p (λ c. g (f c)) cs
+  unfolding change
+  change-twice p f g same [] = refl
+  change-twice p f g same (c ∷ cs) = grind (arith, change-twice p f g same cs)
+
+  pub with_body-twice : (p : Ptr) (x : B) (cs : List (Cell L B)) → with_body p (Some x) (with_body p None cs) ≡ with_body p (Some x) cs
+  with_body-twice p x cs = change-twice p (λ c. cell c.at c.links None) (λ c. cell c.at c.links (Some x)) (λ c. refl) cs
+
 module _ {B : Type 0} where
   pub links_of-seen : (o : Option (Cell Links B)) (la : Links) → links_of o ≡ Some la → (c : Cell Links B) × (o ≡ Some c)
   links_of-seen None la e = absurd (none_some la e)
@@ -58,14 +68,6 @@ module _ {B : Type 0} (p : Ptr) (l : Links) (cs : List (Cell Links B)) {la : Lin
         | false ↦ λ n. ap links_of (cell_at-change_other p (λ c. cell c.at l c.body) (λ c. refl) q n cs)
       ]) refl
 
-  pub body_at-with_links : (q : Ptr) → body_at (with_links p l cs) q ≡ body_at cs q
-  body_at-with_links q =
-      (elim (same_ptr p q) as (λ y. same_ptr p q ≡ y → body_at (with_links p l cs) q ≡ body_at cs q) [
-        | true ↦ λ t. subst (λ r. body_at (with_links p l cs) r ≡ body_at cs r) (same_ptr-equal p q t)
-            (ap body_of (cell_at-change p (λ c. cell c.at l c.body) (λ c. refl) cs seen.0 seen.1) ∙ sym (ap body_of seen.1))
-        | false ↦ λ n. ap body_of (cell_at-change_other p (λ c. cell c.at l c.body) (λ c. refl) q n cs)
-      ]) refl
-
   -- a reader of links
   module _ {X : Type 0} (f : Option Links → X) where
     pub reader-with_links : (q : Ptr) → f (links_at (with_links p l cs) q) ≡ cond (same_ptr p q) (f (Some l)) (f (links_at cs q))
@@ -73,11 +75,6 @@ module _ {B : Type 0} (p : Ptr) (l : Links) (cs : List (Cell Links B)) {la : Lin
 
     pub reader-with_links_same : f (Some l) ≡ f (Some la) → (q : Ptr) → f (links_at (with_links p l cs) q) ≡ f (links_at cs q)
     reader-with_links_same h q = grind (arith, reader-with_links, cond-same, same_ptr-equal)
-
-  pub content_at-with_links : ShowsSame l la → (q : Ptr) → content_at (with_links p l cs) q ≡ content_at cs q
-  content_at-with_links h q =
-      ap (λ b. content_of q (links_at (with_links p l cs) q) b) (body_at-with_links q)
-      ∙ reader-with_links_same (λ o. content_of q o (body_at cs q)) (content_of-shown_same q l la h (body_at cs q)) q
 
 there_is : (o : Option Links) → has_links o ≡ true → (l : Links) × (o ≡ Some l)
 there_is None e = absurd cc
@@ -108,9 +105,9 @@ module _ {B : Type 0} where
             ∙ ap (λ r. cond (same_ptr b.ptr q) a.ptr r)
             (reader-with_links_same a.ptr l cs la.1 prev_of refl q);
         link = λ q. reader-with_links_same b.ptr m fs ef link_of refl q ∙ reader-with_links_same a.ptr l cs la.1 link_of refl q;
-        content = λ q. content_at-with_links b.ptr m fs ef (refl, refl) q ∙ content_at-with_links a.ptr l cs la.1 (refl, refl) q;
         there = λ q. reader-with_links_same b.ptr m fs ef has_links refl q ∙ reader-with_links_same a.ptr l cs la.1 has_links refl q;
         count = length-change b.ptr (λ c. cell c.at m c.body) fs ∙ length-change a.ptr (λ c. cell c.at l c.body) cs;
-        order = holders-with_links b.ptr m fs ∙ holders-with_links a.ptr l cs;
+        held = contents-with_links b.ptr m lb.0 fs ef (λ q. content_of-shown_same q m lb.0 (refl, refl))
+            ∙ contents-with_links a.ptr l la.0 cs la.1 (λ q. content_of-shown_same q l la.0 (refl, refl));
       } in
       subst (λ zs. IsJoined cs zs a.ptr b.ptr) (sym (e₂ ∙ ap (λ zs. with_links b.ptr m zs) e₁)) made

@@ -1,8 +1,8 @@
 -- A ring with its index, after the ring's own calls.
-use Rattle.lhm_ring.proofs.Names.{List, [], ap, arith, length, refl, subst, sym, ◌++◌, ◌+◌, ◌<◌, ◌∙◌, ◌≡◌, BucketState, HasNoChain, buckets}
-use Rattle.lhm_ring.proofs.Names.{Indexes, IsIndexed, PutsIn, spot, spots, Held, IsHeld, State, with_value, length-map, Ptr}
-use Rattle.lhm_ring.proofs.indexes.{BucketCounts.buckets-at_least, BucketCounts.buckets-zero, IndexMoves.spots-value}
+use Rattle.lhm_ring.proofs.Names.{BucketState, HasNoChain, Held, Indexes, IsHeld, IsIndexed, List, Ptr, PutsIn, State, [], ap, arith}
+use Rattle.lhm_ring.proofs.Names.{buckets, length, length-map, refl, spot, spots, subst, sym, with_value, ◌++◌, ◌+◌, ◌<◌, ◌∙◌, ◌≡◌}
 use Rattle.lhm_ring.proofs.indexes.WholeBuckets.{Indexes-moved, Indexes-none}
+use Rattle.lhm_ring.proofs.indexes.{BucketCounts.buckets-at_least, BucketCounts.buckets-zero, IndexMoves.spots-value}
 
 -- nothing is held
 module _ {K V : Type 0} (i : BucketState) (s : State (K × V)) where
@@ -38,4 +38,4 @@ IsIndexed-value i s p w h = IsIndexed-same_spots i s (with_value s p w) h refl (
 
 -- if a node is held, there is a bucket
 pub length-indexed : {K V : Type 0} (i : BucketState) (s : State (K × V)) → IsIndexed i s → 0 < s.spares → 0 < length i.heads
-length-indexed i s h l = let c = buckets-at_least (length s.held + s.spares) in let n = h.count in omega (arith, c, n, l)
+length-indexed i s h l = omega (arith, buckets-at_least (length s.held + s.spares), h.count, l)

@@ -1,16 +1,18 @@
 -- Positions and indexes: what lies at an index, and where a position is once a triple moved.
-use Rattle.std.proofs.Common.{◌≡◌, ℕ, zero, suc, ◌+◌, ◌-◌, ◌<◌, ◌≤◌, ◌≢◌, Bool, true, false, cond, List, [], ◌∷◌, ◌++◌, map, length, take}
-use Rattle.std.proofs.Common.{drop, remove, slice_get, Option, Some, None, option_map, refl, sym, ap, ◌∙◌, subst, arith, length-append}
-use Rattle.std.proofs.lemmas.List.{map-append, length-map, take-append-drop, take-map, drop-map, drop_more, take_more}
-use Rattle.std.proofs.lemmas.List.Sorted.{IsPermutation-refl, IsPermutation-cons, IsPermutation-trans, IsPermutation-append_comm}
-use Rattle.std.proofs.lemmas.Option.{slice_get-map, slice_get_within, slice_get_cases, get_or_from_slice_get}
-use Rattle.std.proofs.{Common.append-nil, lemmas.Bool.ltb-true, lemmas.Bool.ltb-false, Math.Seq.drop-append-add}
-use Rattle.std.specs.{Prelude.IfSome, Prelude.nat_lt, Option.IsSome, Option.option_to_list, List.Sorted.IsPermutation}
-use Rattle.lhm_ring.proofs.lists.Apart.{IsFresh, same_ptr-equal, same_ptr-reflexive, same_ptr-symmetric, IsFresh-middle}
-use Rattle.lhm_ring.proofs.{lists.Options.Some-injective, lists.Options.none_some, indexes.Entries.pointers-entries}
-use Rattle.lhm_ring.specs.Positions.{IsAt, PlaceAt, index_of, insert_at, to_back_at, to_front_at, to_before_at}
-use Rattle.lhm_ring.specs.Ring.{Held, IsHeld, AtHeld, BeforeHeld, first_at, last_at, last_of}
-use Rattle.lhm_ring.specs.{Index.entries, declared.pointer.Position.Position, Nodes.same_ptr, Nodes.IsApart, Pointer.pointer_of_some}
+use Rattle.lhm_ring.proofs.lists.Apart.{IsFresh, IsFresh-middle, same_ptr-equal, same_ptr-reflexive, same_ptr-symmetric}
+use Rattle.lhm_ring.proofs.rings.Ends.{First-first_at, Last-last_at, none-last_at}
+use Rattle.lhm_ring.proofs.{Names.append_assoc, indexes.Entries.pointers-entries, lists.Options.Some-injective, lists.Options.none_some}
+use Rattle.lhm_ring.specs.Positions.{IsAt, PlaceAt, index_of, insert_at, to_back_at, to_before_at, to_front_at}
+use Rattle.lhm_ring.specs.Ring.{AtHeld, BeforeHeld, Held, IsHeld, first_at, last_at, last_of}
+use Rattle.lhm_ring.specs.{Index.entries, Nodes.IsApart, Nodes.same_ptr, Pointer.pointer_of_some, declared.pointer.Position.Position}
+use Rattle.std.proofs.Common.{List, None, Option, Some, [], ap, append-nil, arith, cond, drop, false, length, length-append, map, refl}
+use Rattle.std.proofs.Common.{remove, slice_get, suc, sym, take, true, zero, ℕ, ◌++◌, ◌+◌, ◌-◌, ◌<◌, ◌∙◌, ◌∷◌, ◌≡◌, ◌≢◌, ◌≤◌}
+use Rattle.std.proofs.lemmas.Bool.{ltb-false, ltb-true}
+use Rattle.std.proofs.lemmas.List.Sorted.{IsPermutation-append_comm, IsPermutation-cons, IsPermutation-refl, IsPermutation-trans}
+use Rattle.std.proofs.lemmas.List.{drop-map, drop_more, length-map, map-append, take-append-drop, take-map, take_more}
+use Rattle.std.proofs.lemmas.Option.{get_or_from_slice_get, slice_get-map, slice_get_cases, slice_get_past, slice_get_within}
+use Rattle.std.specs.{Option.IsSome, Option.option_to_list, Prelude.IfSome, Prelude.nat_lt}
+use Rattle.std.{proofs.Math.Seq.drop-append-add, specs.List.Sorted.IsPermutation}
 use denote.RawPtr.{Ptr}
 
 -- the element right after the first ones, and the list without it
@@ -32,25 +34,16 @@ module _ {X : Type 0} (xs : List X) (i : ℕ) {x : X} (there : slice_get xs i �
 
 -- before the first element is at the front
 pub to_before_at-first : {X : Type 0} (xs : List X) (i : ℕ) → to_before_at xs i 0 ≡ to_front_at xs i
-to_before_at-first xs i =
-    let none : 0 - cond (nat_lt i 0) 1 0 ≡ 0 = omega arith in
-    ap (λ k. insert_at k (option_to_list (slice_get xs i)) (remove xs i)) none
+to_before_at-first xs i = grind arith
 
 -- where the others are once one is out, and the list once it is back
 module _ {X : Type 0} where
-  slice_get-remove_before : (xs : List X) (i j : ℕ) → j < i → slice_get (remove xs i) j ≡ slice_get xs j
-  slice_get-remove_before [] zero j h = refl
-  slice_get-remove_before [] (suc i) j h = refl
-  slice_get-remove_before (x ∷ xs) zero j h = absurd (omega (arith, h))
-  slice_get-remove_before (x ∷ xs) (suc i) zero h = refl
-  slice_get-remove_before (x ∷ xs) (suc i) (suc j) h = slice_get-remove_before xs i j (omega (arith, h))
-
-  slice_get-remove_behind : (xs : List X) (i j : ℕ) → i ≤ j → slice_get (remove xs i) j ≡ slice_get xs (suc j)
-  slice_get-remove_behind [] zero j h = refl
-  slice_get-remove_behind [] (suc i) j h = refl
-  slice_get-remove_behind (x ∷ xs) zero j h = refl
-  slice_get-remove_behind (x ∷ xs) (suc i) zero h = absurd (omega (arith, h))
-  slice_get-remove_behind (x ∷ xs) (suc i) (suc j) h = slice_get-remove_behind xs i j (omega (arith, h))
+  slice_get-remove : (xs : List X) (i j : ℕ) → slice_get (remove xs i) j ≡ slice_get xs (cond (nat_lt j i) j (suc j))
+  slice_get-remove [] zero j = refl
+  slice_get-remove [] (suc i) j = grind arith
+  slice_get-remove (x ∷ xs) zero j = grind arith
+  slice_get-remove (x ∷ xs) (suc i) zero = grind arith
+  slice_get-remove (x ∷ xs) (suc i) (suc j) = grind (arith, slice_get-remove xs i j)
 
   insert_at-remove : (xs : List X) (i : ℕ) → insert_at i (option_to_list (slice_get xs i)) (remove xs i) ≡ xs
   insert_at-remove [] zero = refl
@@ -61,16 +54,10 @@ module _ {X : Type 0} where
 -- a function of each element
 module _ {X Y : Type 0} (f : X → Y) where
   pub map-remove : (xs : List X) (i : ℕ) → map f (remove xs i) ≡ remove (map f xs) i
-  map-remove [] zero = refl
-  map-remove [] (suc i) = refl
-  map-remove (x ∷ xs) zero = refl
-  map-remove (x ∷ xs) (suc i) = ap (λ ys. f x ∷ ys) (map-remove xs i)
-
-  map-option_to_list : (o : Option X) → map f (option_to_list o) ≡ option_to_list (option_map f o)
-  map-option_to_list o = grind arith
+  map-remove xs i = grind (arith, map-append, take-map, drop-map)
 
   map-at : (xs : List X) (i : ℕ) → map f (option_to_list (slice_get xs i)) ≡ option_to_list (slice_get (map f xs) i)
-  map-at xs i = map-option_to_list (slice_get xs i) ∙ ap option_to_list (sym (slice_get-map f xs i))
+  map-at xs i = grind (arith, slice_get-map)
 
   pub map-to_back_at : (xs : List X) (i : ℕ) → map f (to_back_at xs i) ≡ to_back_at (map f xs) i
   map-to_back_at xs i = grind (arith, map-append, map-remove, map-at)
@@ -102,7 +89,7 @@ module _ {B : Type 0} where
 
   pub IsAt-split : {hs : List (Held B)} {p : Ptr} (xs : List (Held B)) (t : Held B) (ys : List (Held B)) → hs ≡ xs ++ t ∷ ys
       → t.at ≡ p → IsAt hs p (length xs)
-  IsAt-split xs t ys is at = ap (λ hs. slice_get (map (λ u. u.at) hs) (length xs)) is ∙ IsAt-append xs t ys ∙ ap Some at
+  IsAt-split xs t ys is at = grind (arith, IsAt-append)
 
   -- the triple at the index of a position
   pub record CutAt (hs : List (Held B)) (p : Ptr) (i : ℕ) : Type 0 where
@@ -110,8 +97,7 @@ module _ {B : Type 0} where
     pub long : length held.before ≡ i
 
   pub CutAt-IsAt : (hs : List (Held B)) (p : Ptr) (i : ℕ) → IsAt hs p i → CutAt hs p i
-  CutAt-IsAt [] p zero at = absurd (none_some p at)
-  CutAt-IsAt [] p (suc i) at = absurd (none_some p at)
+  CutAt-IsAt [] p i at = absurd (grind arith)
   CutAt-IsAt (t ∷ hs) p zero at = record {
     held = record { before = []; node = t; after = hs; is = refl; at_is = Some-injective t.at p at };
     long = refl;
@@ -126,30 +112,20 @@ module _ {B : Type 0} where
   -- `index_of` has the first index of a position that has one
   pub IsAt-index_of : (p : Ptr) (hs : List (Held B)) → index_of p hs < length hs → IsAt hs p (index_of p hs)
   IsAt-index_of p [] h = absurd (omega (arith, h))
-  IsAt-index_of p (t ∷ hs) h =
-      (elim (same_ptr t.at p) as (λ y. same_ptr t.at p ≡ y → cond y 0 (index_of p hs + 1) < suc (length hs)
-      → IsAt (t ∷ hs) p (cond y 0 (index_of p hs + 1))) [
-        | true ↦ λ e k. ap Some (same_ptr-equal t.at p e)
-        | false ↦ λ e k.
-            let one : suc (index_of p hs) ≡ index_of p hs + 1 = omega arith in
-            subst (IsAt (t ∷ hs) p) one (IsAt-index_of p hs (omega (arith, k)))
-      ]) refl h
+  IsAt-index_of p (t ∷ hs) h = grind (arith, same_ptr-equal, IsAt-index_of p hs)
 
   pub IsAt-within : (hs : List (Held B)) (i : ℕ) {p : Ptr} → IsAt hs p i → i < length hs
-  IsAt-within hs i at =
-      let h = slice_get_within (map (λ t. t.at) hs) i _ at in let long = length-map hs (λ t. t.at) in omega (arith, h, long)
+  IsAt-within hs i at = omega (arith, slice_get_within (map (λ t. t.at) hs) i _ at, length-map hs (λ t. t.at))
 
   pub PlaceAt-within : (hs : List (Held B)) (i : ℕ) → i < length hs → PlaceAt hs None i → ⊥
   PlaceAt-within hs i below none = let long = length-map hs (λ t. t.at) in grind (arith, slice_get_cases)
 
   -- at the ends
   pub PlaceAt-first_at : (hs : List (Held B)) → PlaceAt hs (first_at hs) 0
-  PlaceAt-first_at [] = refl
-  PlaceAt-first_at (t ∷ hs) = refl
+  PlaceAt-first_at hs = grind arith
 
   pub IsAt-first_at : (hs : List (Held B)) {p : Ptr} → Some p ≡ first_at hs → IsAt hs p 0
-  IsAt-first_at [] is = absurd (none_some _ (sym is))
-  IsAt-first_at (t ∷ hs) is = sym is
+  IsAt-first_at hs is = grind arith
 
   IsAt-last_of : (t : Held B) (hs : List (Held B)) → IsAt (t ∷ hs) (last_of t hs) (length hs)
   IsAt-last_of t [] = refl
@@ -157,9 +133,7 @@ module _ {B : Type 0} where
 
   pub IsAt-last_at : (hs : List (Held B)) {p : Ptr} → Some p ≡ last_at hs → IsAt hs p (length hs - 1)
   IsAt-last_at [] is = absurd (none_some _ (sym is))
-  IsAt-last_at (t ∷ hs) {p} is =
-      let one : length hs ≡ suc (length hs) - 1 = omega arith in
-      subst (IsAt (t ∷ hs) p) one (IsAt-last_of t hs ∙ sym is)
+  IsAt-last_at (t ∷ hs) is = grind (arith, IsAt-last_of t hs)
 
   pub index_of-within : (p : Ptr) (xs : List (Held B)) (t : Held B) (ys : List (Held B)) → t.at ≡ p
       → index_of p (xs ++ t ∷ ys) < length (xs ++ t ∷ ys)
@@ -178,8 +152,7 @@ module _ {B : Type 0} where
   -- behind a triple is the next index
   pub slice_get-behind : {hs : List (Held B)} (xs : List (Held B)) (t : Held B) (ys : List (Held B)) → hs ≡ xs ++ t ∷ ys
       → slice_get (map (λ u. u.at) hs) (length xs + 1) ≡ first_at ys
-  slice_get-behind {hs} xs t ys is = sym (first_at-drop hs (length xs + 1)) ∙ ap (λ zs. first_at (drop (length xs + 1) zs)) is
-      ∙ ap first_at (drop-append-add xs (t ∷ ys) 1)
+  slice_get-behind xs t ys is = grind (arith, first_at-drop, drop-append-add xs (t ∷ ys) 1)
 
   pub AtHeld-next : {hs : List (Held B)} {p : Ptr} {o : Option Ptr} → ((i : ℕ) → IsAt hs p i → PlaceAt hs o (i + 1))
       → AtHeld hs p (λ xs t ys. o ≡ first_at ys)
@@ -191,7 +164,7 @@ module _ {B : Type 0} where
     cut_at = CutAt-IsAt hs p i at
 
     pub slice_get-at : slice_get hs i ≡ Some cut_at.held.node
-    slice_get-at = let h = cut_at.held in (λ j. slice_get (h.is j) (sym cut_at.long j)) ∙ slice_get-append h.before h.node h.after
+    slice_get-at = grind (arith, cut_at, slice_get-append)
 
     pub slice_get-pair : {b : B} → AtHeld hs p (λ xs t ys. b ≡ t.pair) → slice_get (map (λ t. t.pair) hs) i ≡ Some b
     slice_get-pair is = grind (arith, cut_at, slice_get-map, slice_get-at)
@@ -209,30 +182,20 @@ module _ {B : Type 0} where
     module _ {ws : List (Held B)} {o : Option Ptr} (j : ℕ) (place : PlaceAt hs o j)
         (moved : AtHeld hs p (λ xs t ys. BeforeHeld (xs ++ ys) o (λ us vs. ws ≡ us ++ t ∷ vs)))
         (stays : o ≡ Some p → ws ≡ hs) where
-      put_at : (k : ℕ) → slice_get (map (λ t. t.at) (remove hs i)) k ≡ o → ws ≡ insert_at k (option_to_list (slice_get hs i)) (remove hs i)
-      put_at k is = grind (arith, cut_at, remove-append, take-append-drop, first_at-drop, slice_get-at)
+      put_at-others : (k : ℕ) → cond (nat_lt k i) k (suc k) ≡ j → ws ≡ insert_at k (option_to_list (slice_get hs i)) (remove hs i)
+      put_at-others k is = grind (arith, cut_at, remove-append, take-append-drop, first_at-drop, slice_get-at, map-remove, slice_get-remove)
 
-      put_before : j < i → ws ≡ insert_at j (option_to_list (slice_get hs i)) (remove hs i)
-      put_before less = grind (arith, put_at, map-remove, slice_get-remove_before)
-
-      put_behind : i < j → ws ≡ insert_at (j - 1) (option_to_list (slice_get hs i)) (remove hs i)
-      put_behind less =
-          let one : suc (j - 1) ≡ j = omega (arith, less) in
-          grind (arith, put_at, map-remove, slice_get-remove_behind)
-
-      put_back_at : i ≡ j → ws ≡ insert_at j (option_to_list (slice_get hs i)) (remove hs i)
-      put_back_at same = grind (arith, insert_at-remove)
-
-      not_behind : (y : Bool) → nat_lt j i ≡ y → j ≤ i → ws ≡ insert_at j (option_to_list (slice_get hs i)) (remove hs i)
-      not_behind y e le = grind (arith, put_before, ltb-true, put_back_at, ltb-false)
+      put_before : (k : ℕ) → k ≡ j → k ≤ i → ws ≡ insert_at k (option_to_list (slice_get hs i)) (remove hs i)
+      put_before k is le = (elim (nat_lt k i) as (λ y. nat_lt k i ≡ y → ws ≡ insert_at k (option_to_list (slice_get hs i)) (remove hs i)) [
+        | true ↦ λ e. put_at-others k (grind arith)
+        | false ↦ λ e. let same : i ≡ k = omega (arith, le, ltb-false k i e) in grind (arith, insert_at-remove)
+      ]) refl
 
       pub to_before_at-at : ws ≡ to_before_at hs i j
       to_before_at-at = (elim (nat_lt i j) as (λ y. nat_lt i j ≡ y
           → ws ≡ insert_at (j - cond y 1 0) (option_to_list (slice_get hs i)) (remove hs i)) [
-            | true ↦ λ e. put_behind (ltb-true i j e)
-            | false ↦ λ e. let all : j ≡ j - 0 = omega arith in
-                not_behind (nat_lt j i) refl (omega (arith, ltb-false i j e))
-                ∙ ap (λ k. insert_at k (option_to_list (slice_get hs i)) (remove hs i)) all
+            | true ↦ λ e. let less = ltb-true i j e in put_at-others (j - 1) (grind arith)
+            | false ↦ λ e. put_before (j - 0) (omega arith) (omega (arith, ltb-false i j e))
           ]) refl
 
     -- once it moved to the front, it has the first index, and each of another index is behind it
@@ -241,14 +204,30 @@ module _ {B : Type 0} where
 
     pub index_of-behind_front : (q : Ptr) → index_of p hs ≢ index_of q hs → index_of q (to_front_at hs i) ≡ index_of q (remove hs i) + 1
     index_of-behind_front q others =
-        ap (λ o. index_of q (option_to_list o ++ remove hs i)) slice_get-at
+        let differ : same_ptr p q ≡ false = grind (arith, same_ptr-equal) in
+        (λ j. index_of q (option_to_list (slice_get-at j) ++ remove hs i))
         ∙ ap (λ y. cond y 0 (index_of q (remove hs i) + 1)) (ap (λ r. same_ptr r q) cut_at.held.at_is ∙ differ)
-      where
-        differ : same_ptr p q ≡ false
-        differ = (elim (same_ptr p q) as (λ y. same_ptr p q ≡ y → y ≡ false) [
-          | true ↦ λ e. absurd (others (ap (λ r. index_of r hs) (same_ptr-equal p q e)))
-          | false ↦ λ e. refl
-        ]) refl
+
+  -- the triple at which the second of two parts begins, and the one at which the first of them ends
+  module _ {hs : List (Held B)} (xs ys : List (Held B)) (is : hs ≡ xs ++ ys) {o : Option Ptr} {p : Ptr} where
+    module _ (first : o ≡ first_at ys) (e : o ≡ Some p) where
+      pub IsHeld-first_at : IsHeld hs p
+      IsHeld-first_at = let f = First-first_at ys first e in
+          record { before = xs; node = f.node; after = f.after; is = is ∙ ap (λ zs. xs ++ zs) f.is; at_is = f.at_is }
+
+      pub AtHeld-first_at : {z : Option Ptr} → AtHeld hs p (λ us t vs. z ≡ last_at us) → z ≡ last_at xs
+      AtHeld-first_at h = let f = First-first_at ys first e in h xs f.node f.after (is ∙ ap (λ zs. xs ++ zs) f.is) f.at_is
+
+    module _ (last : o ≡ last_at xs) (e : o ≡ Some p) where
+      last_cut : hs ≡ (Last-last_at xs last e).before ++ (Last-last_at xs last e).node ∷ ys
+      last_cut = let l = Last-last_at xs last e in is ∙ ap (λ zs. zs ++ ys) l.is ∙ append_assoc l.before (l.node ∷ []) ys
+
+      pub IsHeld-last_at : IsHeld hs p
+      IsHeld-last_at = let l = Last-last_at xs last e in
+          record { before = l.before; node = l.node; after = ys; is = last_cut; at_is = l.at_is }
+
+      pub AtHeld-last_at : {z : Option Ptr} → AtHeld hs p (λ us t vs. z ≡ first_at vs) → z ≡ first_at ys
+      AtHeld-last_at h = let l = Last-last_at xs last e in h l.before l.node ys last_cut l.at_is
 
   -- a triple that is put among the others
   pub record MovedTo {hs : List (Held B)} {p : Ptr} (h : IsHeld hs p) (ks : List (Held B)) : Type 0 where
@@ -258,18 +237,7 @@ module _ {B : Type 0} where
     pub is : ks ≡ before ++ h.node ∷ after
 
   pub length-moved_to : {hs ks : List (Held B)} {p : Ptr} {h : IsHeld hs p} → MovedTo h ks → length ks ≡ length hs
-  length-moved_to {h = h} m =
-      let a = ap length m.is in let b = ap length h.is in let c = ap length m.cut in
-      omega (
-        arith,
-        a,
-        b,
-        c,
-        length-append m.before (h.node ∷ m.after),
-        length-append m.before m.after,
-        length-append h.before h.after,
-        length-append h.before (h.node ∷ h.after),
-      )
+  length-moved_to {h = h} m = let cut = ap length m.cut in grind (arith, length-append)
 
   pub MovedTo-back : {hs ks : List (Held B)} {p : Ptr} (h : IsHeld hs p) → AtHeld hs p (λ xs t ys. ks ≡ (xs ++ ys) ++ t ∷ []) → MovedTo h ks
   MovedTo-back h last = grind (arith, append-nil)
@@ -283,12 +251,8 @@ module _ {B : Type 0} where
   place_index hs None h = length hs
   place_index hs (Some q) h = length h.before
 
-  PlaceAt-length : (hs : List (Held B)) → PlaceAt hs None (length hs)
-  PlaceAt-length [] = refl
-  PlaceAt-length (t ∷ hs) = PlaceAt-length hs
-
   pub PlaceAt-place_index : (hs : List (Held B)) (o : Option Ptr) (h : IfSome o (IsHeld hs)) → PlaceAt hs o (place_index hs o h)
-  PlaceAt-place_index hs o h = grind (arith, PlaceAt-length, IsAt-split)
+  PlaceAt-place_index hs o h = grind (arith, slice_get_past (map (λ t. t.at) hs) (length hs), length-map hs (λ t. t.at), IsAt-split)
 
   pub moved_to : {hs ks : List (Held B)} {p : Ptr} (h : IsHeld hs p) {o : Option Ptr} → IfSome o (IsHeld hs)
       → AtHeld hs p (λ xs t ys. BeforeHeld (xs ++ ys) o (λ us vs. ks ≡ us ++ t ∷ vs)) → (o ≡ Some p → ks ≡ hs) → MovedTo h ks
@@ -300,7 +264,7 @@ module _ {B : Type 0} where
   -- among other positions the last has the last index
   pub index_of-last : (p : Ptr) (hs : List (Held B)) (t : Held B) → t.at ≡ p
       → IsFresh p (map (λ u. u.at) hs) → index_of p (hs ++ t ∷ []) ≡ length hs
-  index_of-last p [] t at fresh = ap (λ y. cond y 0 1) (subst (λ q. same_ptr t.at q ≡ true) at (same_ptr-reflexive t.at))
+  index_of-last p [] t at fresh = grind (arith, same_ptr-reflexive)
   index_of-last p (x ∷ hs) t at fresh = grind (arith, same_ptr-symmetric, index_of-last p hs t at fresh.1)
 
   -- and so has one that moved to the back
@@ -313,38 +277,33 @@ module _ {B : Type 0} where
     pub index_of-later : (hs : List (Held B)) (i : ℕ) → i < index_of p hs → index_of p (remove hs i) + 1 ≡ index_of p hs
     index_of-later [] i h = absurd (omega (arith, h))
     index_of-later (t ∷ hs) zero h = grind arith
-    index_of-later (t ∷ hs) (suc i) h =
-        (elim (same_ptr t.at p) as (λ y. suc i < cond y 0 (index_of p hs + 1)
-        → cond y 0 (index_of p (remove hs i) + 1) + 1 ≡ cond y 0 (index_of p hs + 1)) [
-          | true ↦ λ k. absurd (omega (arith, k))
-          | false ↦ λ k. ap (λ n. n + 1) (index_of-later hs i (omega (arith, k)))
-        ]) h
+    index_of-later (t ∷ hs) (suc i) h = grind (arith, index_of-later hs i)
 
     pub index_of-earlier : (hs : List (Held B)) (i : ℕ) → index_of p hs < i → index_of p (remove hs i) ≡ index_of p hs
     index_of-earlier [] zero h = refl
     index_of-earlier [] (suc i) h = refl
     index_of-earlier (t ∷ hs) zero h = absurd (omega (arith, h))
-    index_of-earlier (t ∷ hs) (suc i) h =
-        (elim (same_ptr t.at p) as (λ y. cond y 0 (index_of p hs + 1) < suc i
-        → cond y 0 (index_of p (remove hs i) + 1) ≡ cond y 0 (index_of p hs + 1)) [
-          | true ↦ λ k. refl
-          | false ↦ λ k. ap (λ n. n + 1) (index_of-earlier hs i (omega (arith, k)))
-        ]) h
+    index_of-earlier (t ∷ hs) (suc i) h = grind (arith, index_of-earlier hs i)
 
 -- at an index of a triple there is a position
 pub IsSome-place : {K V : Type 0} (hs : List (Held (K × V))) (o : Option (Position K V)) (i : ℕ) → i < length hs
     → PlaceAt hs (pointer_of_some o) i → IsSome o
-IsSome-place hs None i below place = absurd (PlaceAt-within hs i below place)
-IsSome-place hs (Some at) i below place = refl
+IsSome-place hs o i below place = grind (arith, PlaceAt-within)
+
+pub IsSome-first_at : {K V : Type 0} (xs ys : List (Held (K × V))) (o : Option (Position K V)) {n : ℕ}
+    → pointer_of_some o ≡ first_at (xs ++ ys) → n ≡ length xs → 0 < n → IsSome o
+IsSome-first_at [] ys o is count some = absurd (omega (arith, count, some))
+IsSome-first_at (x ∷ xs) ys o is count some = grind arith
+
+pub IsSome-last_at : {K V : Type 0} (xs ys : List (Held (K × V))) (o : Option (Position K V)) {n : ℕ}
+    → pointer_of_some o ≡ last_at (xs ++ ys) → n ≡ length ys → 0 < n → IsSome o
+IsSome-last_at xs ys o is count some = let long = length-append xs ys in grind (arith, none-last_at)
 
 -- without chain links
 module _ {K V : Type 0} where
   pub PlaceAt-entries : (hs : List (Held (K × V))) {es : List (Held (K × V))} {o : Option Ptr} (i : ℕ) → entries hs ≡ es → PlaceAt es o i
       → PlaceAt hs o i
   PlaceAt-entries hs i same at = ap (λ ps. slice_get ps i) (sym (pointers-entries hs) ∙ ap (map (λ t. t.at)) same) ∙ at
-
-  pub IsAt-entries : (hs : List (Held (K × V))) {es : List (Held (K × V))} {p : Ptr} (i : ℕ) → entries hs ≡ es → IsAt es p i → IsAt hs p i
-  IsAt-entries hs i same at = PlaceAt-entries hs i same at
 
   pub index_of-entries : (p : Ptr) (hs : List (Held (K × V))) → index_of p (entries hs) ≡ index_of p hs
   index_of-entries p [] = refl

@@ -1,13 +1,13 @@
 -- A table as a closure goes over its pairs and keeps some.
-use Rattle.lhm_ring.proofs.Names.{Bool, List, None, Option, Some, [], ap, append_assoc, arith, cond, false, length, map, refl, remove}
-use Rattle.lhm_ring.proofs.Names.{subst, sym, true, ℕ, ◌++◌, ◌<◌, ◌∙◌, ◌∷◌, ◌≡◌, Cell, IsApart, cell, change, same_ptr, with_body, AtHeld}
-use Rattle.lhm_ring.proofs.Names.{Held, IsHeld, State, change_at, first_at, revalued, CallsAt, RetainsAt, RetainsHeld, TableState}
-use Rattle.lhm_ring.proofs.Names.{TakesAt, WritesOnly, table_of, CallableOnEachPair, SomeCallAtPair, Ptr}
-use Rattle.lhm_ring.proofs.rings.{Ends.First, Ends.First-first_at, HeldPointers.IsApart-without_node, HeldPointers.pointers_of}
-use Rattle.lhm_ring.proofs.rings.{HeldPointers.pointers_of-append}
-use Rattle.lhm_ring.proofs.{indexes.Entries.EntriesCut-split}
-use Rattle.lhm_ring.proofs.lists.{Apart.IsApart-tail, Apart.IsFresh-head, Apart.same_ptr-reflexive, Cuts.same_ptr-fresh}
-use Rattle.lhm_ring.{proofs.tables.Positions.IsAt-split, proofs.tables.Positions.remove-append, specs.Positions.IsAt}
+use Rattle.lhm_ring.proofs.Names.{AtHeld, Bool, BucketState, CallableOnEachPair, CallsAt, Held, IsApart, IsHeld, IsTable, List, None}
+use Rattle.lhm_ring.proofs.Names.{Option, Ptr, RetainsAt, RetainsHeld, Some, SomeCallAtPair, State, TableState, TakesAt, WritesOnly, []}
+use Rattle.lhm_ring.proofs.Names.{ap, append_assoc, ap₂, arith, change_at, cond, false, first_at, length, map, refl, remove, revalued}
+use Rattle.lhm_ring.proofs.Names.{same_ptr, subst, sym, table_of, true, ℕ, ◌++◌, ◌<◌, ◌∙◌, ◌∷◌, ◌≡◌}
+use Rattle.lhm_ring.proofs.lists.Apart.{IsApart-tail, IsFresh-head, same_ptr-reflexive}
+use Rattle.lhm_ring.proofs.rings.Contents.{pointers_of, pointers_of-append}
+use Rattle.lhm_ring.proofs.rings.{Ends.First, Ends.First-first_at, HeldPointers.IsApart-without_node}
+use Rattle.lhm_ring.proofs.tables.Positions.{IsAt-split, remove-append}
+use Rattle.lhm_ring.{proofs.indexes.Entries.EntriesCut-split, proofs.lists.Cuts.same_ptr-fresh, specs.Positions.IsAt}
 
 -- how many are held from the one at a pointer on
 abbrev pub left_from : {B : Type 0} → Option Ptr → List (Held B) → ℕ
@@ -28,32 +28,20 @@ module _ {F K V : Type 0} (T : F → K → V → Bool → V → F → Type 0) wh
     pub ends : (last : List (Held (K × V))) → RetainsHeld T f rest last
         → RetainsHeld T start old (kept ++ last)
 
--- what a node holds is written twice
-module _ {L B : Type 0} where
-  change-twice : (p : Ptr) (f g : Cell L B → Cell L B) → ((c : Cell L B) → (f c).at ≡ c.at) → ((c : Cell L B) → g (f c) ≡ g c)
-      → (cs : List (Cell L B)) → change p g (change p f cs) ≡ change p g cs
-  unfolding change
-  change-twice p f g same over [] = refl
-  change-twice p f g same over (c ∷ cs) = grind (arith, change-twice p f g same over cs)
-
-  pub with_body-twice : (p : Ptr) (x : B) (cs : List (Cell L B)) → with_body p (Some x) (with_body p None cs) ≡ with_body p (Some x) cs
-  with_body-twice p x cs = change-twice p (λ c. cell c.at c.links None) (λ c. cell c.at c.links (Some x)) (λ c. refl) (λ c. refl) cs
-
 -- how many are left, if no two lie at one pointer
 module _ {B : Type 0} where
   pub left_from-append : (xs ys : List (Held B)) → IsApart (pointers_of (xs ++ ys)) → left_from (first_at ys) (xs ++ ys) ≡ length ys
   left_from-append xs [] d = refl
-  left_from-append [] (y ∷ ys) d = ap (λ b. cond b (length (y ∷ ys)) (left_from (Some y.at) ys)) (same_ptr-reflexive y.at)
+  left_from-append [] (y ∷ ys) d = grind (arith, same_ptr-reflexive)
   left_from-append (x ∷ xs) (y ∷ ys) d =
-      ap (λ b. cond b (length (x ∷ (xs ++ y ∷ ys))) (left_from (Some y.at) (xs ++ y ∷ ys)))
-      (same_ptr-fresh (λ t. t.at) x.at xs y ys (IsFresh-head x.at (pointers_of (xs ++ y ∷ ys)) d))
-      ∙ left_from-append xs (y ∷ ys) (IsApart-tail x.at (pointers_of (xs ++ y ∷ ys)) d)
+      let other = same_ptr-fresh (λ t. t.at) x.at xs y ys (IsFresh-head x.at (pointers_of (xs ++ y ∷ ys)) d) in
+      grind (arith, left_from-append xs (y ∷ ys) (IsApart-tail x.at (pointers_of (xs ++ y ∷ ys)) d))
 
 -- a table that is seen as m: if the closure may be called at one of its pairs, it may at that of
 -- the ring
-pub TakesAt-table_of : {F K V : Type 0} (Q : F → K → V → Type 0) (f : F) {p : Ptr} (s : State (K × V)) (r : ℕ) {m : TableState (K × V)}
-    → table_of s r ≡ m → TakesAt Q f m.held p → TakesAt Q f s.held p
-TakesAt-table_of {F} {K} {V} Q f {p} s r seen h =
+pub TakesAt-table : {F K V : Type 0} (Q : F → K → V → Type 0) (f : F) {p : Ptr} {i : BucketState} {s : State (K × V)} {r : ℕ}
+    → IsTable i s r → {m : TableState (K × V)} → table_of s r ≡ m → TakesAt Q f m.held p → TakesAt Q f s.held p
+TakesAt-table {K = K} {V} Q f {s = s} table seen h =
     let at = h.held in
     let i = (EntriesCut-split s.held at.before at.node at.after (ap (λ (z : TableState (K × V)). z.held) seen ∙ at.is)).split in
     record {
@@ -76,7 +64,7 @@ module _ {F K V : Type 0} (T : F → K → V → Bool → V → F → Type 0) {f
     returned = b;
     value = w;
     called = called;
-    new_is = λ xs t ys e at. written ∙ alone xs t ys e at w ∙ ap (λ c. xs ++ cond c (revalued w t ∷ ys) ys) (sym kept);
+    new_is = λ xs t ys e at. written ∙ alone xs t ys e at w ∙ grind arith;
   }
 
   pub RetainsAt-removed : {new : List (Held (K × V))} → CallsAt T f old p b w f' → WritesOnly old p → now ≡ change_at p (revalued w) old
@@ -86,34 +74,20 @@ module _ {F K V : Type 0} (T : F → K → V → Bool → V → F → Type 0) {f
     value = w;
     called = called;
     new_is = λ xs t ys e at. let is = written ∙ alone xs t ys e at w in
-        others (length xs) (IsAt-split xs (revalued w t) ys is at) ∙ ap (λ hs. remove hs (length xs)) is
-        ∙ remove-append xs (revalued w t) ys
-        ∙ ap (λ c. xs ++ cond c (revalued w t ∷ ys) ys) (sym removed);
+        let out = others (length xs) (IsAt-split xs (revalued w t) ys is at) in grind (arith, remove-append);
   }
 
 pub IsHeld-written : {K V : Type 0} {old now : List (Held (K × V))} {p : Ptr} (w : V)
     → WritesOnly old p → now ≡ change_at p (revalued w) old → IsHeld old p → IsHeld now p
 IsHeld-written w alone written h =
-    record {
-      before = h.before;
-      node = revalued w h.node;
-      after = h.after;
-      is = grind arith;
-      at_is = h.at_is;
-    }
+    record { before = h.before; node = revalued w h.node; after = h.after; is = grind arith; at_is = h.at_is }
 
 -- the closure may be called at the pairs behind the first
-module _ {F K V : Type 0} (T : F → K → V → Bool → V → F → Type 0) (Q : F → K → V → Type 0) where
-  callable-first : {f : F} {pair : K × V} {pairs : List (K × V)} → CallableOnEachPair T Q f (pair ∷ pairs) → Q f pair.0 pair.1
-  callable-first {f} {pair} {pairs} c = c.at [] pairs f pair.0 pair.1 refl refl
-
+module _ {F K V : Type 0} {T : F → K → V → Bool → V → F → Type 0} {Q : F → K → V → Type 0} where
   CallableOnEachPair-rest : {f f' : F} {pair : K × V} {pairs : List (K × V)} → CallableOnEachPair T Q f (pair ∷ pairs)
       → SomeCallAtPair T f pair f' → CallableOnEachPair T Q f' pairs
-  CallableOnEachPair-rest {f} {f'} {pair} {pairs} c called =
-      record {
-        at = λ before after g k v is run. c.at (pair ∷ before) after g k v
-            (ap (λ l. pair ∷ l) is) (f', called, run);
-      }
+  CallableOnEachPair-rest {f' = f'} {pair} c called =
+      record { at = λ before after g k v is run. c.at (pair ∷ before) after g k v (ap (λ l. pair ∷ l) is) (f', called, run) }
 
   pub IsRetaining-start : {f : F} {hs : List (Held (K × V))} {next : Option Ptr} → CallableOnEachPair T Q f (map (λ t. t.pair) hs)
       → next ≡ first_at hs → IsRetaining T Q f hs f hs next
@@ -125,10 +99,10 @@ module _ {F K V : Type 0} (T : F → K → V → Bool → V → F → Type 0) (Q
     RetainsHeld-end none = grind arith
 
     -- the pair at p is the next
-    pub First-next : {p : Ptr} → next ≡ Some p → First m.rest p
-    First-next {p} some = First-first_at m.rest m.next_is some
+    module _ {p : Ptr} (some : next ≡ Some p) where
+      abbrev pub n : First m.rest p
+      n = First-first_at m.rest m.next_is some
 
-    module _ {p : Ptr} (n : First m.rest p) where
       pub now-cut : now ≡ m.kept ++ n.node ∷ n.after
       now-cut = m.now_is ∙ ap (λ l. m.kept ++ l) n.is
 
@@ -139,7 +113,7 @@ module _ {F K V : Type 0} (T : F → K → V → Bool → V → F → Type 0) (Q
       CallableOnEachPair-now = subst (λ l. CallableOnEachPair T Q f (map (λ t. t.pair) l)) n.is m.callable
 
       pub TakesAt-next : TakesAt Q f now p
-      TakesAt-next = record { held = next_held; takes = callable-first CallableOnEachPair-now }
+      TakesAt-next = record { held = next_held; takes = CallableOnEachPair-now.at [] _ f _ _ refl refl }
 
       module _ {f' : F} {new : List (Held (K × V))} {next' : Option Ptr}
           (made : RetainsAt T f now p new f')
@@ -150,16 +124,12 @@ module _ {F K V : Type 0} (T : F → K → V → Bool → V → F → Type 0) (Q
         call : T f n.node.pair.0 n.node.pair.1 made.returned made.value f'
         call = made.called m.kept n.node n.after now-cut n.at_is
 
-        new-cut : new ≡ m.kept ++ cond made.returned (revalued made.value n.node ∷ n.after) n.after
-        new-cut = made.new_is m.kept n.node n.after now-cut n.at_is
-
         append-cond : (b : Bool) (u : Held (K × V)) (ys : List (Held (K × V)))
             → cond b (m.kept ++ u ∷ []) m.kept ++ ys ≡ m.kept ++ cond b (u ∷ ys) ys
-        append-cond true u ys = append_assoc m.kept (u ∷ []) ys
-        append-cond false u ys = refl
+        append-cond b u ys = grind (arith, append_assoc)
 
         new-kept : new ≡ kept' ++ n.after
-        new-kept = new-cut ∙ sym (append-cond made.returned (revalued made.value n.node) n.after)
+        new-kept = made.new_is m.kept n.node n.after now-cut n.at_is ∙ sym (append-cond made.returned (revalued made.value n.node) n.after)
 
         next-new : next' ≡ first_at n.after
         next-new = follows m.kept n.node n.after now-cut n.at_is
@@ -191,4 +161,9 @@ module _ {F K V : Type 0} (T : F → K → V → Bool → V → F → Type 0) (Q
         IsApart-new b w d = grind (arith, pointers_of-append, IsApart-without_node)
 
         pub left_from-smaller : IsApart (pointers_of now) → left_from next' new < left_from next now
-        left_from-smaller d = grind (arith, now-cut, left_from-append, append-cond, IsApart-new, next-new, new-kept)
+        left_from-smaller d =
+            let apart = subst (λ l. IsApart (pointers_of l)) now-cut d in
+            let left = left_from-append m.kept (n.node ∷ n.after) apart in
+            let right = left_from-append kept' n.after (subst (λ l. IsApart (pointers_of l))
+            (sym (append-cond made.returned (revalued made.value n.node) n.after)) (IsApart-new made.returned made.value apart)) in
+            omega (arith, ap₂ left_from (m.next_is ∙ ap first_at n.is) now-cut ∙ left, ap₂ left_from next-new new-kept ∙ right)

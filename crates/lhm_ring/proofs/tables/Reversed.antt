@@ -1,9 +1,9 @@
 -- The nodes of a table, of which the first ones are reversed.
-use Rattle.lhm_ring.proofs.Names.{List, Option, Some, [], ap, append-nil, ap₂, length, refl, reverse, slice_get, sym, take, ℕ, ◌++◌, ◌+◌}
-use Rattle.lhm_ring.proofs.Names.{◌∙◌, ◌∷◌, ◌≡◌, PlaceAt, to_front_at, Held, IsHeld, first_at, drop-length, take-length, reverse-append}
-use Rattle.lhm_ring.proofs.tables.Positions.{CutAt, IsAt-split, PlaceAt-first_at, cut_at, drop-from, first_at-drop, remove-append}
-use Rattle.lhm_ring.proofs.tables.Positions.{slice_get-append, slice_get-at, slice_get-behind, take-through}
-use Rattle.lhm_ring.{proofs.Names.option_to_list, proofs.Names.Ptr, specs.Positions.IsAt}
+use Rattle.lhm_ring.proofs.Names.{Held, IsHeld, List, Option, PlaceAt, Ptr, Some, ap, append-nil, arith, drop-length, first_at, length}
+use Rattle.lhm_ring.proofs.Names.{refl, reverse, reverse-append, slice_get, sym, take, take-length, to_front_at, ℕ, ◌++◌, ◌+◌, ◌∙◌, ◌∷◌}
+use Rattle.lhm_ring.proofs.tables.Positions.{CutAt, IsAt-split, IsHeld-first_at, PlaceAt-first_at, cut_at, drop-from, first_at-drop}
+use Rattle.lhm_ring.proofs.tables.Positions.{remove-append, slice_get-append, slice_get-at, slice_get-behind, take-through}
+use Rattle.lhm_ring.{proofs.Names.◌≡◌, specs.Positions.IsAt}
 use Rattle.std.proofs.Common.{drop}
 
 module _ {B : Type 0} (hs : List (Held B)) where
@@ -32,13 +32,7 @@ module _ {B : Type 0} (hs : List (Held B)) where
       cut = s.now_is ∙ ap (λ zs. reverse (take n hs) ++ zs) (drop-from hs n there)
 
       pub IsHeld-next : IsHeld now p
-      IsHeld-next = record {
-        before = reverse (take n hs);
-        node = next.held.node;
-        after = drop (n + 1) hs;
-        is = cut;
-        at_is = next.held.at_is;
-      }
+      IsHeld-next = IsHeld-first_at (reverse (take n hs)) _ s.now_is (sym s.at_is ∙ sym (first_at-drop hs n)) found
 
       -- it goes to the front
       pub IsReversing-more : {new : List (Held B)} {behind : Option Ptr} → ((i : ℕ) → IsAt now p i → new ≡ to_front_at now i)
@@ -47,7 +41,6 @@ module _ {B : Type 0} (hs : List (Held B)) where
           let turned = reverse (take n hs) in let t = next.held.node in let rest = drop (n + 1) hs in let k = length turned in
           let at = IsAt-split turned t rest cut next.held.at_is in record {
             now_is = moved k at ∙ ap (λ zs. to_front_at zs k) cut
-                ∙ ap₂ (λ o ys. option_to_list o ++ ys) (slice_get-append turned t rest) (remove-append turned t rest)
-                ∙ ap (λ zs. zs ++ rest) (sym (ap reverse (take-through hs n there) ∙ reverse-append (take n hs) (t ∷ [])));
+                ∙ (let through = take-through hs n there in grind (arith, slice_get-append, remove-append, reverse-append));
             at_is = sym (first_at-drop hs (n + 1)) ∙ sym (slice_get-behind turned t rest cut) ∙ follows k at;
           }

@@ -1,7 +1,7 @@
 -- The first of some nodes, moved behind the others.
-use Rattle.lhm_ring.proofs.Names.{append-nil, append_assoc, pointer_of_some, to_front_at, last_at, drop-length, take-length, option_to_list}
-use Rattle.lhm_ring.proofs.Names.{Option, get_or, length, pointer_of, to_back_at, IsHeld, first_at, last_of, Position, drop_more, take_more}
-use Rattle.lhm_ring.proofs.Names.{List, Some, [], ap, ap₂, arith, refl, sym, take, ℕ, ◌++◌, ◌+◌, ◌<◌, ◌∙◌, ◌∷◌, ◌≡◌, Held, IsSome, Ptr}
+use Rattle.lhm_ring.proofs.Names.{Held, IsSome, List, Option, Position, Some, [], ap, append-nil, append_assoc, ap₂, arith, drop-length}
+use Rattle.lhm_ring.proofs.Names.{drop_more, first_at, get_or, last_at, last_of, length, pointer_of, pointer_of_some, refl, sym, take}
+use Rattle.lhm_ring.proofs.Names.{take-length, take_more, to_back_at, to_front_at, ℕ, ◌++◌, ◌+◌, ◌<◌, ◌∙◌, ◌∷◌, ◌≡◌}
 use Rattle.lhm_ring.proofs.tables.Positions.{IsAt-split, remove-append, slice_get-append}
 use Rattle.lhm_ring.{proofs.lists.Options.Some-injective, specs.Positions.IsAt}
 use Rattle.std.proofs.Common.{drop}
@@ -29,8 +29,7 @@ turn n (x ∷ xs) h = record {
   node = get_or (x ∷ xs) n x;
   others = drop (n + 1) (x ∷ xs) ++ take n (x ∷ xs);
   first_is = ap (λ ys. ys ++ take n (x ∷ xs)) (drop_more (x ∷ xs) n x h);
-  last_is = ap (λ ys. drop (n + 1) (x ∷ xs) ++ ys) (take_more (x ∷ xs) n x h)
-      ∙ sym (append_assoc (drop (n + 1) (x ∷ xs)) (take n (x ∷ xs)) (get_or (x ∷ xs) n x ∷ []));
+  last_is = grind (arith, take_more, append_assoc);
 }
 
 last_of-push : {B : Type 0} (u : Held B) (hs : List (Held B)) (t : Held B) → last_of u (hs ++ t ∷ []) ≡ t.at
@@ -41,9 +40,6 @@ pub last_at-push : {B : Type 0} (hs : List (Held B)) (t : Held B) → last_at (h
 last_at-push [] t = refl
 last_at-push (u ∷ hs) t = ap Some (last_of-push u hs t)
 
-pub IsSome-pointer : {K V : Type 0} (o : Option (Position K V)) {p : Ptr} → pointer_of_some o ≡ Some p → IsSome o
-IsSome-pointer o e = grind arith
-
 module _ {K V : Type 0} {n : ℕ} (xs : List (Held (K × V))) (below : n < length xs) {hs : List (Held (K × V))} where
   -- the node at the front, with n of xs behind the others
   module _ (is : hs ≡ rotated n xs) (o : Option (Position K V)) (front : pointer_of_some o ≡ first_at hs) where
@@ -51,51 +47,30 @@ module _ {K V : Type 0} {n : ℕ} (xs : List (Held (K × V))) (below : n < lengt
     at_front = front ∙ ap first_at (is ∙ (turn n xs below).first_is)
 
     pub IsSome-front : IsSome o
-    IsSome-front = IsSome-pointer o at_front
+    IsSome-front = grind (arith, at_front)
 
     module _ {at : Position K V} (found : o ≡ Some at) where
-      front_is : (turn n xs below).node.at ≡ pointer_of at
-      front_is = Some-injective _ _ (sym at_front ∙ ap pointer_of_some found)
-
-      pub front_held : IsHeld hs (pointer_of at)
-      front_held = record {
-        before = [];
-        node = (turn n xs below).node;
-        after = (turn n xs below).others;
-        is = is ∙ (turn n xs below).first_is;
-        at_is = front_is;
-      }
-
       -- it goes to the back
       pub rotated-more : {ks : List (Held (K × V))} → ((i : ℕ) → IsAt hs (pointer_of at) i → ks ≡ to_back_at hs i) → ks ≡ rotated (n + 1) xs
       rotated-more moved = let t = turn n xs below in let front = is ∙ t.first_is in
-          moved 0 (IsAt-split [] t.node t.others front front_is) ∙ ap (λ ys. to_back_at ys 0) front ∙ sym t.last_is
+          moved 0 (IsAt-split [] t.node t.others front (Some-injective _ _ (sym at_front ∙ ap pointer_of_some found)))
+          ∙ ap (λ ys. to_back_at ys 0) front ∙ sym t.last_is
 
   -- the node at the back, with one more of xs behind the others
-  module _ (is : hs ≡ rotated (n + 1) xs) (o : Option (Position K V)) (back : pointer_of_some o ≡ last_at hs) where
+  module _ {m : ℕ} (one : m ≡ n + 1) (is : hs ≡ rotated m xs) (o : Option (Position K V)) (back : pointer_of_some o ≡ last_at hs) where
+    cut : hs ≡ (turn n xs below).others ++ (turn n xs below).node ∷ []
+    cut = is ∙ ap (λ k. rotated k xs) one ∙ (turn n xs below).last_is
+
     at_back : pointer_of_some o ≡ Some (turn n xs below).node.at
-    at_back = let t = turn n xs below in back ∙ ap last_at (is ∙ t.last_is) ∙ last_at-push t.others t.node
+    at_back = let t = turn n xs below in back ∙ ap last_at cut ∙ last_at-push t.others t.node
 
     pub IsSome-back : IsSome o
-    IsSome-back = IsSome-pointer o at_back
+    IsSome-back = grind (arith, at_back)
 
     module _ {at : Position K V} (found : o ≡ Some at) where
-      back_is : (turn n xs below).node.at ≡ pointer_of at
-      back_is = Some-injective _ _ (sym at_back ∙ ap pointer_of_some found)
-
-      pub back_held : IsHeld hs (pointer_of at)
-      back_held = record {
-        before = (turn n xs below).others;
-        node = (turn n xs below).node;
-        after = [];
-        is = is ∙ (turn n xs below).last_is;
-        at_is = back_is;
-      }
-
       -- it goes to the front
       pub rotated-fewer : {ks : List (Held (K × V))} → ((i : ℕ) → IsAt hs (pointer_of at) i → ks ≡ to_front_at hs i) → ks ≡ rotated n xs
-      rotated-fewer moved = let t = turn n xs below in let back = is ∙ t.last_is in
-          moved (length t.others) (IsAt-split t.others t.node [] back back_is)
-          ∙ ap (λ ys. to_front_at ys (length t.others)) back
-          ∙ ap₂ (λ o ys. option_to_list o ++ ys) (slice_get-append t.others t.node [])
-          (remove-append t.others t.node [] ∙ append-nil t.others) ∙ sym t.first_is
+      rotated-fewer moved = let t = turn n xs below in
+          moved (length t.others) (IsAt-split t.others t.node [] cut (Some-injective _ _ (sym at_back ∙ ap pointer_of_some found)))
+          ∙ ap (λ ys. to_front_at ys (length t.others)) cut
+          ∙ grind (arith, slice_get-append, remove-append, append-nil, t.first_is)

@@ -1,6 +1,6 @@
 -- Other values in a table's nodes.
-use Rattle.lhm_ring.proofs.Names.{List, [], ap, arith, length, map, refl, sym, ℕ, ◌∙◌, ◌∷◌, ◌≡◌, BucketState, entries, spot, Held, State}
-use Rattle.lhm_ring.proofs.Names.{set_held_values, IsTable, TableState, table_of, length-map}
+use Rattle.lhm_ring.proofs.Names.{BucketState, Held, IsTable, List, State, TableState, [], ap, arith, entries, length, length-map, map}
+use Rattle.lhm_ring.proofs.Names.{refl, set_held_values, table_of, ℕ, ◌∷◌, ◌≡◌}
 use Rattle.lhm_ring.proofs.{indexes.IndexMoves.spots-values, tables.IndexedRing.IsIndexed-same_spots}
 
 module _ {K V : Type 0} where
@@ -10,7 +10,7 @@ module _ {K V : Type 0} where
   entries-set_held_values (t ∷ hs) (v ∷ vs) = grind (arith, entries-set_held_values hs vs)
 
   length-set_held_values : (hs : List (Held (K × V))) (vs : List V) → length (set_held_values hs vs) ≡ length hs
-  length-set_held_values hs vs = sym (length-map (set_held_values hs vs) spot) ∙ ap length (spots-values hs vs) ∙ length-map hs spot
+  length-set_held_values hs vs = let same = ap length (spots-values hs vs) in grind (arith, length-map)
 
   pub IsTable-values : {i : BucketState} {s : State (K × V)} {r : ℕ} (vs : List V) → IsTable i s r
       → IsTable i (record s { held = set_held_values s.held vs }) r

@@ -1,10 +1,10 @@
 -- A table: what it shows of the nodes of its ring, which stand there without their links.
-use Rattle.lhm_ring.proofs.Names.{List, None, Option, [], ap, arith, cond, eq-eqb, length, length-append, map, max, refl, subst, sym, ℕ}
-use Rattle.lhm_ring.proofs.Names.{◌++◌, ◌+◌, ◌-◌, ◌<◌, ◌^◌, ◌∙◌, ◌∷◌, ◌≡◌, ◌≢◌, ◌≤◌, IfSome, OnErr, OnOk, Result, BucketState, buckets}
-use Rattle.lhm_ring.proofs.Names.{made_raised, rechained_raised, ChangesLinks, HoldsOthers, Indexes, PutsIn, entries, spot, spots}
-use Rattle.lhm_ring.proofs.Names.{least_more, most_nodes, nodes_grown, IsApart, pointer_of, AtHeld, ChangesOnly, Held, IsHeld, State}
-use Rattle.lhm_ring.proofs.Names.{change_at, last_at, linked_to, rekeyed, revalued, state, triples, with_value, IsTable, KeepsCounts}
-use Rattle.lhm_ring.proofs.Names.{TableState, WritesOnly, table_of, Position, ne_eqb, length-map, Ptr}
+use Rattle.lhm_ring.proofs.Names.{AtHeld, BucketState, ChangesLinks, ChangesOnly, Held, HoldsOthers, IfSome, Indexes, IsApart, IsHeld}
+use Rattle.lhm_ring.proofs.Names.{IsTable, KeepsCounts, List, None, OnErr, OnOk, Option, Position, Ptr, PutsIn, Result, State, TableState}
+use Rattle.lhm_ring.proofs.Names.{WritesOnly, [], ap, arith, buckets, change_at, cond, entries, eq-eqb, last_at, least_more, length}
+use Rattle.lhm_ring.proofs.Names.{length-append, length-map, linked_to, made_raised, map, max, most_nodes, ne_eqb, nodes_grown, pointer_of}
+use Rattle.lhm_ring.proofs.Names.{rechained_raised, refl, rekeyed, revalued, spot, spots, state, subst, sym, table_of, triples, with_value}
+use Rattle.lhm_ring.proofs.Names.{ℕ, ◌++◌, ◌+◌, ◌-◌, ◌<◌, ◌^◌, ◌∙◌, ◌∷◌, ◌≡◌, ◌≤◌}
 use Rattle.lhm_ring.proofs.indexes.BucketCounts.{buckets-at_least, buckets-below, buckets-raised, made_raised-higher, rechained-within}
 use Rattle.lhm_ring.proofs.indexes.Entries.{AtHeld-entries, IsHeld-entries, entries-append, entries-change_at, last_at-entries}
 use Rattle.lhm_ring.proofs.indexes.Entries.{length-entries, length-same_entries, pointers-entries, triples-entries}
@@ -12,10 +12,14 @@ use Rattle.lhm_ring.proofs.indexes.{IndexMoves.spots-rekeyed, IndexMoves.spots-v
 use Rattle.lhm_ring.proofs.tables.IndexedRing.{IsIndexed-moved, IsIndexed-same_spots, IsIndexed-value}
 use Rattle.lhm_ring.{proofs.tables.Positions.MovedTo, proofs.tables.Positions.length-moved_to, specs.TableAfterLoan.with_value as write}
 
+pub KeepsCounts-trans : {B : Type 0} {l m n : TableState B} → KeepsCounts l m → KeepsCounts m n → KeepsCounts l n
+KeepsCounts-trans f g = grind arith
+
 -- a table that is seen as m
-module _ {K V : Type 0} (s : State (K × V)) (r : ℕ) {m : TableState (K × V)} (seen : table_of s r ≡ m) where
-  pub IsHeld-table : (p : Ptr) → IsHeld m.held p → IsHeld s.held p
-  IsHeld-table p h = IsHeld-entries s.held p (subst (λ (z : TableState (K × V)). IsHeld z.held p) (sym seen) h)
+module _ {K V : Type 0} {i : BucketState} {s : State (K × V)} {r : ℕ} (table : IsTable i s r) {m : TableState (K × V)}
+    (seen : table_of s r ≡ m) where
+  pub IsHeld-table : {p : Ptr} → IsHeld m.held p → IsHeld s.held p
+  IsHeld-table {p} h = IsHeld-entries s.held p (subst (λ (z : TableState (K × V)). IsHeld z.held p) (sym seen) h)
 
   pub IfSome-table : (o : Option (Position K V)) → IfSome o (λ at. IsHeld m.held (pointer_of at))
       → IfSome o (λ at. IsHeld s.held (pointer_of at))
@@ -23,18 +27,18 @@ module _ {K V : Type 0} (s : State (K × V)) (r : ℕ) {m : TableState (K × V)}
 
   -- what holds at a position of nodes with the entries of the table
   pub AtHeld-same_entries : (ks : List (Held (K × V))) → entries ks ≡ entries s.held
-      → (p : Ptr) (P : List (Held (K × V)) → Held (K × V) → List (Held (K × V)) → Type 0)
+      → {p : Ptr} (P : List (Held (K × V)) → Held (K × V) → List (Held (K × V)) → Type 0)
       → AtHeld ks p (λ xs t ys. P (entries xs) (linked_to None t) (entries ys)) → AtHeld m.held p P
-  AtHeld-same_entries ks same p P h = subst (λ (hs : List (Held (K × V))). AtHeld hs p P)
+  AtHeld-same_entries ks same {p} P h = subst (λ (hs : List (Held (K × V))). AtHeld hs p P)
       (same ∙ ap (λ (z : TableState (K × V)). z.held) seen) (AtHeld-entries ks p P h)
 
-  pub AtHeld-table : (p : Ptr) (P : List (Held (K × V)) → Held (K × V) → List (Held (K × V)) → Type 0)
+  pub AtHeld-table : {p : Ptr} (P : List (Held (K × V)) → Held (K × V) → List (Held (K × V)) → Type 0)
       → AtHeld s.held p (λ xs t ys. P (entries xs) (linked_to None t) (entries ys)) → AtHeld m.held p P
-  AtHeld-table p P h = AtHeld-same_entries s.held refl p P h
+  AtHeld-table P h = AtHeld-same_entries s.held refl P h
 
-  pub AtHeld-table_previous : (p : Ptr) (o : Option Ptr) → AtHeld s.held p (λ xs t ys. o ≡ last_at xs)
+  pub AtHeld-table_previous : {p : Ptr} {o : Option Ptr} → AtHeld s.held p (λ xs t ys. o ≡ last_at xs)
       → AtHeld m.held p (λ xs t ys. o ≡ last_at xs)
-  AtHeld-table_previous p o before = AtHeld-table p (λ xs t ys. o ≡ last_at xs)
+  AtHeld-table_previous {o = o} before = AtHeld-table (λ xs t ys. o ≡ last_at xs)
       (λ xs t ys e at. before xs t ys e at ∙ sym (last_at-entries xs))
 
   pub IsApart-table : IsApart (map (λ t. t.at) s.held) → IsApart (map (λ t. t.at) m.held)
@@ -49,22 +53,32 @@ module _ {K V : Type 0} (s : State (K × V)) (r : ℕ) {m : TableState (K × V)}
   pub length-capacity : length s.held + s.spares ≡ m.capacity
   length-capacity = ap (λ (z : TableState (K × V)). z.capacity) seen
 
+  pub heads-table : length i.heads ≡ buckets m.capacity
+  heads-table = table.indexed.count ∙ ap buckets length-capacity
+
+  pub rechained_raised-moves : (d : ℕ) → length i.heads < d → rechained_raised m.rechained (length m.held) m.capacity d
+      ≡ m.rechained + length m.held
+  rechained_raised-moves d few = ap (λ b. cond b m.rechained (m.rechained + length m.held))
+      (ne_eqb (buckets m.capacity) (buckets d) (λ e. absurd (omega (arith, few, heads-table, e, buckets-at_least d))))
+
   pub spares-table : length m.held < m.capacity → 0 < s.spares
-  spares-table room = let l = length-table in let c = length-capacity in omega (arith, l, c, room)
+  spares-table room = omega (arith, length-table, length-capacity, room)
+
+  pub KeepsCounts-table : (t : State (K × V)) → length t.held + t.spares ≡ length s.held + s.spares → t.nodes ≡ s.nodes
+      → KeepsCounts m (table_of t r)
+  KeepsCounts-table t same made = grind (arith, length-capacity)
 
   -- a pair was moved
   pub KeepsCounts-moved : {t : State (K × V)} {p : Ptr} {h : IsHeld s.held p} → MovedTo h t.held
       → t.spares ≡ s.spares → t.nodes ≡ s.nodes → KeepsCounts m (table_of t r)
-  KeepsCounts-moved moved spares made = let long = length-moved_to moved in grind (arith, length-capacity)
+  KeepsCounts-moved {t} moved spares made = KeepsCounts-table t (omega (arith, length-moved_to moved, spares)) made
 
   -- a value was written at p
   pub table_of-value : (p : Ptr) (w : V) → table_of (with_value s p w) r ≡ write m p w
-  table_of-value p w =
-      let count = sym (length-map (change_at p (revalued w) s.held) spot) ∙ ap length (spots-value p w s.held) ∙ length-map s.held spot in
-      grind (arith, entries-change_at)
+  table_of-value p w = let same = ap length (spots-value p w s.held) in grind (arith, length-map, entries-change_at)
 
-  pub WritesOnly-table : (p : Ptr) → ChangesOnly s.held p → WritesOnly m.held p
-  WritesOnly-table p alone = AtHeld-table p (λ xs t ys. (w : V) → change_at p (revalued w) m.held ≡ xs ++ revalued w t ∷ ys)
+  pub WritesOnly-table : {p : Ptr} → ChangesOnly s.held p → WritesOnly m.held p
+  WritesOnly-table {p} alone = AtHeld-table (λ xs t ys. (w : V) → change_at p (revalued w) m.held ≡ xs ++ revalued w t ∷ ys)
       (λ xs t ys e at w.
       ap (λ (z : TableState (K × V)). change_at p (revalued w) z.held) (sym seen) ∙ sym (entries-change_at p w s.held)
       ∙ ap entries (alone xs t ys e at (revalued w)) ∙ entries-append xs (revalued w t ∷ ys))
@@ -77,7 +91,6 @@ module _ {K V : Type 0} (s : State (K × V)) (r : ℕ) {m : TableState (K × V)}
 buckets-stay : (c d : ℕ) → c < d → d ≤ buckets c → buckets c ≡ buckets d
 buckets-stay c d up enough = grind (arith, buckets-raised, buckets-below)
 
--- tables after the calls of the ring and its index
 -- what a growth of the ring by some spare nodes leaves, if the chunks may have so many nodes
 pub record IsRingGrown {E B : Type 0} (s t : State B) (more most : ℕ) (result : Result (Unit {0}) E) : Type 0 where
   pub held : OnOk result (t.held ≡ s.held)
@@ -103,7 +116,7 @@ module _ {K V : Type 0} {i : BucketState} {s : State (K × V)} {r : ℕ} (table 
     spots_rekeyed = grind (arith, spots-rekeyed)
 
     pub length-rekeyed : length t.held ≡ length s.held
-    length-rekeyed = sym (length-map t.held spot) ∙ ap length spots_rekeyed ∙ length-map s.held spot
+    length-rekeyed = let same = ap length spots_rekeyed in grind (arith, length-map)
 
     pub IsTable-rekeyed : t.spares ≡ s.spares → t.nodes ≡ s.nodes → IsTable i t r
     IsTable-rekeyed spares made = grind (arith, length-rekeyed, IsIndexed-same_spots, spots_rekeyed)
@@ -128,10 +141,7 @@ module _ {K V : Type 0} {i : BucketState} {s : State (K × V)} {r : ℕ} (table 
       (more : w.spares ≡ t.spares + 1) (stay : w.nodes ≡ t.nodes) where
     pub length-with_spares : length s.held + s.spares ≡ length w.held + w.spares
     length-with_spares =
-        let h = lacks.held in
-        let out = ap length (others h.before h.node h.after h.is h.at_is) in
-        let of_rest = length-append h.before h.after in
-        let of_held = ap length h.is in
+        let h = lacks.held in let out = ap length (others h.before h.node h.after h.is h.at_is) in let of_held = ap length h.is in
         grind (arith, length-append, length-same_entries)
 
     pub IsTable-removed : length i'.heads ≡ length i.heads → IsTable i' w r
@@ -155,17 +165,10 @@ module _ {K V : Type 0} {i : BucketState} {s : State (K × V)} {r : ℕ} (table 
 
   -- it rises above the number of buckets: each node can be rehashed
   module _ (d : ℕ) (up : length s.held + s.spares < d) (few : length i.heads < d) where
-    buckets-differ : buckets (length s.held + s.spares) ≢ buckets d
-    buckets-differ e = let fits = buckets-at_least d in let count = table.indexed.count in absurd (omega (arith, few, count, e, fits))
-
     pub rechained-fits : r + length s.held ≤ buckets d
-    rechained-fits =
-        let count : length i.heads ≡ buckets (length s.held + s.spares) = table.indexed.count in
-        rechained-within r (length s.held) (length s.held + s.spares) d
-        (omega (arith, table.few, count)) (omega arith) (omega (arith, up)) buckets-differ
-
-    pub rechained_raised-moves : (len : ℕ) → rechained_raised r len (length s.held + s.spares) d ≡ r + len
-    rechained_raised-moves len = ap (λ b. cond b r (r + len)) (ne_eqb (buckets (length s.held + s.spares)) (buckets d) buckets-differ)
+    rechained-fits = rechained-within r (length s.held) (length s.held + s.spares) d
+        (omega (arith, table.few, table.indexed.count)) (omega arith) (omega (arith, up))
+        (λ e. absurd (omega (arith, few, table.indexed.count, e, buckets-at_least d)))
 
     -- the ring grew by some spare nodes, and each node was rehashed
     pub IsTable-raised : {i' : BucketState} {t w : State (K × V)} {most moved : ℕ} (more : ℕ) → t.held ≡ s.held → t.spares ≡ s.spares + more

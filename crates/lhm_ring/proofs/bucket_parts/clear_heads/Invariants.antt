@@ -1,4 +1,4 @@
-use Rattle.lhm_ring.proofs.Names.{None, get_or, map, vec_len, ℕ, ◌-◌, ◌<◌, ◌≡◌, leads_to, vec_capacity, vec_ptr}
+use Rattle.lhm_ring.proofs.Names.{None, get_or, leads_to, map, vec_capacity, vec_len, vec_ptr, ℕ, ◌-◌, ◌<◌, ◌≡◌}
 use Rattle.lhm_ring.proofs.bucket_parts.clear_heads.Given as goal
 
 abbrev pub invariant-heads : goal.invariant-heads

@@ -1,4 +1,4 @@
-use Rattle.lhm_ring.proofs.Names.{arith, map, refl, bits_of, length-map}
+use Rattle.lhm_ring.proofs.Names.{arith, bits_of, length-map, map, refl}
 use Rattle.lhm_ring.proofs.indexes.BucketHeads.{get_or-cleared, get_or-everywhere}
 use Rattle.lhm_ring.proofs.bucket_parts.clear_words.Goals as goal
 

@@ -1,4 +1,4 @@
-use Rattle.lhm_ring.proofs.Names.{List, None, arith, get_or, map, subst, sym, ℕ, ◌∙◌, ◌≡◌, leads_to, Head}
+use Rattle.lhm_ring.proofs.Names.{Head, List, None, arith, get_or, leads_to, map, subst, sym, ℕ, ◌∙◌, ◌≡◌}
 use Rattle.lhm_ring.proofs.indexes.BucketHeads.{get_or-pushed}
 use Rattle.lhm_ring.proofs.bucket_parts.fill_heads.Goals as goal
 

@@ -1,4 +1,4 @@
-use Rattle.lhm_ring.proofs.Names.{List, arith, get_or, map, refl, subst, sym, ℕ, ◌∙◌, ◌≡◌, bits_of, Word}
+use Rattle.lhm_ring.proofs.Names.{List, Word, arith, bits_of, get_or, map, refl, subst, sym, ℕ, ◌∙◌, ◌≡◌}
 use Rattle.lhm_ring.proofs.indexes.BucketHeads.{get_or-pushed}
 use Rattle.lhm_ring.proofs.bucket_parts.fill_words.Goals as goal
 

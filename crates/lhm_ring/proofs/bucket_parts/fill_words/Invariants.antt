@@ -1,4 +1,4 @@
-use Rattle.lhm_ring.proofs.Names.{get_or, map, vec_len, ℕ, ◌-◌, ◌≡◌, ◌≤◌, bits_of, vec_capacity, vec_ptr}
+use Rattle.lhm_ring.proofs.Names.{bits_of, get_or, map, vec_capacity, vec_len, vec_ptr, ℕ, ◌-◌, ◌≡◌, ◌≤◌}
 use Rattle.lhm_ring.proofs.bucket_parts.fill_words.Given as goal
 
 abbrev pub invariant-words : goal.invariant-words

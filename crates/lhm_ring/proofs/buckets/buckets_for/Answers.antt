@@ -1,4 +1,4 @@
-use Rattle.lhm_ring.proofs.Names.{ap, arith, sym, ◌∙◌, buckets}
+use Rattle.lhm_ring.proofs.Names.{ap, arith, buckets, sym, ◌∙◌}
 use Rattle.lhm_ring.proofs.indexes.BucketCounts.{buckets-least_power, buckets-zero}
 use Rattle.lhm_ring.proofs.buckets.buckets_for.Goals as goal
 

@@ -1,6 +1,6 @@
-use Rattle.lhm_ring.proofs.Names.{Some, arith, subst, sym, ◌-◌, ◌∙◌, HasRow, SparesRow}
-use Rattle.lhm_ring.proofs.{memory.BlockPointers.is_block-links_at, rings.Writes.IsAt-there}
+use Rattle.lhm_ring.proofs.Names.{HasRow, Some, SparesRow, arith, is_block, subst, sym, true, ◌-◌, ◌∙◌, ◌≡◌}
 use Rattle.lhm_ring.proofs.rings.SpareRows.{HasRow-next, SparesRow-done, SparesRow-step, is_there-row}
+use Rattle.lhm_ring.proofs.rings.{Lookup.AllByRecursion-at, Writes.IsAt-there}
 use Rattle.lhm_ring.proofs.drain.spare_row.Goals as goal
 
 pub links-requires : goal.links-requires
@@ -10,7 +10,8 @@ pub set_chain-requires : goal.set_chain-requires
 set_chain-requires g c = IsAt-there _ _ (is_there-row c.row-test.true c.row.invariant.row)
 
 pub to-spare-requires : goal.to-spare-requires
-to-spare-requires g c = is_block-links_at c.row.nodes.cells c.row.nodes.blocks c.row.at.ptr _ c.links.ensures
+to-spare-requires g c =
+    AllByRecursion-at (λ q. is_block q ≡ true) c.row.nodes.cells c.row.at.ptr _ c.row.nodes.blocks c.links.ensures
 
 pub row-preserved : goal.row-preserved
 row-preserved g c =

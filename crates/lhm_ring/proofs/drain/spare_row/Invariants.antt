@@ -1,4 +1,4 @@
-use Rattle.lhm_ring.proofs.Names.{List, Option, ◌≡◌, HasRow, SparesRow, Cell, target, Links, Ptr}
+use Rattle.lhm_ring.proofs.Names.{Cell, HasRow, Links, List, Option, Ptr, SparesRow, target, ◌≡◌}
 use Rattle.lhm_ring.proofs.drain.spare_row.Given as goal
 
 abbrev pub invariant-row : goal.invariant-row

@@ -1,6 +1,6 @@
-use Rattle.lhm_ring.proofs.Names.{ap, ◌∙◌, contents, triples}
+use Rattle.lhm_ring.proofs.Names.{ap, contents, triples, ◌∙◌}
 use Rattle.lhm_ring.proofs.rings.Splicing.{HasRow-ring, IsOwned-spliced, IsSpan-spliced, contents-joined, spared}
-use Rattle.lhm_ring.proofs.rings.{HeldPointers.pointers_of, RingCells.IsJoined-same, RingCells.is_there-nowhere, RingCells.led_to-none}
+use Rattle.lhm_ring.proofs.rings.{Contents.pointers_of, RingCells.IsJoined-same, RingCells.is_there-nowhere, RingCells.led_to-none}
 use Rattle.lhm_ring.proofs.drain.splice.Goals as goal
 
 pub spare_row-spare-requires : goal.spare_row-spare-requires

@@ -1,4 +1,4 @@
-use Rattle.lhm_ring.proofs.Names.{ap, arith, refl, subst, sym, ℕ, ◌+◌, ◌-◌, ◌<◌, ◌^◌, ◌∙◌, ◌≡◌, IsStacked, row}
+use Rattle.lhm_ring.proofs.Names.{IsStacked, ap, arith, refl, row, subst, sym, ℕ, ◌+◌, ◌-◌, ◌<◌, ◌^◌, ◌∙◌, ◌≡◌}
 use Rattle.lhm_ring.proofs.{memory.Places.row-less, memory.Places.row-none, rings.Stacking.IsStacked-none, rings.Stacking.IsStacked-push}
 use Rattle.lhm_ring.proofs.grow.make_spares.Goals as goal
 

@@ -1,4 +1,4 @@
-use Rattle.lhm_ring.proofs.Names.{◌-◌, ◌<◌, ◌^◌, ◌≡◌, ◌≤◌, IsStacked, row}
+use Rattle.lhm_ring.proofs.Names.{IsStacked, row, ◌-◌, ◌<◌, ◌^◌, ◌≡◌, ◌≤◌}
 use Rattle.lhm_ring.proofs.grow.make_spares.Given as goal
 
 abbrev pub invariant-each : goal.invariant-each

@@ -1,5 +1,4 @@
-use Rattle.lhm_ring.proofs.Names.{◌∙◌}
-use Rattle.lhm_ring.proofs.rings.{Writes.IsJoined-writes, Writes.is_there-leading_on}
+use Rattle.lhm_ring.proofs.{Names.◌∙◌, rings.Writes.IsJoined-writes, rings.Writes.is_there-leading_on}
 use Rattle.lhm_ring.proofs.links.join.Goals as goal
 
 pub set_prev-requires : goal.set_prev-requires

@@ -1,6 +1,6 @@
-use Rattle.lhm_ring.proofs.Names.{ap, subst, sym, ◌∙◌, prev_at, prev_of, ring_cells, IsAt}
+use Rattle.lhm_ring.proofs.Names.{IsAt, ap, prev_at, prev_of, ring_cells, subst, sym, ◌∙◌}
 use Rattle.lhm_ring.proofs.rings.RingCells.{IsAt-in_nodes, led_to-none, led_to-some, links_at-ring_cells, prev_at-null}
-use Rattle.lhm_ring.proofs.rings.{Writes.IsAt-there}
+use Rattle.lhm_ring.proofs.rings.Writes.{IsAt-there}
 use Rattle.lhm_ring.proofs.links.prev_of.Goals as goal
 
 pub links-requires : goal.links-requires

@@ -1,6 +1,6 @@
-use Rattle.lhm_ring.proofs.Names.{refl, subst, sym, LeadsOn, leading_on, ring_cells, IsAt}
+use Rattle.lhm_ring.proofs.Names.{IsAt, LeadsOn, leading_on, refl, ring_cells, subst, sym}
 use Rattle.lhm_ring.proofs.rings.RingCells.{IsAt-in_nodes, led_to-none, led_to-some, with_links-end, with_links-node}
-use Rattle.lhm_ring.proofs.rings.{Writes.IsAt-there}
+use Rattle.lhm_ring.proofs.rings.Writes.{IsAt-there}
 use Rattle.lhm_ring.proofs.links.set_next.Goals as goal
 
 pub links-links-requires : goal.links-links-requires

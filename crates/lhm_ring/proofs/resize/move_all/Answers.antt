@@ -1,4 +1,4 @@
-use Rattle.lhm_ring.proofs.Names.{[], ap, append_assoc, arith, length, refl, sym, ℕ, ◌++◌, ◌∙◌, ◌∷◌, triples}
+use Rattle.lhm_ring.proofs.Names.{[], ap, append_assoc, arith, length, refl, sym, triples, ℕ, ◌++◌, ◌∙◌, ◌∷◌}
 use Rattle.lhm_ring.proofs.rings.Ends.{First-first_at, first_held, length-removed, triples-first, triples-pushed}
 use Rattle.lhm_ring.proofs.resize.move_all.Goals as goal
 

@@ -1,4 +1,4 @@
-use Rattle.lhm_ring.proofs.Names.{length, ◌++◌, ◌+◌, ◌≡◌, triples}
+use Rattle.lhm_ring.proofs.Names.{length, triples, ◌++◌, ◌+◌, ◌≡◌}
 use Rattle.lhm_ring.proofs.resize.move_all.Given as goal
 
 abbrev pub invariant-each : goal.invariant-each

@@ -1,15 +1,14 @@
 -- `from_vec` keeps the memory of a vector. Assumes `Logic`.
-use Rattle.lhm_ring.proofs.Names.{[], length, refl, sym, ℕ, ◌++◌, ◌<◌, ◌^◌, ◌∙◌, ◌∷◌, ◌≡◌, Goes-blank, timeless, timeless_laws, leaves}
-use Rattle.lhm_ring.proofs.Names.{proved_at, lodged, SProp, fact, tables, no, layouts, param, RattleType, owns, plain, types_at, heard}
-use Rattle.lhm_ring.proofs.Names.{calls_at, alive, framed, Stays, stay_dropped, walk_of, inst_fn, Args, a_type, w64, Val, vint, alloc_all}
-use Rattle.lhm_ring.proofs.Names.{free_all, get, lands_as, look_at, pass_all, sets, !, await, by, fjoin, fsplit, given, keep, later, learn}
-use Rattle.lhm_ring.proofs.Names.{move, qed, raw, rewrite, split, use0, use1, ‵, ◌$◌, ◌∵◌, ◌⊛◌, agg, and_then, no_more, of_opd, returns}
-use Rattle.lhm_ring.proofs.{bucket_block.Elements.from_vec.Statement.statement, memory.NodeFields.marker}
+use Rattle.lhm_ring.proofs.Names.{ !, Args, RattleType, [], a_type, agg, alive, alloc_all, and_then, await, by, calls_at, fjoin, framed}
+use Rattle.lhm_ring.proofs.Names.{free_all, fsplit, get, given, id⊢, inst_fn, keep, lands_as, later, layouts, learn, length, lodged}
+use Rattle.lhm_ring.proofs.Names.{look_at, no, no_more, of_opd, owns, param, pass_all, raw, refl, returns, rewrite, sets, sym, tables}
+use Rattle.lhm_ring.proofs.Names.{timeless, timeless_laws, types_at, use0, use1, vint, w64, ‵, ℕ, ◌$◌, ◌++◌, ◌<◌, ◌^◌, ◌∙◌, ◌∷◌, ◌≡◌}
 use Rattle.lhm_ring.proofs.memory.ElementsOwned.{Field, Owner, elements_made}
 use Rattle.lhm_ring.proofs.memory.Lodging.{Dislodges, Lodging, at_dislodge, dislodge_gives, dislodge_goes, lodging_laws, tells}
-use Rattle.lhm_ring.proofs.memory.Steps.{all_spent, runs_with, states, states_also}
-use Rattle.lhm_ring.specs.contracts.bucket_block.Elements.from_vec.{clauses, ended, Key.name as #self}
+use Rattle.lhm_ring.proofs.memory.Steps.{all_spent, known, runs_at, used, walks, with_facts, ◌&◌}
+use Rattle.lhm_ring.proofs.{bucket_block.Elements.from_vec.Statement.statement, memory.NodeFields.marker}
 use denote.Param.Laws.{param_laws}
+use Rattle.lhm_ring.specs.contracts.bucket_block.Elements.from_vec.{clauses, ended, Key.name as #self}
 use Rattle.std_alloc.proofs.vec.lodged.Vec+T+Lodged.dislodge.Met as dislodge_met
 use Rattle.lhm_ring.proofs.bucket_block.Elements.from_vec.Code as code
 
@@ -18,18 +17,15 @@ from_vec_spec 𝓤 𝓛 𝓜 𝓡 wired X L =
     let H = 𝓛.H in let 𝓣 = tables 𝓤 H 𝓜 𝓡 𝓡.env in let args : Args = layouts (a_type ∷ []) (X, tt) in
     let R : RattleType = param 0 X in let V : RattleType = Lodging R in
     let En = ended X in let c = clauses X 𝓛 𝓜.mem 𝓡.returns in let fn = inst_fn args code.function in
-    let hs : Stays En.signature.params En.kept = (stay_dropped (plain (λ _. V)) no, tt) in
     let Called = Dislodges X 𝓛 𝓜.mem 𝓡.returns in
-    proved_at 𝓛 En hs c 𝓜 𝓡 (Goes-blank 𝓛 1 (plain (λ _. V)) no (λ κs x f. tt), tt)
-    (#self args) fn (code.unfolded 𝓤 H 𝓜 𝓡 wired (X, tt)) (λ y are.
-    let κs = y.0.0 in let a = y.0.3 in let vss = y.0.4 in let Post : Val → SProp 𝓤 = (walk_of 𝓛 En hs c).post y in
-    let d : V.Denot = a.0 in let Full : Type 0 = d.len ≡ d.cap in let n : ℕ = length d.items in
-    qed 𝓛 ((raw (alive 𝓛 En.signature κs y.0.1) ⊛ ‵ (owns (types_at En.signature.params κs) a vss)) ∷ raw (fact 𝓤 _) ∷ raw
-    (fact 𝓤 Full) ∷ []) ∵
-    keep ! (2 ∷ 0 ∷ []) $ heard ! Full (λ full. split ! $ move ! (1 ∷ []) $ fsplit ! $ keep ! (0 ∷ 2 ∷ []) $
+    walks 𝓛 En c 𝓡 (used 𝓛 1 V no (λ κs x f. tt) & tt) (#self args) fn
+    (code.unfolded 𝓤 H 𝓜 𝓡 wired (X, tt)) (λ κs qs _ a vss _ are Post leave.
+    let d : V.Denot = a.0 in let n : ℕ = length d.items in
+    known 𝓛 (raw (alive 𝓛 En.signature κs qs) ∷ []) (owns (types_at En.signature.params κs) a vss) (_ ∷ (d.len ≡ d.cap) ∷ []) (λ req.
+    let full = req.1.0 in fsplit ! $ keep ! (0 ∷ 2 ∷ []) $
     -- [the vector; what is alive]
     tells ! V (lodging_laws R (param_laws 0 X L)) d vss.0 (λ v ev gv.
-    runs_with ! 𝓣.C 𝓣.Λ fn Post (v ∷ []) (λ i. ev i ++ []) $
+    runs_at ! fn (v ∷ []) (λ i. ev i ++ []) $
     alloc_all ! (λ l. pass_all ! refl (gv, tt) $
     sets ! (of_opd ! (get ! refl)) refl gv $
     use1 𝓛 (raw (Called.pre (at_dislodge X 𝓛 𝓜.mem 𝓡.returns d v))) (dislodge_goes X 𝓛 𝓜.mem 𝓡.returns d v) $
@@ -44,6 +40,6 @@ from_vec_spec 𝓤 𝓛 𝓜 𝓡 wired X L =
     let out : (Owner R).Denot = record { marker = record {}; at = d.ptr; items = d.items } in
     use0 𝓛 (‵ ((Field R).own_val (record {}, tt) (marker ∷ []))) (elements_made R 𝓛) $ fjoin ! $
     -- [the elements; what is alive]
-    states ! (out.at ≡ d.ptr) refl $ states_also ! (out.items ≡ d.items) refl $ all_spent ! 1 $
-    returns ! (look_at ! 0 refl) $ free_all ! refl $ keep ! (3 ∷ 0 ∷ 2 ∷ 1 ∷ []) $ by !
-    (leaves 𝓛 En hs c y marker out (tt, tt) (tt, tt))))))))
+    all_spent ! 1 $
+    returns ! (look_at ! 0 refl) $ free_all ! refl $ keep ! (2 ∷ 0 ∷ 1 ∷ []) $
+    by ! (with_facts 𝓛 (_ ∷ _ ∷ []) (leave marker out (tt, tt)) (id⊢ 𝓤 _) (refl, (refl, tt)))))))))

@@ -1,6 +1,6 @@
 -- A `&` to it holds none of the values. Assumes `Logic`.
 use Rattle.lhm_ring.proofs.Names.{copy_shared, RattleType, MutRef, NamedLft, nothing_shr_laws, Lends-nothing, of_Lends}
-use Rattle.lhm_ring.proofs.content_loan.ContentLoan.TheLaw.Statement.{statement}
+use Rattle.lhm_ring.proofs.{content_loan.ContentLoan.TheLaw.Statement.statement}
 use denote.{Param.Laws.Laws, Struct.Laws.field_copy}
 use Rattle.std.specs.contracts.marker.PhantomData as marker
 use Rattle.lhm_ring.specs.contracts.nodes.Node as Node-type

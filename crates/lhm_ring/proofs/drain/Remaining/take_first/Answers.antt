@@ -1,4 +1,4 @@
-use Rattle.lhm_ring.proofs.Names.{ap, nil_from_length, sym, ◌∙◌, with_bodies, triples}
+use Rattle.lhm_ring.proofs.Names.{ap, nil_from_length, sym, triples, with_bodies, ◌∙◌}
 use Rattle.lhm_ring.proofs.memory.NodesWithBodies.{IsApart-with_bodies, body_at-with_bodies, links_at-with_bodies}
 use Rattle.lhm_ring.proofs.memory.NodesWithBodies.{with_bodies-without_body}
 use Rattle.lhm_ring.proofs.rings.Spans.{HasSpan-whole, Holds-first, IsAt-first, IsSpan-rest_of_first, triples-first_taken}

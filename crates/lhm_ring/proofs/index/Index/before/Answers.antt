@@ -1,6 +1,6 @@
-use Rattle.lhm_ring.proofs.Names.{None, ap, arith, get_or, sym, ◌++◌, ◌∙◌, ◌∷◌, is_some, pointer_of, pointer_of_some, target, linked_to}
+use Rattle.lhm_ring.proofs.Names.{None, ap, arith, get_or, is_some, linked_to, pointer_of, pointer_of_some, sym, target, ◌++◌, ◌∙◌, ◌∷◌}
 use Rattle.lhm_ring.proofs.indexes.NodeBefore.{IsHeld-towards, IsHeld-towards_cut, IsOnChain-towards, IsTowards-next, IsTowards-start}
-use Rattle.lhm_ring.proofs.indexes.NodeBefore.{State-equal, get_or-head, nodes-mended, passed-below}
+use Rattle.lhm_ring.proofs.indexes.NodeBefore.{get_or-head, nodes-mended, passed-below}
 use Rattle.lhm_ring.proofs.index.Index.before.Goals as goal
 
 pub position-here-requires : goal.position-here-requires
@@ -45,8 +45,8 @@ returns-clause-on_chain g c =
     (sym c.get.ensures ∙ ap pointer_of_some c.in_default.is)
 
 pub returns-clause-ring : goal.returns-clause-ring
-returns-clause-ring g c =
-    State-equal c.set_link-2.new.self c.args.ring.now
-    (nodes-mended c.chain.invariant.towards c.set_link-2.new.self.held c.set_link-2.ensures.held)
-    (c.set_link-2.ensures.spares ∙ c.chain.invariant.spares)
-    (c.set_link-2.ensures.nodes ∙ c.chain.invariant.nodes)
+returns-clause-ring g c = λ i. record {
+  held = nodes-mended c.chain.invariant.towards c.set_link-2.new.self.held c.set_link-2.ensures.held i;
+  spares = (c.set_link-2.ensures.spares ∙ c.chain.invariant.spares) i;
+  nodes = (c.set_link-2.ensures.nodes ∙ c.chain.invariant.nodes) i;
+}

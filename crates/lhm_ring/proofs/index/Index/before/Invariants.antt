@@ -1,4 +1,4 @@
-use Rattle.lhm_ring.proofs.Names.{length, ◌-◌, ◌≡◌, pointer_of, pointer_of_some, target}
+use Rattle.lhm_ring.proofs.Names.{length, pointer_of, pointer_of_some, target, ◌-◌, ◌≡◌}
 use Rattle.lhm_ring.proofs.indexes.NodeBefore.{IsTowards}
 use Rattle.lhm_ring.proofs.index.Index.before.Given as goal
 

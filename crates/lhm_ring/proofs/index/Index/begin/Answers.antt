@@ -1,4 +1,4 @@
-use Rattle.lhm_ring.proofs.Names.{None, Some, refl, sym, ◌∙◌, pointer_of}
+use Rattle.lhm_ring.proofs.Names.{None, Some, pointer_of, refl, sym, ◌∙◌}
 use Rattle.lhm_ring.proofs.indexes.Searches.{IsHeld-head, IsPart-first, IsPart-passed}
 use Rattle.lhm_ring.proofs.index.Index.begin.Goals as goal
 

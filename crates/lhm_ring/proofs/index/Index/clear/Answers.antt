@@ -1,4 +1,4 @@
-use Rattle.lhm_ring.proofs.Names.{subst, sym, ◌∙◌, Indexes, spots, nil_from_length}
+use Rattle.lhm_ring.proofs.Names.{Indexes, nil_from_length, spots, subst, sym, ◌∙◌}
 use Rattle.lhm_ring.proofs.indexes.WholeBuckets.{HasNoChain-indexed}
 use Rattle.lhm_ring.proofs.index.Index.clear.Goals as goal
 

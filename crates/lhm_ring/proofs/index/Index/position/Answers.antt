@@ -1,5 +1,4 @@
-use Rattle.lhm_ring.proofs.Names.{sym, ◌∙◌}
-use Rattle.lhm_ring.proofs.indexes.Filters.{LacksKey-uncovered}
+use Rattle.lhm_ring.proofs.{Names.sym, Names.◌∙◌, indexes.Filters.LacksKey-uncovered}
 use Rattle.lhm_ring.proofs.index.Index.position.Goals as goal
 
 pub returns-then-not-may_contain-clause-absent : goal.returns-then-not-may_contain-clause-absent

@@ -1,15 +1,13 @@
-use Rattle.lhm_ring.proofs.Names.{ap, arith, bit_or, get_or-set_other, length, map, refl, set, subst, sym, ◌%◌, ◌*◌, ◌/◌, ◌<◌, ◌^◌}
-use Rattle.lhm_ring.proofs.Names.{◌∙◌, BucketState, bits_of, leads_to, Head, Word}
-use Rattle.lhm_ring.proofs.indexes.BucketHeads.{BitsHaveChains-set, length-words, map-set_taken}
-use Rattle.lhm_ring.proofs.indexes.Filters.{SetsBit-written}
+use Rattle.lhm_ring.proofs.Names.{Head, Word, ap, arith, bit_or, bits_of, get_or-set_other, leads_to, length, length-map, map, map-set}
+use Rattle.lhm_ring.proofs.Names.{set, subst, sym, ◌%◌, ◌*◌, ◌/◌, ◌<◌, ◌^◌, ◌∙◌, ◌≡◌}
+use Rattle.lhm_ring.proofs.indexes.{BucketHeads.BitsHaveChains-set, Filters.SetsBit-written}
 use Rattle.std.proofs.Common.{rules}
 use Rattle.lhm_ring.proofs.index.Index.put_first.Goals as goal
 
 pub returns-clause-heads : goal.returns-clause-heads
 returns-clause-heads g c =
-    let head : Head = record { link = c.to.result } in
-    map-set_taken leads_to c.args.bucket head c.put.ensures.items c.take-heads.ensures.items
-    ∙ (λ i. set (c.self.view_is i).heads c.args.bucket (c.to.ensures i))
+    rw (c.put.ensures.items, c.take-heads.ensures.items, ← c.self.view_is, ← c.to.ensures)
+    (map-set leads_to c.self.inside.heads.items c.args.bucket (record { link = c.to.result }))
 
 pub invariant_of-self : goal.invariant_of-self
 invariant_of-self g c =
@@ -20,32 +18,24 @@ invariant_of-self g c =
     let b = c.args.bucket in
     let head : Head = record { link = c.to.result } in
     let word : Word = record { bits = bit_or (c.index-2.result.now).bits (1 * 2 ^ (c.args.hash / 2 ^ 60) % 2 ^ 16) } in
-    record {
-      heads_count = search rules;
-      words_count = search rules;
-      power = v.power;
-      small = v.small;
-      heads_at = search rules;
-      words_at = search rules;
-      behind_heads = search rules;
-      dealloc_count = v.dealloc_count;
-      dealloc_at = v.dealloc_at;
-      bits = rw (
-        map-set_taken leads_to b head c.put.ensures.items c.take-heads.ensures.items,
-        map-set_taken bits_of b word c.put-2.ensures.items c.take-words.ensures.items,
-      )
-          (BitsHaveChains-set hs ws b (leads_to head) (set ws b word.bits)
-          (subst (λ (z : BucketState). b < length z.heads) (sym c.self.view_is) c.requires.within)
-          (λ n away. get_or-set_other ws b n word.bits 0 away) (λ none. search rules) v.bits);
-    }
+    let bits = BitsHaveChains-set hs ws b (leads_to head) (set ws b word.bits)
+    (subst (λ z. b < length z.heads) (sym c.self.view_is) c.requires.within)
+    (λ n away. get_or-set_other ws b n word.bits 0 away) (λ none. search rules) v.bits in
+    search (rules, bits, map-set)
 
 pub returns-clause-words : goal.returns-clause-words
 returns-clause-words g c =
     let i = c.self.inside in
     let below : c.args.hash < 2 ^ 64 = c.ranges.hash.fits in
     let small : c.args.hash / 2 ^ 60 < 16 = omega arith in
-    let long = length-words i.heads.items i.words.items c.self.view_is c.self.invariant.heads_count c.self.invariant.words_count in
+    let seen = ap (λ z. length z.heads) c.self.view_is in
+    let long : length c.args.self.now.heads ≡ length (map bits_of i.words.items) = omega (
+      arith,
+      length-map i.heads.items leads_to,
+      length-map i.words.items bits_of,
+      c.self.invariant.heads_count,
+      c.self.invariant.words_count,
+    ) in
     rw (c.put-2.ensures.items, c.take-words.ensures.items, ← c.self.view_is)
-    (SetsBit-written i.words.items c.args.bucket c.args.hash (c.args.hash / 2 ^ 60)
-    (c.requires.of_hash ∙ ap (λ n. c.args.hash % n) long) (subst (λ n. c.args.bucket < n) long c.requires.within)
-    refl small (rw (← c.take-words.ensures.items) c.index-2.ensures))
+    (SetsBit-written i.words.items c.args.bucket c.args.hash (c.requires.of_hash ∙ ap (λ n. c.args.hash % n) long)
+    (subst (λ n. c.args.bucket < n) long c.requires.within) small (rw (← c.take-words.ensures.items) c.index-2.ensures))

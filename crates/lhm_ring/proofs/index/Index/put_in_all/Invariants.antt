@@ -1,4 +1,4 @@
-use Rattle.lhm_ring.proofs.{Names.length, Names.◌-◌, Names.◌≡◌, Names.pointer_of_some, indexes.IndexPuts.IsRehashing}
+use Rattle.lhm_ring.proofs.{Names.length, Names.pointer_of_some, Names.◌-◌, Names.◌≡◌, indexes.IndexPuts.IsRehashing}
 use Rattle.lhm_ring.proofs.index.Index.put_in_all.Given as goal
 
 abbrev pub invariant-loop-pointer : goal.invariant-loop-pointer

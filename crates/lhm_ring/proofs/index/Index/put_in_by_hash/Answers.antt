@@ -1,5 +1,5 @@
-use Rattle.lhm_ring.proofs.Names.{None, Some, ap, get_or, length, set, subst, sym, ℕ, ◌%◌, ◌++◌, ◌∙◌, ◌∷◌, SetsBit, pointer_of}
-use Rattle.lhm_ring.proofs.{Names.linked_to, indexes.IndexPuts.Indexes-put_first}
+use Rattle.lhm_ring.proofs.Names.{None, SetsBit, Some, ap, get_or, length, linked_to, pointer_of, set, subst, sym, ◌%◌, ◌++◌, ◌∙◌, ◌∷◌}
+use Rattle.lhm_ring.proofs.indexes.IndexPuts.{Indexes-put_first}
 use Rattle.lhm_ring.proofs.index.Index.put_in_by_hash.Goals as goal
 
 pub returns-clause-first : goal.returns-clause-first
@@ -11,7 +11,7 @@ returns-clause-first g c = λ before x after e at.
       nodes_is = c.set_link.ensures.held before x after e at
           ∙ ap (λ o. before ++ linked_to o x ∷ after) (c.put_first-behind.ensures.old ∙ ap (λ b. get_or heads b None) bucket);
       heads_is = c.put_first-behind.ensures.heads ∙ (λ i. set heads (bucket i) (Some (sym at i)));
-      words_is = subst (λ (h : ℕ). SetsBit c.args.self.now.words c.put_first-behind.new.self.words h) own c.put_first-behind.ensures.words;
+      words_is = subst (λ h. SetsBit c.args.self.now.words c.put_first-behind.new.self.words h) own c.put_first-behind.ensures.words;
     }
 
 pub returns-clause-indexed : goal.returns-clause-indexed

@@ -1,4 +1,4 @@
-use Rattle.lhm_ring.proofs.Names.{ap, arith, ◌∙◌, pointer_of_some}
+use Rattle.lhm_ring.proofs.Names.{ap, arith, pointer_of_some, ◌∙◌}
 use Rattle.lhm_ring.proofs.indexes.Searches.{FindsKey-part, FindsNone-part, IsHeld-part, IsPart-more, visited-below}
 use Rattle.lhm_ring.proofs.index.Index.search_on.Goals as goal
 

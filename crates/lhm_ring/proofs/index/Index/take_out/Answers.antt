@@ -1,4 +1,4 @@
-use Rattle.lhm_ring.proofs.{Names.sym, Names.◌∙◌, Names.pointer_of, indexes.Entries.HasKey-kept, indexes.Filters.LacksKey-uncovered}
+use Rattle.lhm_ring.proofs.{Names.pointer_of, Names.sym, Names.◌∙◌, indexes.Entries.HasKey-kept, indexes.Filters.LacksKey-uncovered}
 use Rattle.lhm_ring.proofs.index.Index.take_out.Goals as goal
 
 pub returns-then-not-may_contain-clause-absent : goal.returns-then-not-may_contain-clause-absent

@@ -1,7 +1,6 @@
-use Rattle.lhm_ring.proofs.Names.{List, Option, ap, set, subst, sym, ◌∙◌, pointer_of, pointer_of_some, target, Ptr}
-use Rattle.lhm_ring.proofs.indexes.{Entries.entries-linked_to, IndexTakes.IsHeld-on_chain}
-use Rattle.lhm_ring.proofs.indexes.IndexTakes.{HasOtherChains, HasOtherChains-take_first, HasOtherChains-take_next, IsHeld-before}
-use Rattle.lhm_ring.proofs.indexes.WholeBuckets.{HoldsOthers-head, HoldsOthers-next, SetsHead}
+use Rattle.lhm_ring.proofs.Names.{ap, pointer_of, pointer_of_some, target}
+use Rattle.lhm_ring.proofs.indexes.IndexTakes.{HasOtherChains-take_first, HasOtherChains-take_next, IsHeld-before, IsHeld-on_chain}
+use Rattle.lhm_ring.proofs.indexes.{Entries.entries-linked_to, WholeBuckets.HoldsOthers-head, WholeBuckets.HoldsOthers-next}
 use Rattle.lhm_ring.proofs.index.Index.unchain.Goals as goal
 
 pub links-requires : goal.links-requires
@@ -26,17 +25,7 @@ returns-in-Some-clause-lacks g c =
 
 pub returns-in-None-clause-lacks : goal.returns-in-None-clause-lacks
 returns-in-None-clause-lacks g c =
-    let heads = c.args.self.now.heads in
-    let link = target c.links.result.now.link in
     let new = c.set_head.ensures in
-    let chains = HasOtherChains-take_first c.requires.on_chain (ap pointer_of_some c.in-None.is)
-    c.requires.indexed.chains c.links.ensures.link in
-    let sets : SetsHead c.args.self.now c.set_head.new.self c.bucket_of.result link = record {
-      within = c.bucket_of.ensures.within;
-      heads = new.heads;
-      same = new.same;
-      cleared = new.cleared;
-    } in
-    HoldsOthers-head sets c.requires.indexed
-    (subst (λ (hs : List (Option Ptr)). HasOtherChains hs c.args.ring.now.held (pointer_of c.args.found.at))
-    (sym (new.heads ∙ ap (λ b. set heads b link) c.bucket_of.ensures.of_hash)) chains)
+    HoldsOthers-head c.args.self.now c.set_head.new.self c.bucket_of.result (target c.links.result.now.link) c.bucket_of.ensures.within
+    new.heads new.same new.cleared c.requires.indexed.count c.requires.indexed.covers (rw (new.heads, c.bucket_of.ensures.of_hash)
+    (HasOtherChains-take_first c.requires.on_chain (ap pointer_of_some c.in-None.is) c.requires.indexed.chains c.links.ensures.link))

@@ -1,6 +1,5 @@
-use Rattle.lhm_ring.proofs.Names.{ap, sym, ◌∙◌, span}
 use Rattle.lhm_ring.proofs.rings.Spans.{HasSpan-behind_first, Holds-first, IsAt-first, span-first}
-use Rattle.lhm_ring.proofs.rings.{IteratorSteps.Some-both}
+use Rattle.lhm_ring.proofs.{Names.ap, Names.span, Names.sym, Names.◌∙◌, rings.IteratorSteps.Some-both}
 use Rattle.lhm_ring.proofs.iter.Iter.step.Goals as goal
 
 pub returns-then-self-eq0 : goal.returns-then-self-eq0

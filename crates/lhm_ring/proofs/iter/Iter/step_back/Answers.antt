@@ -1,6 +1,5 @@
-use Rattle.lhm_ring.proofs.Names.{ap, sym, ◌∙◌, span}
-use Rattle.lhm_ring.proofs.rings.Spans.{HasSpan-ahead_of_last, Holds-last, IsAt-last, span-last}
-use Rattle.lhm_ring.proofs.rings.{IteratorSteps.Some-both}
+use Rattle.lhm_ring.proofs.Names.{ap, span, sym, ◌∙◌}
+use Rattle.lhm_ring.proofs.rings.{IteratorSteps.Some-both, Spans.HasSpan-ahead_of_last, Spans.Holds-last, Spans.IsAt-last, Spans.span-last}
 use Rattle.lhm_ring.proofs.iter.Iter.step_back.Goals as goal
 
 pub returns-then-self-eq0 : goal.returns-then-self-eq0

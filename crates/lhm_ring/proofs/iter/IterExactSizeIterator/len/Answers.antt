@@ -1,5 +1,4 @@
-use Rattle.lhm_ring.proofs.Names.{ap, length, ◌∙◌}
-use Rattle.lhm_ring.proofs.rings.{Spans.length-span}
+use Rattle.lhm_ring.proofs.{Names.ap, Names.length, Names.◌∙◌, rings.Spans.length-span}
 use Rattle.lhm_ring.proofs.iter.IterExactSizeIterator.len.Goals as goal
 
 pub returns-clause-value : goal.returns-clause-value

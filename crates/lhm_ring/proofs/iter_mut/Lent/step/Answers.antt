@@ -1,5 +1,5 @@
-use Rattle.lhm_ring.proofs.Names.{ap, subst, sym, ◌∙◌, ◌∷◌, AreLent}
-use Rattle.lhm_ring.proofs.rings.{IteratorSteps.Some-unique, IteratorSteps.value_at-first_lent}
+use Rattle.lhm_ring.proofs.Names.{AreLent, ap, subst, sym, ◌∙◌, ◌∷◌}
+use Rattle.lhm_ring.proofs.rings.IteratorSteps.{Some-unique, value_at-first_lent}
 use Rattle.lhm_ring.proofs.iter_mut.Lent.step.Goals as goal
 
 pub take-requires : goal.take-requires

@@ -1,24 +1,23 @@
 -- `add_chunk` writes the head of a chunk, and cuts the rest into places. Assumes `Logic`.
-use Rattle.lhm_ring.proofs.Names.{List, [], ap, arith, refl, subst, sym, true, ℕ, ◌*◌, ◌++◌, ◌+◌, ◌<◌, ◌^◌, ◌∙◌, ◌∷◌, ◌≡◌, Chunk, IsChunk}
-use Rattle.lhm_ring.proofs.Names.{IsUnit, chunk, chunk_token, chunk_type, chunk_units, head_owns, head_type, is_block, node_bytes, pointers}
-use Rattle.lhm_ring.proofs.Names.{row, as_written, word, word-Good, word_ty, after, Goes-blank, one_below, leaves, proved_at, array_of}
-use Rattle.lhm_ring.proofs.Names.{type_size, flft, froom, fsep, ftrue, fwand, SProp, id⊢, snd∗, via, fact, tables, usize, no, yes, layouts}
-use Rattle.lhm_ring.proofs.Names.{param, RattleType, owns, Ptr, block_ptr, in_a_block, ptr_val, room_for, plain, types_at, closes, heard}
-use Rattle.lhm_ring.proofs.Names.{opens, as_fields, Goes-dropped, Goes-ref, Stays, stay_dropped, stay_ref, walk_of, inst_fn, Args, Ty}
-use Rattle.lhm_ring.proofs.Names.{a_type, ty_array, ty_int, w64, Val, vcons, vint, vnil, vptr, vstruct, size-raw, alloc_all, env, free_all}
-use Rattle.lhm_ring.proofs.Names.{get, get_in, is, look_at, pass_all, sets, sets_last, through, !, at_ret, by, feq_i, feq_l, fjoin, fjoin3}
-use Rattle.lhm_ring.proofs.Names.{flt_l, fpack, fsplit, fsplit3, join, keep, move, qed, raw, rewrite, split, use0, use1, use2, ‵, ◌$◌, ◌∵◌}
-use Rattle.lhm_ring.proofs.Names.{◌⊛◌, sem, agg, sub, whole, and_then, assigns_last, bin, blocks, exec, first, fld, init, lit, no_more}
-use Rattle.lhm_ring.proofs.{lists.ForAll.AllByRecursion-append, memory.PlaceCut.written, nodes.Nodes.add_chunk.Statement.statement}
+use Rattle.lhm_ring.proofs.Names.{ !, Args, Chunk, IsChunk, IsUnit, List, Ptr, RattleType, SProp, Ty, Val, [], a_type, agg, alloc_all}
+use Rattle.lhm_ring.proofs.Names.{and_then, ap, arith, as_fields, as_written, assigns, bin, block_ptr, by, chunk, chunk_token, chunk_type}
+use Rattle.lhm_ring.proofs.Names.{chunk_units, closes, feq_i, feq_l, fjoin, fjoin3, fld, flt_l, fpack, free_all, froom, fsep, fsplit}
+use Rattle.lhm_ring.proofs.Names.{fsplit3, ftrue, fwand, get, get_in, head_owns, head_type, id⊢, in_a_block, init, inst_fn, is, is_block}
+use Rattle.lhm_ring.proofs.Names.{join, keep, layouts, lit, look_at, move, no, no_more, node_bytes, of_opd, one_below, opens, owns, param}
+use Rattle.lhm_ring.proofs.Names.{pass_all, pointers, ptr_val, refl, returns, rewrite, room_for, row, sem, sets, size-raw, snd∗, split}
+use Rattle.lhm_ring.proofs.Names.{stop, sub, subst, sym, tables, through, true, ty_array, ty_int, type_size, types_at, use0, use1, use2}
+use Rattle.lhm_ring.proofs.Names.{usize, vcons, via, vint, vnil, vptr, vstruct, w64, whole, word, word-Good, word_ty, yes, ‵, ℕ, ◌$◌, ◌*◌}
+use Rattle.lhm_ring.proofs.Names.{◌++◌, ◌+◌, ◌<◌, ◌^◌, ◌∙◌, ◌∷◌, ◌≡◌, ◌⊛◌}
 use Rattle.lhm_ring.proofs.memory.BlockValues.{BlockType, block_Good, block_known, block_val, pointer_made}
 use Rattle.lhm_ring.proofs.memory.ChunkPlaces.{Places, array_cut, land_cut, land_glue, places_glue}
 use Rattle.lhm_ring.proofs.memory.NodeFields.{Cells, Land, Nr, Pl, RK, RL, RV, Three, three_rows, two_made, word-pointer}
-use Rattle.lhm_ring.proofs.memory.Steps.{knows, runs_with, self_left, states, states_also, tokens}
-use Rattle.lhm_ring.proofs.{Names.of_opd, Names.returns, Names.stop, memory.ChunkParts.chunk-bytes, memory.ChunkParts.chunk_parts}
-use Rattle.lhm_ring.proofs.{memory.Places.AreBlocks-row, memory.Places.nat_lt-near, memory.Places.row-more}
-use Rattle.lhm_ring.specs.{Nodes.parts_own, contracts.nodes.ChunkUnit.the_row as unit, contracts.nodes.Node.the_row as node}
-use Rattle.lhm_ring.specs.contracts.nodes.Nodes.add_chunk.{clauses, ended, Key.name as #self}
+use Rattle.lhm_ring.proofs.memory.Places.{AreBlocks-row, nat_lt-near, row-more}
+use Rattle.lhm_ring.proofs.memory.Steps.{gone, kept, known, knows, lives, runs_at, self_left, unblocks, unblocks_more, used, walks}
+use Rattle.lhm_ring.proofs.memory.{ChunkParts.chunk-bytes, ChunkParts.chunk_parts, PlaceCut.written, Steps.with_facts, Steps.◌&◌}
+use Rattle.lhm_ring.proofs.{lists.ForAll.AllByRecursion-append, nodes.Nodes.add_chunk.Statement.statement}
 use Rattle.std.{proofs.GlobalToken.dealloc_token_start, specs.contracts.impls.GlobalAllocator.TheImpl.ghosts}
+use Rattle.lhm_ring.specs.{Nodes.parts_own, contracts.nodes.Node.the_row as node}
+use Rattle.lhm_ring.specs.contracts.nodes.Nodes.add_chunk.{clauses, ended, Key.name as #self}
 use Rattle.std.specs.contracts.alloc.Global as heap
 use Rattle.lhm_ring.proofs.nodes.Nodes.add_chunk.Code as code
 
@@ -29,42 +28,22 @@ add_chunk_spec 𝓤 𝓛 𝓜 𝓡 wired L K V U LL LK LV LU =
     let four : Args = layouts (a_type ∷ a_type ∷ a_type ∷ a_type ∷ []) (L, (K, (V, (U, tt)))) in
     let En = ended L K V U in let c = clauses L K V U 𝓛 𝓜.mem 𝓡.returns in let fn = inst_fn four code.function in
     let Row : RattleType = param 3 U in let Block : RattleType = BlockType Row heap.the_row ghosts in
-    let hs : Stays En.signature.params En.kept = (
-      stay_ref (0 ∷ []) tt (plain (λ _. N)),
-      (
-        stay_dropped (plain (λ _. Block)) no,
-        (stay_dropped (plain (λ _. Pl)) yes, (stay_dropped (plain (λ _. usize)) yes, tt)),
-      ),
-    ) in
-    proved_at 𝓛 En hs c 𝓜 𝓡 (
-      Goes-ref 𝓛 5 0 tt (plain (λ _. N)),
-      (
-        Goes-blank 𝓛 5 (plain (λ _. Block)) no (λ κs x f. tt),
-        (
-          Goes-dropped 𝓛 5 (plain (λ _. Pl)) yes (λ κs x f. refl),
-          (Goes-dropped 𝓛 5 (plain (λ _. usize)) yes (λ κs x f. refl), tt),
-        ),
-      ),
-    )
-    (#self four) fn (code.unfolded 𝓤 H 𝓜 𝓡 wired (L, (K, (V, (U, tt))))) (λ y are.
-    let κs = y.0.0 in let qs = y.0.1 in let a = y.0.3 in let vss = y.0.4 in let Post : Val → SProp 𝓤 = (walk_of 𝓛 En hs c).post y in
+    walks 𝓛 En c 𝓡
+    (kept 𝓛 5 tt (λ _. N) & used 𝓛 5 Block no (λ κs x f. tt) & gone 𝓛 5 Pl yes (λ κs x f. refl) & gone 𝓛 5 usize yes (λ κs x f. refl) & tt)
+    (#self four) fn (code.unfolded 𝓤 H 𝓜 𝓡 wired (L, (K, (V, (U, tt))))) (λ κs qs _ a vss _ are Post leave.
     let rb : ℕ = a.0.ref_ptr.0 in let ro : ℕ = a.0.ref_ptr.1 in let h : N.Denot = a.0.now in
     let given = a.1.0 in let q : Ptr = a.1.1.0.ptr in let n : ℕ = a.1.1.1.0 in let s : ℕ = h.node_bytes in
     let m : ℕ = chunk_units R S W n in
     let Unit_ : Type 0 = IsUnit R S W Row in
     let Asked : Type 0 = IsChunk R S W n × (given.count ≡ m) in
-    qed 𝓛 (((‵ (flft κs.0 qs.0) ⊛ ‵ (tokens 4 κs.1 qs.1)) ⊛ ‵
-    (owns (types_at En.signature.params κs) a vss)) ∷ raw (fact 𝓤 _) ∷ raw (fact 𝓤 _) ∷ raw
-    (fact 𝓤 _) ∷ raw (fact 𝓤 _) ∷ raw (fact 𝓤 Unit_) ∷ raw (fact 𝓤 Asked) ∷ []) ∵
-    keep ! (5 ∷ 6 ∷ 0 ∷ []) $ heard ! Unit_ (λ same. heard ! Asked (λ asked. split ! $ split ! $ move ! (2 ∷ []) $ fsplit3 ! $
+    known 𝓛 (lives 4 κs qs) (owns (types_at En.signature.params κs) a vss) (_ ∷ _ ∷ _ ∷ _ ∷ Unit_ ∷ Asked ∷ []) (λ req.
+    let same = req.1.1.1.1.0 in let asked = req.1.1.1.1.1.0 in fsplit3 ! $
     fsplit3 ! $ keep ! (3 ∷ 1 ∷ 2 ∷ 5 ∷ 6 ∷ []) $
     -- [the block; self, in two; its token; the other tokens]
     block_known Row heap.the_row ghosts ! given vss.1.0 (λ told.
     fsplit3 ! $ flt_l ! (λ fit. move ! (1 ∷ []) $
-    rewrite ! 0 (λ (τ : Ty). ‵ (room_for (ty_array τ given.count) given.ptr)) same refl $
-    rewrite ! 0 (λ (k : ℕ). ‵ (room_for (array_of (unit R S W) k) given.ptr)) asked.1 refl $
-    rewrite ! 1 (λ (τ : Ty). ‵ (chunk_token (ty_array τ given.count) given.ptr)) same refl $
-    rewrite ! 1 (λ (k : ℕ). ‵ (chunk_token (array_of (unit R S W) k) given.ptr)) asked.1 refl $
+    rewrite ! 0 (λ (z : Ty × ℕ). ‵ (room_for (ty_array z.0 z.1) given.ptr)) (λ i. (same i, asked.1 i)) refl $
+    rewrite ! 1 (λ (z : Ty × ℕ). ‵ (chunk_token (ty_array z.0 z.1) given.ptr)) (λ i. (same i, asked.1 i)) refl $
     in_a_block ! given.ptr (λ r. room_for (chunk_type R S W n) r) (id⊢ 𝓤 _) (λ b o e. let p : Ptr = block_ptr b o in
     rewrite ! 1 (λ (r : Ptr). ‵ (chunk_token (chunk_type R S W n) r)) e refl $
     let token : SProp 𝓤 = sem 𝓛 (chunk_token (chunk_type R S W n) p) in
@@ -79,22 +58,20 @@ add_chunk_spec 𝓤 𝓛 𝓜 𝓡 wired L K V U LL LK LV LU =
     -- token; the other tokens]
     let f₆₄ : n < 2 ^ 64 = are.1.1.1.0.1 in
     let good = as_fields (word_ty [] ∷ ty_int w64 ∷ []) (word q ∷ vint w64 n ∷ []) (word-Good [] q, ((tt, record { fits = f₆₄ }), tt)) in
-    runs_with ! 𝓣.C 𝓣.Λ fn Post (vptr rb ro ∷ block_val given.ptr ∷ word q ∷ vint w64 n ∷ [])
+    runs_at ! fn (vptr rb ro ∷ block_val given.ptr ∷ word q ∷ vint w64 n ∷ [])
     (λ i. are.0.0 i ++ (told i ++ (word-pointer a.1.1.0 vss.1.1.0 are.1.1.0 i ++ (are.1.1.1.0.0 i ++ [])))) $
     alloc_all ! (λ l. pass_all ! refl ((tt, tt), (block_Good given.ptr, (word-Good [] q, ((tt, record { fits = f₆₄ }), tt)))) $
-    let Ev = env fn.locals l in
     sets ! (is ! (of_opd ! (get_in ! (fld ! refl (stop !)) (sub ! 0 refl (whole !))))
     (ap ptr_val e)) refl (tt, tt) $ sets ! (of_opd ! (get ! refl)) refl (tt, tt) $ sets ! (of_opd ! (get ! refl)) refl (tt, tt) $
-    first ! $ blocks ! $ sets ! (of_opd ! (get ! refl)) refl (tt, tt) $ sets ! (of_opd ! (get ! refl)) refl (word-Good [] q) $
-    sets ! (of_opd ! (get ! refl)) refl (tt, record { fits = f₆₄ }) $
-    sets ! (agg ! (and_then ! (get ! refl) (and_then ! (get ! refl) (no_more !)))) refl good $
-    assigns_last ! (of_opd ! (get ! refl)) (through ! refl (stop !)) (init ! 0 refl good) $
-    exec ! 𝓣.C 𝓣.Λ Ev (after 4 fn.body) (at_ret Ev Post) $
+    unblocks_more ! $ sets ! (of_opd ! (get ! refl)) refl (tt, tt) $
+    unblocks_more ! $ sets ! (of_opd ! (get ! refl)) refl (word-Good [] q) $
+    unblocks_more ! $ sets ! (of_opd ! (get ! refl)) refl (tt, record { fits = f₆₄ }) $
+    unblocks_more ! $ sets ! (agg ! (and_then ! (get ! refl) (and_then ! (get ! refl) (no_more !)))) refl good $
+    unblocks ! $ assigns ! (of_opd ! (get ! refl)) (through ! refl (stop !)) (init ! 0 refl good) $
     sets ! (of_opd ! (get ! refl)) refl (tt, tt) $ sets ! (of_opd ! (get ! refl)) refl (tt, tt) $
     sets ! (agg ! (and_then ! (get ! refl) (no_more !))) refl (word-Good [] p) $
-    first ! $ blocks ! $ sets ! (of_opd ! (get ! refl)) refl (tt, tt) $
-    sets_last ! (is ! (bin ! (get ! refl) (lit ! tt) tt) (ap (λ (k : ℕ). vptr b k) turned)) refl (tt, tt) $
-    exec ! 𝓣.C 𝓣.Λ Ev (after 8 fn.body) (at_ret Ev Post) $
+    unblocks_more ! $ sets ! (of_opd ! (get ! refl)) refl (tt, tt) $
+    unblocks ! $ sets ! (is ! (bin ! (get ! refl) (lit ! tt) tt) (ap (λ (k : ℕ). vptr b k) turned)) refl (tt, tt) $
     sets ! (of_opd ! (get ! refl)) refl (tt, tt) $ sets ! (of_opd ! (get ! refl)) refl (tt, tt) $
     sets ! (agg ! (and_then ! (get ! refl) (no_more !))) refl (word-Good [] place) $
     sets ! (of_opd ! (get ! refl)) refl (word-Good [] p) $ sets ! (of_opd ! (get ! refl)) refl (word-Good [] place) $
@@ -123,12 +100,7 @@ add_chunk_spec 𝓤 𝓛 𝓜 𝓡 wired L K V U LL LK LV LU =
     move ! (8 ∷ 10 ∷ 9 ∷ []) $ fjoin3 ! $
     fpack ! (IsChunk R S W n × (n < 2 ^ 64)) (λ _. fsep (head_owns p q n) (fsep (chunk_token (chunk_type R S W n) p) Back)) (asked.0, f₆₄) $
     move ! (0 ∷ 2 ∷ []) $ fjoin ! $ move ! (1 ∷ 0 ∷ []) $ fjoin ! $ feq_i ! ℕ s (node_bytes R S W) sized $ fjoin ! $
-    let h' : N.Denot = record {
-      marker = h.marker;
-      cells = h.cells;
-      apart = h.apart;
-      blocks = h.blocks;
-      node_bytes = s;
+    let h' : N.Denot = record h {
       unused = us';
       chunks = one ∷ h.chunks;
       unused_blocks = AllByRecursion-append (λ r. is_block r ≡ true) new h.unused
@@ -143,8 +115,6 @@ add_chunk_spec 𝓤 𝓛 𝓜 𝓡 wired L K V U LL LK LV LU =
     use0 𝓛 (‵ (Pl.own_val (record { ptr = place }) (word place ∷ []))) (pointer_made 𝓛 place) $
     use0 𝓛 (‵ (Pl.own_val (record { ptr = p }) (word p ∷ []))) (pointer_made 𝓛 p) $
     two_made ! Pl Pl (record { ptr = p }) (record { ptr = place }) (word p) (word place) $
-    states ! (is_block p ≡ true) near_p $ states_also ! (h'.chunks ≡ h'.chunks) refl $
-    states_also ! (us' ≡ us') refl $
-    states_also ! ((s ≡ s) × (s < 2 ^ 63)) (refl, low) $ states_also ! (h.cells ≡ h.cells) refl $
-    returns ! (look_at ! 0 refl) $ free_all ! refl $ keep ! (2 ∷ 3 ∷ 1 ∷ 0 ∷ []) $ by !
-    (leaves 𝓛 En hs c y out (record { ptr = p }, (record { ptr = place })) (h', (tt, (tt, (tt, tt)))) (tt, (tt, (tt, (tt, tt)))))))))))))))
+    returns ! (look_at ! 0 refl) $ free_all ! refl $ keep ! (1 ∷ 2 ∷ 0 ∷ []) $
+    by ! (with_facts 𝓛 (_ ∷ _ ∷ _ ∷ _ ∷ _ ∷ []) (leave out (record { ptr = p }, (record { ptr = place })) (h', (tt, (tt, (tt, tt)))))
+    (id⊢ 𝓤 _) (refl, ((refl, low), (refl, (refl, (near_p, tt)))))))))))))))

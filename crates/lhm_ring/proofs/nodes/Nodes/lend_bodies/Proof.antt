@@ -1,20 +1,19 @@
 -- `lend_bodies` shares the nodes as nodes of holes, and lends what they hold. Assumes `Logic`.
-use Rattle.lhm_ring.proofs.Names.{◌∷◌, cleared_nodes, ContentLoan, Incl-trans, Goes-spent_ref, stay_dropped, takes_beside, Body as Borrowed}
-use Rattle.lhm_ring.proofs.Names.{bodies_of, after, proved_at, Incl-refl, RattleType, mut_ref_to, named_lft, types_at, alloc_all, sets_last}
-use Rattle.lhm_ring.proofs.Names.{◌≡◌, seconds, follows, nothing, walk_of, inst_fn, vstruct, free_all, look_at, pass_all, through, and_then}
-use Rattle.lhm_ring.proofs.Names.{Option, bodies, firsts, leaves, tables, MutBor, MutRef, ShrRef, at_ret, fjoin3, fsplit3, no_more, returns}
-use Rattle.lhm_ring.proofs.Names.{Fml, fauth, fseps, ftrue, SProp, plain, heard, opens, Stays, named, vcons, fsplit, split3, blocks, of_opd}
-use Rattle.lhm_ring.proofs.Names.{Lft, fact, hide, owns, vnil, vptr, sets, join, keep, move, pick, some, use0, use1, use2, use3, addr, exec}
-use Rattle.lhm_ring.proofs.Names.{List, refl, ◌++◌, fbor, flft, fobs, fsep, await, feq_i, fjoin, fpack, group, later, split, first, SemTy}
-use Rattle.lhm_ring.proofs.Names.{[], ℕ, emp, id⊢, ◌⊑◌, no, mem, Ptr, Bor, Val, env, get, !, by, qed, raw, ‵, ◌$◌, ◌∵◌, ◌⊛◌, agg, stop}
+use Rattle.lhm_ring.proofs.Names.{ !, Bor, Fml, Lft, List, MutBor, MutRef, Option, Ptr, RattleType, SemTy, ShrRef, Val, [], addr, agg, ◌⊛◌}
+use Rattle.lhm_ring.proofs.Names.{alloc_all, and_then, await, bodies, by, emp, fact, fauth, fbor, feq_i, firsts, fjoin, fjoin3, flft, fobs}
+use Rattle.lhm_ring.proofs.Names.{follows, fpack, free_all, fsep, fseps, fsplit, fsplit3, ftrue, get, group, heard, hide, id⊢, inst_fn}
+use Rattle.lhm_ring.proofs.Names.{join, keep, later, look_at, mem, move, mut_ref_to, named, named_lft, no, no_more, nothing, of_opd, opens}
+use Rattle.lhm_ring.proofs.Names.{owns, pass_all, pick, plain, qed, raw, refl, returns, seconds, sets, some, split, split3, stop, tables}
+use Rattle.lhm_ring.proofs.Names.{through, types_at, use0, use1, use2, use3, vcons, vnil, vptr, vstruct, ‵, ℕ, ◌$◌, ◌++◌, ◌∵◌, ◌≡◌, ◌⊑◌}
 use Rattle.lhm_ring.proofs.memory.ContentsSplitOff.{Anchor, BareRow, ContentMarker, Fields, HS, HW, Holed, LentBodies, Shares-bare}
-use Rattle.lhm_ring.proofs.memory.ContentsSplitOff.{anchor_made, back, content_loan_made, contents_cut, fields_made, stems, three_made}
+use Rattle.lhm_ring.proofs.memory.ContentsSplitOff.{anchor_made, back, content_loan_made, contents_cut, fields_made, stems}
 use Rattle.lhm_ring.proofs.memory.NodeFields.{Land, Nr, RK, RL, RV, Three, args, marker, three_rows}
-use Rattle.lhm_ring.proofs.memory.Steps.{all_spent, runs_with, states, states_also, tokens}
-use Rattle.lhm_ring.proofs.nodes.Nodes.lend_bodies.Statement.{statement}
-use Rattle.lhm_ring.specs.contracts.nodes.Nodes.lend_bodies.{clauses, ended, Key.name as #self}
+use Rattle.lhm_ring.proofs.memory.Steps.{all_spent, dropped, runs_at, states, states_also, tokens, unblocks, walks, ◌&◌}
+use Rattle.lhm_ring.proofs.{memory.Lodging.three_made, nodes.Nodes.lend_bodies.Statement.statement}
 use denote.Param.Laws.{param_laws}
 use types.Tokens.{name_new}
+use Rattle.lhm_ring.proofs.Names.{◌∷◌, cleared_nodes, ContentLoan, Incl-trans, takes_beside, Body as Borrowed, bodies_of, Incl-refl}
+use Rattle.lhm_ring.specs.contracts.nodes.Nodes.lend_bodies.{clauses, ended, Key.name as #self}
 use Rattle.lhm_ring.specs.contracts.content_loan.ContentLoan as S-type
 use Rattle.lhm_ring.proofs.value_loan.Hole.TheLaws as H-laws
 use Rattle.lhm_ring.proofs.nodes.Nodes.TheLaws as N-laws
@@ -26,25 +25,20 @@ lend_bodies_spec 𝓤 𝓛 𝓜 𝓡 wired L K V LL LK LV =
     let H = 𝓛.H in let 𝓣 = tables 𝓤 H 𝓜 𝓡 𝓡.env in let E : Three = three_rows LL LK LV in
     let N = Nr E in let R = RL E in let S = RK E in let W = RV E in
     let En = ended L K V in let c = clauses L K V 𝓛 𝓜.mem 𝓡.returns in let fn = inst_fn (args E) code.function in
-    let hs : Stays En.signature.params En.kept = (stay_dropped (mut_ref_to (0 ∷ []) tt (plain (λ _. N))) no, tt) in
-    proved_at 𝓛 En hs c 𝓜 𝓡 (Goes-spent_ref 𝓛 4 (0 ∷ []) tt (plain (λ _. N)), tt)
-    (#self (args E)) fn (code.unfolded 𝓤 H 𝓜 𝓡 wired (L, (K, (V, tt)))) (λ y are.
-    let κs = y.0.0 in let qs = y.0.1 in let a = y.0.3 in let vss = y.0.4 in let Post : Val → SProp 𝓤 = (walk_of 𝓛 En hs c).post y in
+    let Self = mut_ref_to (0 ∷ []) tt (plain (λ _. N)) in
+    walks 𝓛 En c 𝓡 (dropped 𝓛 4 Self no (λ κs x f. refl) & tt) (#self (args E)) fn
+    (code.unfolded 𝓤 H 𝓜 𝓡 wired (L, (K, (V, tt)))) (λ κs qs bounds a vss _ are Post leave.
     let rb : ℕ = a.0.ref_ptr.0 in let ro : ℕ = a.0.ref_ptr.1 in let h : N.Denot = a.0.now in
-    let κ : Lft = κs.0 in let q = qs.0 in let γ = a.0.ghost_name in let hcode = N.coded.code h in let bounds = y.0.2 in
-    let It : RattleType = S-type.the_row (named_lft 4 0 tt κs) R S W in let sm : RattleType =
-    ContentMarker (named_lft 4 0 tt κs) R S W in let Hr : RattleType = Holed R S W in
-    let ps : List Ptr = firsts (bodies_of h.cells) in let os : List (Option (K.Denot × V.Denot)) =
-    seconds (bodies_of h.cells) in let Bs : SemTy = LentBodies E 𝓛 h rb ro in let Fs : Fml =
-    Fields E 𝓛 h rb ro in
-    qed 𝓛 (((‵ (flft κs.0 qs.0) ⊛ ‵ (tokens 3 κs.1 qs.1)) ⊛ ‵
-    (owns (types_at En.signature.params κs) a vss)) ∷ raw (fact 𝓤 (κs.1.0 ⊑ L.lives)) ∷ raw
-    (fact 𝓤 (κs.1.1.0 ⊑ K.lives)) ∷ raw (fact 𝓤 (κs.1.1.1.0 ⊑ V.lives)) ∷ raw (emp 𝓤) ∷ []) ∵
-    keep ! (1 ∷ 2 ∷ 3 ∷ 0 ∷ []) $ heard ! (κs.1.0 ⊑ L.lives) (λ inL. heard ! (κs.1.1.0 ⊑ K.lives)
-    (λ inK. heard ! (κs.1.1.1.0 ⊑ V.lives) (λ inV. split ! $ split ! $ move ! (2 ∷ []) $ fsplit ! $
-    fsplit3 ! $ keep ! (1 ∷ 2 ∷ 4 ∷ 5 ∷ []) $
-    runs_with ! 𝓣.C 𝓣.Λ fn Post (vptr rb ro ∷ []) (λ i. are.0.0 i ++ []) $
-    alloc_all ! (λ l. pass_all ! refl ((tt, tt), tt) $ let Ev = env fn.locals l in
+    let κ : Lft = κs.0 in let q = qs.0 in let γ = a.0.ghost_name in let hcode = N.coded.code h in
+    let It : RattleType = S-type.the_row (named_lft 4 0 tt κs) R S W in let sm = ContentMarker (named_lft 4 0 tt κs) R S W in
+    let Hr : RattleType = Holed R S W in let ps : List Ptr = firsts (bodies_of h.cells) in let os = seconds (bodies_of h.cells) in
+    let Bs : SemTy = LentBodies E 𝓛 h rb ro in let Fs : Fml = Fields E 𝓛 h rb ro in
+    qed 𝓛 (((‵ (flft κs.0 qs.0) ⊛ ‵ (tokens 3 κs.1 qs.1)) ⊛ ‵ (owns (types_at En.signature.params κs) a vss))
+    ∷ raw (fact 𝓤 (κs.1.0 ⊑ L.lives)) ∷ raw (fact 𝓤 (κs.1.1.0 ⊑ K.lives)) ∷ raw (fact 𝓤 (κs.1.1.1.0 ⊑ V.lives)) ∷ raw (emp 𝓤) ∷ []) ∵
+    keep ! (1 ∷ 2 ∷ 3 ∷ 0 ∷ []) $ heard ! (κs.1.0 ⊑ L.lives) (λ inL. heard ! (κs.1.1.0 ⊑ K.lives) (λ inK.
+    heard ! (κs.1.1.1.0 ⊑ V.lives) (λ inV. split ! $ split ! $ move ! (2 ∷ []) $ fsplit ! $ fsplit3 ! $ keep ! (1 ∷ 2 ∷ 4 ∷ 5 ∷ []) $
+    runs_at ! fn (vptr rb ro ∷ []) (λ i. are.0.0 i ++ []) $
+    alloc_all ! (λ l. pass_all ! refl ((tt, tt), tt) $
     opens ! tt N {h = h} rb ro (λ vs. move ! (1 ∷ []) $ fsplit ! $ move ! (1 ∷ []) $
     use1 𝓛 (‵ (bodies R S W ps os) ⊛ ‵ (stems R S W (Land E h) h.cells)) (contents_cut E 𝓛 (Land E h) h.cells) $ split ! $
     -- [the bodies; the stems; the marker; its cell; the open borrow, in three; the other tokens]
@@ -57,13 +51,10 @@ lend_bodies_spec 𝓤 𝓛 𝓜 𝓡 wired L K V LL LK LV =
     nothing ! $ move ! (3 ∷ 0 ∷ []) $ fjoin ! $ move ! (1 ∷ 0 ∷ []) $ fjoin ! $
     -- [what is borrowed beside; the bodies' name; the open borrow, in three; the other tokens]
     use0 𝓛 (‵ ((mem Anchor).own_at [] rb ro)) (anchor_made 𝓛 rb ro) $ nothing ! $ move ! (4 ∷ 5 ∷ 6 ∷ 1 ∷ 2 ∷ 0 ∷ []) $ group ! 6 $
-    use1 𝓛 (later (some (λ (ν : ℕ). ‵ (fobs ν (Anchor.coded.code [])) ⊛ ‵
-    (fbor κ (Borrowed (mem Anchor) rb ro ν)) ⊛ ‵ (flft κ q) ⊛ ‵
-    (follows N Anchor γ ν (λ _. cleared_nodes h)) ⊛ ‵ (fbor κ (Borrowed Bs 0 0 δ)) ⊛ ‵ (fbor κ Fs) ⊛
-    ‵ ftrue)))
-    (takes_beside 𝓛 (mem N) (mem Anchor) (λ _. cleared_nodes h) κ q rb ro rb ro γ
-    (Borrowed Bs 0 0 δ ∷ Fs ∷ []) (emp 𝓤) (back E 𝓛 h rb ro δ) hcode hcode []) $ await ! tt $ pick !
-    (λ ν. split3 ! $ move ! (2 ∷ []) $ split3 ! $ move ! (2 ∷ []) $ split3 ! $
+    use1 𝓛 (later (some (λ (ν : ℕ). ‵ (fobs ν (Anchor.coded.code [])) ⊛ ‵ (fbor κ (Borrowed (mem Anchor) rb ro ν)) ⊛ ‵ (flft κ q)
+    ⊛ ‵ (follows N Anchor γ ν (λ _. cleared_nodes h)) ⊛ ‵ (fbor κ (Borrowed Bs 0 0 δ)) ⊛ ‵ (fbor κ Fs) ⊛ ‵ ftrue)))
+    (takes_beside 𝓛 (mem N) (mem Anchor) (λ _. cleared_nodes h) κ q rb ro rb ro γ (Borrowed Bs 0 0 δ ∷ Fs ∷ []) (emp 𝓤)
+    (back E 𝓛 h rb ro δ) hcode hcode []) $ await ! tt $ pick ! (λ ν. split3 ! $ move ! (2 ∷ []) $ split3 ! $ move ! (2 ∷ []) $ split3 ! $
     -- [the bodies' borrow; the fields'; nothing; the token; what follows; the anchor's name; its
     -- borrow; the bodies' name; the other tokens]
     feq_i ! (List Val) (vptr rb ro ∷ []) (vptr rb ro ∷ []) refl $ move ! (0 ∷ 6 ∷ 7 ∷ []) $ fjoin3 ! $
@@ -88,22 +79,16 @@ lend_bodies_spec 𝓤 𝓛 𝓜 𝓡 wired L K V LL LK LV =
     -- [the nodes, shared; the token; the loan of the contents; the anchor; nothing; what follows;
     -- the other tokens]
     move ! (3 ∷ 0 ∷ 2 ∷ []) $ three_made ! (MutRef (named 0) κ Anchor) (ShrRef (named 0) κ Hr) It
-    top seen lent $
+    top seen lent (vptr rb ro) (vptr rb ro) marker $
     let out : Val = vstruct (vcons (vptr rb ro) (vcons (vptr rb ro) (vcons marker vnil))) in
-    sets ! (addr ! (through ! refl (stop !))) refl (tt, tt) $ sets !
-    (addr ! (through ! refl (stop !))) refl (tt, tt) $ first ! $ blocks ! $ sets_last !
-    (addr ! (through ! refl (stop !))) refl (tt, tt) $
-    exec ! 𝓣.C 𝓣.Λ Ev (after 3 fn.body) (at_ret Ev Post) $ sets ! (of_opd ! (get ! refl)) refl
-    (tt, tt) $ first ! $ blocks ! $ sets_last ! (addr ! (through ! refl (stop !))) refl (tt, tt) $
-    exec ! 𝓣.C 𝓣.Λ Ev (after 5 fn.body) (at_ret Ev Post) $ sets ! (of_opd ! (get ! refl)) refl
-    (tt, tt) $ sets ! (agg ! (no_more !)) refl (tt, tt) $
-    sets ! (agg ! (and_then ! (get ! refl) (no_more !))) refl (tt, (tt, tt)) $ sets !
-    (agg ! (and_then ! (get ! refl)
-    (and_then ! (get ! refl) (and_then ! (get ! refl) (no_more !))))) refl
+    sets ! (addr ! (through ! refl (stop !))) refl (tt, tt) $ sets ! (addr ! (through ! refl (stop !))) refl (tt, tt) $
+    unblocks ! $ sets ! (addr ! (through ! refl (stop !))) refl (tt, tt) $ sets ! (of_opd ! (get ! refl)) refl (tt, tt) $
+    unblocks ! $ sets ! (addr ! (through ! refl (stop !))) refl (tt, tt) $ sets ! (of_opd ! (get ! refl)) refl (tt, tt) $
+    sets ! (agg ! (no_more !)) refl (tt, tt) $ sets ! (agg ! (and_then ! (get ! refl) (no_more !))) refl (tt, (tt, tt)) $
+    sets ! (agg ! (and_then ! (get ! refl) (and_then ! (get ! refl) (and_then ! (get ! refl) (no_more !))))) refl
     (tt, (tt, (tt, ((tt, tt), tt)))) $
     -- [the triple; the token; nothing; what follows; the other tokens]
     states ! (bodies_of h.cells ≡ bodies_of h.cells) refl $ states_also ! (h.cells ≡ h.cells) refl $
     move ! (4 ∷ 0 ∷ []) $ join ! $ move ! (2 ∷ 4 ∷ []) $ join ! $
     all_spent ! 1 $
-    returns ! (look_at ! 0 refl) $ free_all ! refl $ keep ! (1 ∷ 0 ∷ 3 ∷ 2 ∷ []) $ by !
-    (leaves 𝓛 En hs c y out (top, seen, lent) (tt, tt) (tt, tt))))))))))
+    returns ! (look_at ! 0 refl) $ free_all ! refl $ keep ! (1 ∷ 0 ∷ 3 ∷ 2 ∷ []) $ by ! (leave out (top, seen, lent) (tt, tt)).prf))))))))

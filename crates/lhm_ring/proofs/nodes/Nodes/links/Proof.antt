@@ -1,5 +1,5 @@
 -- `links` shows the links of one node. Assumes `Logic`.
-use Rattle.lhm_ring.proofs.Names.{Some, ap, refl, ◌≡◌, IsAt, links_at, links_of}
+use Rattle.lhm_ring.proofs.Names.{IsAt, Some, ap, links_at, links_of, refl, ◌≡◌}
 use Rattle.lhm_ring.proofs.memory.FieldSeen.{Field, field_seen, links_lent}
 use Rattle.lhm_ring.proofs.memory.NodeFields.{Three, lo, three_rows}
 use Rattle.lhm_ring.proofs.{nodes.Nodes.links.Statement.statement, rings.Lookup.Cut-links_at}

@@ -1,4 +1,4 @@
-use Rattle.lhm_ring.proofs.Names.{[], ap, sym, ◌∙◌, pointer_of_some}
+use Rattle.lhm_ring.proofs.Names.{[], ap, pointer_of_some, sym, ◌∙◌}
 use Rattle.lhm_ring.proofs.rings.Ends.{First-first_at, first_held, triples-first}
 use Rattle.lhm_ring.proofs.owned.IntoIter.take_first.Goals as goal
 

@@ -1,4 +1,4 @@
-use Rattle.lhm_ring.proofs.Names.{[], ap, sym, ◌∙◌, pointer_of_some}
+use Rattle.lhm_ring.proofs.Names.{[], ap, pointer_of_some, sym, ◌∙◌}
 use Rattle.lhm_ring.proofs.rings.Ends.{Last-last_at, last_held, triples-last}
 use Rattle.lhm_ring.proofs.owned.IntoIter.take_last.Goals as goal
 

@@ -1,4 +1,4 @@
-use Rattle.lhm_ring.proofs.Names.{List, length, ℕ, ◌++◌, ◌≡◌, IsTripleClone, triples, AllZip}
+use Rattle.lhm_ring.proofs.Names.{AllZip, IsTripleClone, List, length, triples, ℕ, ◌++◌, ◌≡◌}
 use Rattle.lhm_ring.proofs.owned.IntoIterClone.clone.Given as goal
 
 abbrev pub invariant-loop-hash : goal.invariant-loop-hash

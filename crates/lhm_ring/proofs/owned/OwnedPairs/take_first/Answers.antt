@@ -1,6 +1,5 @@
-use Rattle.lhm_ring.proofs.Names.{ap, nil_from_length, sym, ◌∙◌, triples}
-use Rattle.lhm_ring.proofs.memory.{Places.IsChain-same}
 use Rattle.lhm_ring.proofs.rings.Spans.{HasSpan-whole, Holds-first, IsAt-first, IsSpan-rest_of_first, triples-first_taken}
+use Rattle.lhm_ring.proofs.{Names.ap, Names.nil_from_length, Names.sym, Names.triples, Names.◌∙◌, memory.Places.IsChain-same}
 use Rattle.lhm_ring.proofs.owned.OwnedPairs.take_first.Goals as goal
 
 pub returns-then-self-eq0 : goal.returns-then-self-eq0

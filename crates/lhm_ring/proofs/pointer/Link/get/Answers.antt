@@ -1,4 +1,4 @@
-use Rattle.lhm_ring.proofs.Names.{ap, subst, sym, is_some, led_to, InBlock}
+use Rattle.lhm_ring.proofs.Names.{InBlock, ap, is_some, led_to, subst, sym}
 use Rattle.lhm_ring.proofs.indexes.BucketHeads.{Testable-null_or_block, led_to-in_block}
 use Rattle.lhm_ring.proofs.pointer.Link.get.Goals as goal
 

@@ -1,4 +1,4 @@
-use Rattle.lhm_ring.proofs.Names.{ap, subst, sym, is_null, InBlock}
+use Rattle.lhm_ring.proofs.Names.{InBlock, ap, is_null, subst, sym}
 use Rattle.lhm_ring.proofs.{indexes.BucketHeads.Testable-null_or_block, memory.Places.is_null-in_block}
 use Rattle.lhm_ring.proofs.pointer.NodePointer.is_null.Goals as goal
 

@@ -1,5 +1,4 @@
-use Rattle.lhm_ring.proofs.Names.{length, ◌+◌, ◌∙◌}
-use Rattle.lhm_ring.proofs.{lists.Results.OnOk-then, rings.NodesGrown.nodes_grown-exact}
+use Rattle.lhm_ring.proofs.{Names.length, Names.◌+◌, Names.◌∙◌, lists.Results.OnOk-then, rings.NodesGrown.nodes_grown-exact}
 use Rattle.lhm_ring.proofs.ring.Ring.grow.Goals as goal
 
 pub returns-clause-nodes : goal.returns-clause-nodes

@@ -1,8 +1,7 @@
-use Rattle.lhm_ring.proofs.Names.{ap, arith, length, max, refl, subst, sym, ◌+◌, ◌<◌, ◌∙◌, ◌≡◌, IsOwned, contents, holders, ring_cells}
-use Rattle.lhm_ring.proofs.Names.{Chunk, chunk}
-use Rattle.lhm_ring.proofs.rings.{HeldPointers.pointers_of, Insides.counts-seen, NodesGrown.nodes_grown-fewer, Stacking.IsOwned-raised}
-use Rattle.lhm_ring.proofs.rings.{Stacking.IsOwned-stacked, Stacking.contents-stacked}
-use Rattle.lhm_ring.proofs.memory.{Places.IsLaid-grown, Places.length-made}
+use Rattle.lhm_ring.proofs.Names.{Chunk, IsOwned, ap, arith, chunk, contents, holders, length, max, refl, ring_cells, subst, sym, ◌+◌, ◌<◌}
+use Rattle.lhm_ring.proofs.rings.Stacking.{IsOwned-raised, IsOwned-stacked, contents-stacked}
+use Rattle.lhm_ring.proofs.rings.{Contents.pointers_of, Insides.counts-seen, NodesGrown.nodes_grown-fewer}
+use Rattle.lhm_ring.proofs.{Names.◌∙◌, Names.◌≡◌, memory.Places.IsLaid-grown, memory.Places.length-made}
 use Rattle.lhm_ring.proofs.ring.Ring.grow_by.Goals as goal
 
 pub overflow_sub-missing : goal.overflow_sub-missing

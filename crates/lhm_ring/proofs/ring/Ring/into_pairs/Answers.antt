@@ -1,5 +1,4 @@
-use Rattle.lhm_ring.proofs.Names.{ap, refl, triples}
-use Rattle.lhm_ring.proofs.rings.{RingSpans.IsSpan-ring}
+use Rattle.lhm_ring.proofs.{Names.ap, Names.refl, Names.triples, rings.RingSpans.IsSpan-ring}
 use Rattle.lhm_ring.proofs.ring.Ring.into_pairs.Goals as goal
 
 pub invariant_of-result : goal.invariant_of-result

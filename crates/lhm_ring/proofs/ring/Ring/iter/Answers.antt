@@ -1,5 +1,4 @@
-use Rattle.lhm_ring.proofs.Names.{ap, ◌∙◌}
-use Rattle.lhm_ring.proofs.rings.{RingSpans.IsSpan-ring, Spans.HasSpan-whole, Spans.span-part}
+use Rattle.lhm_ring.proofs.{Names.ap, Names.◌∙◌, rings.RingSpans.IsSpan-ring, rings.Spans.HasSpan-whole, rings.Spans.span-part}
 use Rattle.lhm_ring.proofs.ring.Ring.iter.Goals as goal
 
 pub invariant_of-result : goal.invariant_of-result

@@ -1,138 +1,98 @@
-use Rattle.lhm_ring.proofs.Names.{refl, ◌∙◌, IsHeld}
-use Rattle.lhm_ring.proofs.memory.{Places.IsLaid-same}
-use Rattle.lhm_ring.proofs.rings.Moves.{AllByRecursion-moved, AtHeld-before, Holds-moved, IfSome-pointer, IsOwned-before, IsPlaceFor-next}
-use Rattle.lhm_ring.proofs.rings.Moves.{cut_moved, holders-placed, is_there-before, is_there-moved, is_there-neighbours, is_there-next}
-use Rattle.lhm_ring.proofs.rings.Moves.{is_there-previous, listed-own}
-use Rattle.lhm_ring.proofs.rings.{HeldPointers.IsApart-held, Insides.IsAt-inside, Insides.seen, Lookup.IsAt-holds, Order.IsOwned-moved}
-use Rattle.lhm_ring.proofs.rings.{Order.contents-moved, RingCells.links_at-ring_cells, RingNodes.NodeAt-held}
+use Rattle.lhm_ring.proofs.rings.Moves.{IsAt-placed, IsOwned-placed, IsPlaceFor-placed, PlaceIn-before, PlaceIn-first, PlaceIn-own}
+use Rattle.lhm_ring.proofs.rings.Moves.{contents-placed, first_from-place, is_there-before, is_there-moved, is_there-neighbours}
+use Rattle.lhm_ring.proofs.rings.{Insides.IsApart-held, Insides.IsAt-inside, Moves.is_there-next, Moves.is_there-previous}
+use Rattle.lhm_ring.proofs.{Names.IsHeld, Names.IsPlaceFor, Names.subst, Names.sym, Names.◌∙◌, memory.Places.IsLaid-same}
 use Rattle.lhm_ring.proofs.ring.Ring.move_before.Goals as goal
 
 pub links-links-requires : goal.links-links-requires
-links-links-requires g c = IsAt-inside c.self.inside c.self.invariant c.self.view_is c.args.at.block c.requires.at
+links-links-requires g c = IsAt-inside c.self.inside c.self.invariant c.self.view_is c.requires.at
 
 pub join-requires : goal.join-requires
 join-requires g c =
-    let i = c.self.inside in let p = c.args.at.pointer.ptr in
-    is_there-neighbours c.self.invariant.ring (seen c.self.inside c.self.invariant c.self.view_is) c.requires.at
-    (links_at-ring_cells i.ends i.nodes.cells p c.args.at.block ∙ c.links-links.ensures)
+    is_there-neighbours c.self.inside c.self.invariant c.self.view_is c.args.at.block c.requires.at c.links-links.ensures
 
 pub prev_of-previous-requires : goal.prev_of-previous-requires
 prev_of-previous-requires g c =
-    let i = c.self.inside in let p = c.args.at.pointer.ptr in
-    let e = links_at-ring_cells i.ends i.nodes.cells p c.args.at.block ∙ c.links-links.ensures in
-    let there = IfSome-pointer (IsHeld c.args.self.now.held) c.args.before c.requires.before in
-    is_there-before c.self.invariant.ring (seen c.self.inside c.self.invariant c.self.view_is) p e c.join.ensures.joined c.requires.at
-    c.of-place.result.ptr
-    c.of-place.ensures there
+    let i = c.self.inside in let ok = c.self.invariant in let w = c.self.view_is in let b = c.args.at.block in
+    let h = c.requires.at in let e = c.links-links.ensures in let j = c.join.ensures.joined in
+    is_there-before i ok w b h e j _ c.args.before c.of-place.ensures c.requires.before
 
 pub next_of-next-requires : goal.next_of-next-requires
 next_of-next-requires g c =
-    let i = c.self.inside in let p = c.args.at.pointer.ptr in
-    let e = links_at-ring_cells i.ends i.nodes.cells p c.args.at.block ∙ c.links-links.ensures in
-    let there = IfSome-pointer (IsHeld c.args.self.now.held) c.args.before c.requires.before in
-    is_there-previous c.self.invariant.ring (seen c.self.inside c.self.invariant c.self.view_is) p e c.join.ensures.joined c.requires.at
-    c.of-place.result.ptr
-    c.of-place.ensures there
-    c.prev_of-previous.ensures
+    let i = c.self.inside in let ok = c.self.invariant in let w = c.self.view_is in let b = c.args.at.block in
+    let h = c.requires.at in let e = c.links-links.ensures in let j = c.join.ensures.joined in
+    let place = PlaceIn-before i ok w b h e j c.args.before c.of-place.ensures c.requires.before in
+    is_there-previous i ok w b h e j place c.prev_of-previous.ensures
 
 pub join-requires-2 : goal.join-requires-2
 join-requires-2 g c =
-    let i = c.self.inside in let p = c.args.at.pointer.ptr in
-    let e = links_at-ring_cells i.ends i.nodes.cells p c.args.at.block ∙ c.links-links.ensures in
-    let there = IfSome-pointer (IsHeld c.args.self.now.held) c.args.before c.requires.before in
-    let ok = c.self.invariant.ring in (
-      is_there-previous ok (seen i c.self.invariant c.self.view_is) p e c.join.ensures.joined c.requires.at c.of-place.result.ptr
-          c.of-place.ensures there
-          c.prev_of-previous.ensures,
-      is_there-moved ok (seen i c.self.invariant c.self.view_is) p e c.join.ensures.joined c.requires.at c.to-moved.result.ptr
-          c.to-moved.ensures,
+    let i = c.self.inside in let ok = c.self.invariant in let w = c.self.view_is in let b = c.args.at.block in
+    let h = c.requires.at in let e = c.links-links.ensures in let j = c.join.ensures.joined in
+    let place = PlaceIn-before i ok w b h e j c.args.before c.of-place.ensures c.requires.before in (
+      is_there-previous i ok w b h e j place c.prev_of-previous.ensures,
+      is_there-moved i ok w b h e j c.to-moved.result.ptr c.to-moved.ensures,
     )
 
 pub join-requires-3 : goal.join-requires-3
 join-requires-3 g c =
-    let i = c.self.inside in let p = c.args.at.pointer.ptr in
-    let e = links_at-ring_cells i.ends i.nodes.cells p c.args.at.block ∙ c.links-links.ensures in
-    let there = IfSome-pointer (IsHeld c.args.self.now.held) c.args.before c.requires.before in
-    let ok = c.self.invariant.ring in (
-      c.join-2.ensures.joined.there c.to-moved.result.ptr
-          ∙ is_there-moved ok (seen i c.self.invariant c.self.view_is) p e c.join.ensures.joined c.requires.at c.to-moved.result.ptr
-          c.to-moved.ensures,
-      c.join-2.ensures.joined.there c.next_of-next.result.ptr
-          ∙ is_there-next ok (seen i c.self.invariant c.self.view_is) p e c.join.ensures.joined c.requires.at c.of-place.result.ptr
-          c.of-place.ensures there
-          c.prev_of-previous.ensures c.next_of-next.ensures,
+    let i = c.self.inside in let ok = c.self.invariant in let w = c.self.view_is in let b = c.args.at.block in
+    let h = c.requires.at in let e = c.links-links.ensures in let j = c.join.ensures.joined in
+    let place = PlaceIn-before i ok w b h e j c.args.before c.of-place.ensures c.requires.before in (
+      c.join-2.ensures.joined.there c.to-moved.result.ptr ∙ is_there-moved i ok w b h e j c.to-moved.result.ptr c.to-moved.ensures,
+      c.join-2.ensures.joined.there c.next_of-next.result.ptr ∙ is_there-next i ok w b h e j place
+          (first_from-place i ok w b h e j place c.prev_of-previous.ensures c.next_of-next.ensures),
     )
 
 pub list_before-requires-clause-at : goal.list_before-requires-clause-at
 list_before-requires-clause-at g c =
-    let i = c.self.inside in let ok = c.self.invariant.ring in
-    let s = NodeAt-held ok (seen i c.self.invariant c.self.view_is) c.args.at.pointer.ptr c.requires.at in
-    let fs = c.join-3.new.nodes in
-    let h = Holds-moved ok c.join.ensures.joined c.join-2.ensures.joined fs c.join-3.ensures.joined s in
-    IsAt-holds fs.cells c.args.at.pointer.ptr h
+    let i = c.self.inside in let ok = c.self.invariant in let w = c.self.view_is in let b = c.args.at.block in
+    let h = c.requires.at in let e = c.links-links.ensures in let j = c.join.ensures.joined in
+    let place = PlaceIn-before i ok w b h e j c.args.before c.of-place.ensures c.requires.before in
+    IsAt-placed i ok w b h e j place
+    (first_from-place i ok w b h e j place c.prev_of-previous.ensures c.next_of-next.ensures)
+    c.to-moved.ensures c.prev_of-previous.ensures c.join-3.new.nodes c.join-2.ensures.joined c.join-3.ensures.joined
 
 pub list_before-requires-clause-before : goal.list_before-requires-clause-before
 list_before-requires-clause-before g c =
-    let i = c.self.inside in let p = c.args.at.pointer.ptr in let ok = c.self.invariant.ring in
-    let v = seen i c.self.invariant c.self.view_is in
-    let e = links_at-ring_cells i.ends i.nodes.cells p c.args.at.block ∙ c.links-links.ensures in
-    let there = IfSome-pointer (IsHeld c.args.self.now.held) c.args.before c.requires.before in
-    IsPlaceFor-next ok v p e c.join.ensures.joined c.requires.at c.of-place.result.ptr c.of-place.ensures there
-    c.prev_of-previous.ensures c.next_of-next.ensures c.join-3.new.nodes.cells
-    (AllByRecursion-moved ok c.join.ensures.joined c.join-2.ensures.joined c.join-3.new.nodes c.join-3.ensures.joined) c.address.ensures
+    let i = c.self.inside in let ok = c.self.invariant in let w = c.self.view_is in let b = c.args.at.block in
+    let h = c.requires.at in let e = c.links-links.ensures in let j = c.join.ensures.joined in
+    let place = PlaceIn-before i ok w b h e j c.args.before c.of-place.ensures c.requires.before in
+    subst (IsPlaceFor c.join-3.new.nodes.cells c.args.at.pointer.ptr) (sym c.address.ensures)
+    (IsPlaceFor-placed i ok w b h e j place (first_from-place i ok w b h e j place c.prev_of-previous.ensures c.next_of-next.ensures)
+    c.to-moved.ensures c.prev_of-previous.ensures c.join-3.new.nodes c.join-2.ensures.joined c.join-3.ensures.joined)
 
 pub invariant_of-self : goal.invariant_of-self
 invariant_of-self g c =
-    let i = c.self.inside in let p = c.args.at.pointer.ptr in let ok = c.self.invariant.ring in
-    let v = seen i c.self.invariant c.self.view_is in
-    let e = links_at-ring_cells i.ends i.nodes.cells p c.args.at.block ∙ c.links-links.ensures in
-    let there = IfSome-pointer (IsHeld c.args.self.now.held) c.args.before c.requires.before in
-    let fs = c.join-3.new.nodes in let d = c.list_before.new.self in
-    let j₁ = c.join.ensures.joined in let j₂ = c.join-2.ensures.joined in let j₃ = c.join-3.ensures.joined in
-    let s = NodeAt-held ok v p c.requires.at in
-    let free = IsPlaceFor-next ok v p e j₁ c.requires.at c.of-place.result.ptr c.of-place.ensures there
-    c.prev_of-previous.ensures c.next_of-next.ensures fs.cells (AllByRecursion-moved ok j₁ j₂ fs j₃) c.address.ensures in
-    let order = holders-placed ok j₁ j₂ fs j₃ s c.list_before.ensures.cells c.address.ensures in
+    let i = c.self.inside in let ok = c.self.invariant in let w = c.self.view_is in let b = c.args.at.block in
+    let h = c.requires.at in let e = c.links-links.ensures in let j = c.join.ensures.joined in
+    let place = PlaceIn-before i ok w b h e j c.args.before c.of-place.ensures c.requires.before in
     record {
-      ring = IsOwned-moved fs d (cut_moved ok j₁ j₂ fs j₃ s) free c.list_before.ensures.cells c.join-3.new.ends refl
-          (IsOwned-before ok v p e j₁ c.requires.at c.of-place.result.ptr c.of-place.ensures there
-          c.prev_of-previous.ensures c.next_of-next.ensures c.to-moved.ensures j₂ j₃ order);
+      ring = IsOwned-placed i ok w b h e j place (first_from-place i ok w b h e j place c.prev_of-previous.ensures c.next_of-next.ensures)
+          c.to-moved.ensures c.prev_of-previous.ensures c.join-3.new.nodes c.join-2.ensures.joined c.join-3.ensures.joined
+          c.list_before.new.self c.address.ensures c.list_before.ensures.cells;
       laid = IsLaid-same c.self.invariant.laid (c.list_before.ensures.land.0 ∙ c.join-3.ensures.land.0 ∙ c.join-2.ensures.land.0
           ∙ c.join.ensures.land.0) (c.list_before.ensures.land.1 ∙ c.join-3.ensures.land.1 ∙ c.join-2.ensures.land.1
           ∙ c.join.ensures.land.1);
     }
 
 pub returns-clause-moved : goal.returns-clause-moved
-returns-clause-moved g c =
-    let i = c.self.inside in let p = c.args.at.pointer.ptr in let ok = c.self.invariant.ring in
-    let v = seen i c.self.invariant c.self.view_is in
-    let e = links_at-ring_cells i.ends i.nodes.cells p c.args.at.block ∙ c.links-links.ensures in
-    let there = IfSome-pointer (IsHeld c.args.self.now.held) c.args.before c.requires.before in
-    let fs = c.join-3.new.nodes in let d = c.list_before.new.self in
-    let j₁ = c.join.ensures.joined in let j₂ = c.join-2.ensures.joined in let j₃ = c.join-3.ensures.joined in
-    let s = NodeAt-held ok v p c.requires.at in
-    let free = IsPlaceFor-next ok v p e j₁ c.requires.at c.of-place.result.ptr c.of-place.ensures there
-    c.prev_of-previous.ensures c.next_of-next.ensures fs.cells (AllByRecursion-moved ok j₁ j₂ fs j₃) c.address.ensures in
-    let order = holders-placed ok j₁ j₂ fs j₃ s c.list_before.ensures.cells c.address.ensures in
-    let now = contents-moved fs d (cut_moved ok j₁ j₂ fs j₃ s) free c.list_before.ensures.cells c.join-3.new.ends refl in
-    λ xs t ys is at us vs cut first. now ∙ AtHeld-before ok v p e j₁ c.requires.at c.of-place.result.ptr c.of-place.ensures
-    there c.prev_of-previous.ensures c.next_of-next.ensures c.to-moved.ensures j₂ j₃ order xs t ys is at us vs cut first
+returns-clause-moved g c xs t ys is at us vs cut to =
+    let i = c.self.inside in let ok = c.self.invariant in let w = c.self.view_is in let b = c.args.at.block in
+    let h : IsHeld c.args.self.now.held c.args.at.pointer.ptr = record { before = xs; node = t; after = ys; is = is; at_is = at } in
+    let e = c.links-links.ensures in let j = c.join.ensures.joined in
+    let place = PlaceIn-first i ok w b h e j us vs cut (c.of-place.ensures ∙ to) in
+    contents-placed i ok w b h e j place (first_from-place i ok w b h e j place c.prev_of-previous.ensures c.next_of-next.ensures)
+    c.to-moved.ensures c.prev_of-previous.ensures c.join-3.new.nodes c.join-2.ensures.joined c.join-3.ensures.joined
+    c.list_before.new.self c.address.ensures c.list_before.ensures.cells
 
 pub returns-clause-stays : goal.returns-clause-stays
-returns-clause-stays g c =
-    let i = c.self.inside in let p = c.args.at.pointer.ptr in let ok = c.self.invariant.ring in
-    let v = seen i c.self.invariant c.self.view_is in
-    let e = links_at-ring_cells i.ends i.nodes.cells p c.args.at.block ∙ c.links-links.ensures in
-    let there = IfSome-pointer (IsHeld c.args.self.now.held) c.args.before c.requires.before in
-    let fs = c.join-3.new.nodes in let d = c.list_before.new.self in
-    let j₁ = c.join.ensures.joined in let j₂ = c.join-2.ensures.joined in let j₃ = c.join-3.ensures.joined in
-    let s = NodeAt-held ok v p c.requires.at in
-    let free = IsPlaceFor-next ok v p e j₁ c.requires.at c.of-place.result.ptr c.of-place.ensures there
-    c.prev_of-previous.ensures c.next_of-next.ensures fs.cells (AllByRecursion-moved ok j₁ j₂ fs j₃) c.address.ensures in
-    let order = holders-placed ok j₁ j₂ fs j₃ s c.list_before.ensures.cells c.address.ensures in
-    let now = contents-moved fs d (cut_moved ok j₁ j₂ fs j₃ s) free c.list_before.ensures.cells c.join-3.new.ends refl in
-    λ own. now ∙ listed-own ok v p e j₁ c.requires.at c.of-place.result.ptr c.of-place.ensures
-    there c.prev_of-previous.ensures c.next_of-next.ensures c.to-moved.ensures j₂ j₃ order own
+returns-clause-stays g c own =
+    let i = c.self.inside in let ok = c.self.invariant in let w = c.self.view_is in let b = c.args.at.block in
+    let h = c.requires.at in let e = c.links-links.ensures in let j = c.join.ensures.joined in
+    let place = PlaceIn-own i ok w b h e j (c.of-place.ensures ∙ own) in
+    contents-placed i ok w b h e j place (first_from-place i ok w b h e j place c.prev_of-previous.ensures c.next_of-next.ensures)
+    c.to-moved.ensures c.prev_of-previous.ensures c.join-3.new.nodes c.join-2.ensures.joined c.join-3.ensures.joined
+    c.list_before.new.self c.address.ensures c.list_before.ensures.cells ∙ sym h.is
 
 pub returns-clause-apart : goal.returns-clause-apart
-returns-clause-apart g c = IsApart-held c.self.invariant.ring (seen c.self.inside c.self.invariant c.self.view_is)
+returns-clause-apart g c = IsApart-held c.self.inside c.self.invariant c.self.view_is

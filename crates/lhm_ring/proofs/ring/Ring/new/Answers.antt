@@ -1,6 +1,5 @@
-use Rattle.lhm_ring.proofs.Names.{ap, contents, ◌∙◌}
-use Rattle.lhm_ring.proofs.memory.{Places.IsLaid-none, Places.led_to-nowhere}
-use Rattle.lhm_ring.proofs.rings.{RingCells.IsOwned-bare}
+use Rattle.lhm_ring.proofs.memory.Places.{IsLaid-none, led_to-nowhere}
+use Rattle.lhm_ring.proofs.{Names.ap, Names.contents, Names.◌∙◌, rings.RingCells.IsOwned-bare}
 use Rattle.lhm_ring.proofs.ring.Ring.new.Goals as goal
 
 pub invariant_of-result : goal.invariant_of-result

@@ -1,16 +1,12 @@
-use Rattle.lhm_ring.proofs.Names.{◌∙◌}
-use Rattle.lhm_ring.proofs.rings.{HeldPointers.IsApart-held, Insides.IsAt-inside, Insides.seen, Neighbours.AtHeld-previous}
-use Rattle.lhm_ring.proofs.rings.{RingCells.links_at-ring_cells}
+use Rattle.lhm_ring.proofs.{Names.◌∙◌, rings.FirstAndLast.AtHeld-previous, rings.Insides.IsApart-held, rings.Insides.IsAt-inside}
 use Rattle.lhm_ring.proofs.ring.Ring.previous.Goals as goal
 
 pub links-requires : goal.links-requires
-links-requires g c = IsAt-inside c.self.inside c.self.invariant c.self.view_is c.args.at.block c.requires
+links-requires g c = IsAt-inside c.self.inside c.self.invariant c.self.view_is c.requires
 
 pub returns-clause-previous : goal.returns-clause-previous
 returns-clause-previous g c xs t ys h at =
-    let i = c.self.inside in let p = c.args.at.pointer.ptr in
-    c.get.ensures ∙ AtHeld-previous c.self.invariant.ring (seen c.self.inside c.self.invariant c.self.view_is) p
-    (links_at-ring_cells i.ends i.nodes.cells p c.args.at.block ∙ c.links.ensures) xs t ys h at
+    c.get.ensures ∙ AtHeld-previous c.self.inside c.self.invariant c.self.view_is c.args.at.block c.links.ensures xs t ys h at
 
 pub returns-clause-apart : goal.returns-clause-apart
-returns-clause-apart g c = let i = c.self.inside in IsApart-held c.self.invariant.ring (seen c.self.inside c.self.invariant c.self.view_is)
+returns-clause-apart g c = IsApart-held c.self.inside c.self.invariant c.self.view_is

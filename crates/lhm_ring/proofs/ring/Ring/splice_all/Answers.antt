@@ -1,7 +1,6 @@
-use Rattle.lhm_ring.proofs.Names.{ap, refl, subst, sym, ◌+◌, ◌∙◌, cleared, with_bodies, IsOwned, IsSpan, contents, holders, ring_cells}
-use Rattle.lhm_ring.proofs.Names.{state, triples}
-use Rattle.lhm_ring.proofs.memory.{NodesWithBodies.with_bodies-own, Places.IsLaid-same}
-use Rattle.lhm_ring.proofs.rings.{HeldPointers.pointers_of, Holders.contents-cleared, Insides.seen, RingNodes.length-held}
+use Rattle.lhm_ring.proofs.Names.{IsOwned, IsSpan, ap, cleared, contents, holders, refl, ring_cells, state, subst, sym, triples}
+use Rattle.lhm_ring.proofs.rings.{Contents.contents-cleared, Contents.pointers_of, Insides.counts-seen}
+use Rattle.lhm_ring.proofs.{Names.with_bodies, Names.◌+◌, Names.◌∙◌, memory.NodesWithBodies.with_bodies-own, memory.Places.IsLaid-same}
 use Rattle.lhm_ring.proofs.ring.Ring.splice_all.Goals as goal
 
 pub splice-requires : goal.splice-requires
@@ -27,7 +26,7 @@ pub returns : goal.returns
 unfolding contents
 returns g c =
     let i = c.self.inside in let e = c.lend_bodies-anchor.ensures in let nodes = c.splice.new.nodes in
-    let long = length-held c.self.invariant.ring (seen c.self.inside c.self.invariant c.self.view_is) in
+    let long = (counts-seen c.self.inside c.self.invariant c.self.view_is).held in
     let same = (λ j. with_bodies (e.cells j) (e.run j)) ∙ with_bodies-own nodes.cells nodes.apart in (
       (
         refl,

@@ -1,16 +1,15 @@
-use Rattle.lhm_ring.proofs.Names.{ap, refl, with_body, revalued, state, value_set}
-use Rattle.lhm_ring.proofs.rings.Insides.{Holds-inside, IsOwned-written, contents-set, pair-inside, seen}
-use Rattle.lhm_ring.proofs.rings.{ContentChange.ChangesOnly-held}
+use Rattle.lhm_ring.proofs.Names.{ap, refl, revalued, state, value_set, with_body}
+use Rattle.lhm_ring.proofs.rings.Insides.{ChangesOnly-held, Holds-inside, IsOwned-written, contents-set, pair-inside}
 use Rattle.lhm_ring.proofs.ring.Ring.value_mut.Goals as goal
 
 pub value_mut-requires : goal.value_mut-requires
-value_mut-requires g c = Holds-inside c.self.inside c.self.invariant c.self.view_is c.args.at.block c.requires
+value_mut-requires g c = Holds-inside c.self.inside c.self.invariant c.self.view_is c.requires
 
 pub invariant_of-self-lent : goal.invariant_of-self-lent
 invariant_of-self-lent g c w =
     let i = c.self.inside in let e = c.value_mut.ensures.value.1 in
     record {
-      ring = IsOwned-written i c.self.invariant c.self.view_is c.args.at.block c.requires e _ (revalued w) (λ _ _ _. refl)
+      ring = IsOwned-written i c.self.invariant c.self.view_is c.requires e _ (revalued w) (λ _ _ _. refl)
           (ap (λ o. with_body c.args.at.pointer.ptr (value_set w o) i.nodes.cells) e);
       laid = c.self.invariant.laid;
     }
@@ -18,17 +17,17 @@ invariant_of-self-lent g c w =
 pub returns : goal.returns
 returns g c =
     let i = c.self.inside in let v = c.self.view_is in let e = c.value_mut.ensures.value.1 in
-    let is = pair-inside i c.self.invariant v _ c.args.at.block e in (
+    let is = pair-inside i c.self.invariant v _ e in (
       (
         refl,
         λ w.
-            let list = contents-set i c.self.invariant v c.args.at.block c.requires e _ (revalued w) (λ _ _ _. refl)
+            let list = contents-set i c.self.invariant v c.requires e _ (revalued w) (λ _ _ _. refl)
             (ap (λ o. with_body c.args.at.pointer.ptr (value_set w o) i.nodes.cells) e) in
             λ x. state (list x) (v x).spares (v x).nodes,
       ),
       record {
         writes_back = tt;
-        alone = ChangesOnly-held c.self.invariant.ring (seen i c.self.invariant v) c.args.at.pointer.ptr;
+        alone = ChangesOnly-held c.self.inside c.self.invariant c.self.view_is c.args.at.pointer.ptr;
         value = λ xs t ys h at. ap (λ (z : g.row.K.Denot × g.row.V.Denot). z.1) (is xs t ys h at);
       },
     )

@@ -1,5 +1,5 @@
 use Rattle.lhm_ring.proofs.indexes.Entries.{CountsAll-entries, CountsSome-entries, HasKey-entries, LacksKey-entries}
-use Rattle.lhm_ring.proofs.{Names.pointer_of, Names.IfSome_then, lists.Options.IfNone-then, lists.Options.OnSome-then}
+use Rattle.lhm_ring.proofs.{Names.IfSome_then, Names.pointer_of, lists.Options.IfNone-then, lists.Options.OnSome-then}
 use Rattle.lhm_ring.proofs.table.Table.find.Goals as goal
 
 pub returns-clause-found : goal.returns-clause-found

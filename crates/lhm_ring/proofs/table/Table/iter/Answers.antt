@@ -1,4 +1,4 @@
-use Rattle.lhm_ring.proofs.Names.{ap, ◌∙◌, entries, TableState}
+use Rattle.lhm_ring.proofs.Names.{TableState, ap, entries, ◌∙◌}
 use Rattle.lhm_ring.proofs.table.Table.iter.Goals as goal
 
 pub returns : goal.returns

@@ -1,4 +1,4 @@
-use Rattle.lhm_ring.proofs.Names.{ap, map, sym, ◌∙◌, loan_name, TableState}
+use Rattle.lhm_ring.proofs.Names.{TableState, ap, loan_name, map, sym, ◌∙◌}
 use Rattle.lhm_ring.proofs.tables.TableValues.{IsTable-values, pairs-entries, table_of-values}
 use borrow.Follows.Closed.{read_of}
 use Rattle.lhm_ring.proofs.table.Table.iter_mut.Goals as goal

@@ -1,4 +1,4 @@
-use Rattle.lhm_ring.proofs.Names.{length, take, ◌++◌, ◌-◌, ◌≡◌, KeepsCounts}
+use Rattle.lhm_ring.proofs.Names.{KeepsCounts, length, take, ◌++◌, ◌-◌, ◌≡◌}
 use Rattle.std.proofs.Common.{drop}
 use Rattle.lhm_ring.proofs.table.Table.move_backs.Given as goal
 

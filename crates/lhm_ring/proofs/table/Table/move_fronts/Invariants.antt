@@ -1,4 +1,4 @@
-use Rattle.lhm_ring.proofs.Names.{take, ◌++◌, ◌≡◌, KeepsCounts}
+use Rattle.lhm_ring.proofs.Names.{KeepsCounts, take, ◌++◌, ◌≡◌}
 use Rattle.std.proofs.Common.{drop}
 use Rattle.lhm_ring.proofs.table.Table.move_fronts.Given as goal
 

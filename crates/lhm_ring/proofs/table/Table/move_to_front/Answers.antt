@@ -1,6 +1,6 @@
-use Rattle.lhm_ring.proofs.Names.{List, None, Option, Some, [], refl, sym, ◌∙◌, ◌∷◌, ◌≡◌, IfSome, pointer_of, pointer_of_some, Held, IsHeld}
-use Rattle.lhm_ring.proofs.{Names.first_at, Names.Position, lists.Options.Some-injective, lists.Options.none_some}
-use Rattle.lhm_ring.proofs.{tables.Positions.PlaceAt-first_at, tables.Positions.to_before_at-first}
+use Rattle.lhm_ring.proofs.Names.{Held, IfSome, IsHeld, List, None, Option, Position, Some, [], first_at, pointer_of, pointer_of_some}
+use Rattle.lhm_ring.proofs.tables.Positions.{PlaceAt-first_at, to_before_at-first}
+use Rattle.lhm_ring.proofs.{Names.refl, Names.sym, Names.◌∙◌, Names.◌∷◌, Names.◌≡◌, lists.Options.Some-injective, lists.Options.none_some}
 use Rattle.lhm_ring.proofs.table.Table.move_to_front.Goals as goal
 
 -- the first position, if there is one, is held

@@ -1,5 +1,5 @@
-use Rattle.lhm_ring.proofs.Names.{pointer_of, IfSome_then}
-use Rattle.lhm_ring.proofs.{indexes.Entries.HasKey-entries, indexes.Entries.LacksKey-entries, lists.Options.IfNone-then}
+use Rattle.lhm_ring.proofs.indexes.Entries.{HasKey-entries, LacksKey-entries}
+use Rattle.lhm_ring.proofs.{Names.IfSome_then, Names.pointer_of, lists.Options.IfNone-then}
 use Rattle.lhm_ring.proofs.table.Table.position.Goals as goal
 
 pub returns-clause-found : goal.returns-clause-found

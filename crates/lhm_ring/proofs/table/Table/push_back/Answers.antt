@@ -6,7 +6,7 @@ use Rattle.lhm_ring.proofs.table.Table.push_back.Goals as goal
 pub put_in_by_hash-requires-clause-some : goal.put_in_by_hash-requires-clause-some
 put_in_by_hash-requires-clause-some g c =
     length-indexed c.self.inside.index c.self.inside.ring c.self.invariant.indexed
-    (spares-table c.self.inside.ring c.self.inside.rechained c.self.view_is c.requires)
+    (spares-table c.self.invariant c.self.view_is c.requires)
 
 pub put_in_by_hash-requires-clause-held : goal.put_in_by_hash-requires-clause-held
 put_in_by_hash-requires-clause-held g c = (HoldsOthers-last _ _ c.put_back-at.ensures.last c.self.invariant.indexed.indexes).held
@@ -26,18 +26,19 @@ put_in_by_hash-requires-clause-hash g c =
 
 pub invariant_of-self : goal.invariant_of-self
 invariant_of-self g c =
-    let old = c.self.inside.ring in
-    let new = c.put_in_by_hash.new.ring in
-    let table = c.self.invariant in
-    let put = c.put_in_by_hash.ensures in
-    let back = c.put_back-at.ensures in
+    let old = c.self.inside.ring in let new = c.put_in_by_hash.new.ring in let table = c.self.invariant in
+    let put = c.put_in_by_hash.ensures in let back = c.put_back-at.ensures in
     let t = held (pointer_of c.put_back-at.result) c.args.hash None (pair c.args.key c.args.value) in
     let long = length-same_entries new.held c.put_back-at.new.self.held put.links.held in
-    let last = ap length back.last in
-    let one_more = length-append old.held (t ∷ []) in
-    let some = spares-table old c.self.inside.rechained c.self.view_is c.requires in
-    let sum : length new.held + new.spares ≡ length old.held + old.spares =
-    omega (arith, some, long, last, one_more, put.links.spares, back.spares) in
+    let sum : length new.held + new.spares ≡ length old.held + old.spares = omega (
+      arith,
+      long,
+      ap length back.last,
+      spares-table table c.self.view_is c.requires,
+      length-append old.held (t ∷ []),
+      put.links.spares,
+      back.spares,
+    ) in
     record {
       indexed = record {
         indexes = put.indexed (HoldsOthers-last _ _ back.last table.indexed.indexes);

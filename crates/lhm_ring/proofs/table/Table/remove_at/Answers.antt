@@ -1,11 +1,10 @@
-use Rattle.lhm_ring.proofs.Names.{None, ap, map, remove, slice_get, sym, ◌∙◌, entries, pointer_of, linked_to}
-use Rattle.lhm_ring.proofs.tables.Positions.{IsAt-entries, map-remove, remove-at, slice_get-pair}
+use Rattle.lhm_ring.proofs.Names.{None, ap, entries, linked_to, map, remove, slice_get, sym, ◌∙◌}
+use Rattle.lhm_ring.proofs.tables.Positions.{PlaceAt-entries, map-remove, remove-at, slice_get-pair}
 use Rattle.lhm_ring.proofs.tables.{TableValues.pairs-entries, Tables.IsHeld-table, Tables.IsTable-removed}
 use Rattle.lhm_ring.proofs.table.Table.remove_at.Goals as goal
 
 pub take_out_at-requires-clause-held : goal.take_out_at-requires-clause-held
-take_out_at-requires-clause-held g c = IsHeld-table c.self.inside.ring c.self.inside.rechained
-    c.self.view_is (pointer_of c.args.at) c.requires
+take_out_at-requires-clause-held g c = IsHeld-table c.self.invariant c.self.view_is c.requires
 
 pub invariant_of-self : goal.invariant_of-self
 invariant_of-self g c =
@@ -16,7 +15,7 @@ invariant_of-self g c =
 pub returns-clause-others : goal.returns-clause-others
 returns-clause-others g c =
     let ks = c.take_out_at.new.ring.held in let taken = c.take_out_at.ensures in
-    rw (← c.self.view_is) (λ i at. ap entries (remove-at ks i (IsAt-entries ks i taken.links.held at) c.unlink-key.ensures.others)
+    rw (← c.self.view_is) (λ i at. ap entries (remove-at ks i (PlaceAt-entries ks i taken.links.held at) c.unlink-key.ensures.others)
     ∙ map-remove (linked_to None) ks i ∙ ap (λ hs. remove hs i) taken.links.held)
 
 pub returns-clause-pair : goal.returns-clause-pair
@@ -24,5 +23,5 @@ returns-clause-pair g c =
     let ks = c.take_out_at.new.ring.held in let taken = c.take_out_at.ensures in
     rw (← c.self.view_is) (λ i at. ap (λ hs. slice_get (map (λ t. t.pair) hs) i) (sym taken.links.held)
     ∙ ap (λ ps. slice_get ps i) (pairs-entries ks)
-    ∙ slice_get-pair ks i (IsAt-entries ks i taken.links.held at)
+    ∙ slice_get-pair ks i (PlaceAt-entries ks i taken.links.held at)
     (λ xs t ys e q. ap (λ z. (z.1, z.2)) (c.unlink-key.ensures.triple xs t ys e q)))

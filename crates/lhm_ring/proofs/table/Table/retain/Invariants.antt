@@ -1,4 +1,4 @@
-use Rattle.lhm_ring.proofs.Names.{pointer_of_some, KeepsCounts, CalledAtPair, TakesPair}
+use Rattle.lhm_ring.proofs.Names.{CalledAtPair, KeepsCounts, TakesPair, pointer_of_some}
 use Rattle.lhm_ring.proofs.tables.Retained.{IsRetaining, left_from}
 use Rattle.lhm_ring.proofs.table.Table.retain.Given as goal
 

@@ -1,4 +1,4 @@
-use Rattle.lhm_ring.proofs.Names.{ap, CalledAtPair}
+use Rattle.lhm_ring.proofs.Names.{CalledAtPair, ap}
 use Rattle.lhm_ring.proofs.tables.Retained.{IsHeld-written, RetainsAt-kept, RetainsAt-removed}
 use Rattle.lhm_ring.proofs.table.Table.retain_at.Goals as goal
 

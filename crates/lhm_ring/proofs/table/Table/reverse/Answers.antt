@@ -1,6 +1,6 @@
-use Rattle.lhm_ring.proofs.Names.{ap, arith, refl, ◌∙◌, pointer_of_some}
-use Rattle.lhm_ring.proofs.tables.Positions.{IsSome-place}
+use Rattle.lhm_ring.proofs.Names.{ap, arith, pointer_of_some, refl}
 use Rattle.lhm_ring.proofs.tables.Reversed.{IsHeld-next, IsReversing-more, IsReversing-start, reversed-all}
+use Rattle.lhm_ring.proofs.tables.{Positions.IsSome-place, Tables.KeepsCounts-trans}
 use Rattle.lhm_ring.proofs.table.Table.reverse.Goals as goal
 
 pub loop-moved-init : goal.loop-moved-init
@@ -24,11 +24,7 @@ loop-moved-preserved g c =
     let inv = c.loop-moved.invariant in let moved = c.move_to_front.ensures in record {
       reversing = IsReversing-more c.args.self.now.held inv.reversing (ap pointer_of_some c.unwrap-at.ensures) moved.held
           c.next-next.ensures.next;
-      keeps = record {
-        capacity = moved.keeps.capacity ∙ inv.keeps.capacity;
-        rechained = moved.keeps.rechained ∙ inv.keeps.rechained;
-        made = moved.keeps.made ∙ inv.keeps.made;
-      };
+      keeps = KeepsCounts-trans inv.keeps moved.keeps;
     }
 
 pub returns-clause-reversed : goal.returns-clause-reversed

@@ -1,4 +1,4 @@
-use Rattle.lhm_ring.proofs.{Names.pointer_of_some, Names.KeepsCounts, tables.Reversed.IsReversing}
+use Rattle.lhm_ring.proofs.{Names.KeepsCounts, Names.pointer_of_some, tables.Reversed.IsReversing}
 use Rattle.lhm_ring.proofs.table.Table.reverse.Given as goal
 
 abbrev pub invariant-loop-moved : goal.invariant-loop-moved

@@ -1,4 +1,4 @@
-use Rattle.lhm_ring.proofs.{Names.ap, Names.arith, Names.length, Names.sym, Names.◌∙◌, Names.buckets, tables.IndexedRing.IsIndexed-none}
+use Rattle.lhm_ring.proofs.{Names.ap, Names.arith, Names.buckets, Names.length, Names.sym, Names.◌∙◌, tables.IndexedRing.IsIndexed-none}
 use Rattle.lhm_ring.proofs.table.Table.with_capacity.Goals as goal
 
 pub invariant_of-result : goal.invariant_of-result

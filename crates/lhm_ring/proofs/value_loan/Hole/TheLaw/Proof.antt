@@ -1,6 +1,6 @@
 -- A `&` to a hole shows nothing, so there is nothing to show. Assumes `Logic`.
-use Rattle.lhm_ring.proofs.Names.{[], ◌∷◌, fbor, full_share, sep, part_at, RattleType, nothing_shr_laws, nothing, !, done, drop, now, qed}
-use Rattle.lhm_ring.proofs.Names.{raw, updating, ‵, ◌$◌, lfts, sem}
+use Rattle.lhm_ring.proofs.Names.{ !, RattleType, [], done, drop, fbor, full_share, lfts, nothing, nothing_shr_laws, now, part_at, qed, raw}
+use Rattle.lhm_ring.proofs.Names.{sem, sep, updating, ‵, ◌$◌, ◌∷◌}
 use Rattle.lhm_ring.proofs.value_loan.Hole.TheLaw.Statement.{statement}
 use denote.{Param.Laws.Laws, Sharing.nothing as none_shared}
 use Rattle.lhm_ring.specs.contracts.value_loan.Hole as C
